@@ -1,0 +1,10 @@
+pub mod HeldRanks
+pub mod HeldSuits
+pub mod MaskMeanings
+pub mod RankLetters
+pub mod RankRuns
+pub mod ReadingSteps
+pub mod ReadingWhole
+pub mod SingleRank
+pub mod SuitRuns
+pub mod WrittenCards

@@ -1,0 +1,5 @@
+pub mod Holdings
+pub mod Masks
+pub mod Ranks
+pub mod Reading
+pub mod Seats

@@ -1,0 +1,13 @@
+#![tactic(auto)]
+//! Ranks, seats and holdings: the cards of one suit. Nothing here takes memory.
+
+mod holdings;
+mod ranks;
+mod seats;
+
+pub use holdings::{CardFault, Holding};
+pub use ranks::Rank;
+pub use seats::Seat;
+
+#[cfg(test)]
+mod tests;

@@ -1,0 +1,17 @@
+//! What tasks on several threads share and hand over.
+use super::{Entries, Goal, LeadAt, OpenGate, Question};
+use suit_cards::{Holding, Rank, Seat};
+
+fn shared<T: Send + Sync>() {}
+
+/// A question and its parts may be sent to another thread and be shared with it.
+pub fn questions_are_shared() {
+    shared::<Question>();
+    shared::<Holding>();
+    shared::<Rank>();
+    shared::<Seat>();
+    shared::<LeadAt>();
+    shared::<Entries>();
+    shared::<Goal>();
+    shared::<OpenGate>();
+}

@@ -1,0 +1,4 @@
+pub mod Binomials
+pub mod Divisors
+pub mod Laws
+pub mod Narrow

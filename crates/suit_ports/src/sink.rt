@@ -1,0 +1,45 @@
+//! Where bytes go.
+ghost use Rattle.std.specs.Prelude.{◌≡◌, ℕ, ◌<◌, List, Option, Some, IsSome, OnErr};
+ghost use Rattle.std.specs.Io.{WritesAtMost};
+ghost use Rattle.std.specs.Io.KnownBytes.{WriteAppends};
+ghost use Rattle.suit_ports.specs.Counts.{Counts, Rose};
+ghost use Rattle.suit_ports.specs.Room.{KeepsRoom, IsFull, TookNone};
+
+use super::PortFault;
+
+/// A port that takes bytes.
+pub trait Sink {
+    /// The bytes written so far, where the sink tells them.
+    ghost written: { Self → Option (List ℕ) };
+
+    /// How many bytes it can hold in all, where it tells that.
+    ghost room: { Self → Option ℕ };
+
+    /// How many faults there were, up to the last value of a `u64`.
+    ghost faults: { Self → ℕ };
+
+    /// How many puts took no byte of a nonempty piece, up to the last value of a `u64`.
+    ghost empties: { Self → ℕ };
+
+    /// Appends the front of `from`, and answers how many bytes it took.
+    ///
+    /// It takes no byte of a nonempty `from` only where the count of empty puts rose, and where
+    /// the whole room is told only once it is full.
+    ///
+    /// # Errors
+    ///
+    /// `PortFault` only where the count of faults rose in this call; it appends nothing.
+    fn put(&mut self, from: &[u8]) -> Result<usize, PortFault>
+        ensures bound { WritesAtMost result from.now }
+        ensures bytes { WriteAppends (written self.old) (written self.new) result from.now }
+        ensures room_kept { KeepsRoom (room self.old) (room self.new) }
+        ensures counts { Counts (faults self.old) (faults self.new) }
+        ensures fault { OnErr result (Rose (faults self.old) (faults self.new)) }
+        ensures empty_counts { Counts (empties self.old) (empties self.new) }
+        ensures empty { TookNone result from.now → Rose (empties self.old) (empties self.new) }
+        ensures only_empty { empties self.old < empties self.new → TookNone result from.now }
+        ensures full { TookNone result from.now → IsFull (written self.new) (room self.new) };
+
+    /// A sink that tells its whole room tells its bytes too.
+    ghost room_with_bytes: { (sink : Self) (whole : ℕ) → room sink ≡ Some whole → IsSome (written sink) };
+}

@@ -1,0 +1,31 @@
+//! Where bytes come from.
+ghost use Rattle.std.specs.Prelude.{ℕ, List, Option, OnErr};
+ghost use Rattle.std.specs.Io.{ReadsAtMost};
+ghost use Rattle.std.specs.Io.KnownBytes.{ReadConsumes};
+ghost use Rattle.suit_ports.specs.Counts.{Counts, Rose};
+
+/// A call of a port failed. The port's count of faults tells of it.
+#[derive(Clone, Copy, Debug, PartialEq, Eq)]
+pub struct PortFault;
+
+/// A port that gives bytes.
+pub trait Source {
+    /// The bytes that are left, where the source tells them.
+    ghost left: { Self → Option (List ℕ) };
+
+    /// How many faults there were, up to the last value of a `u64`.
+    ghost faults: { Self → ℕ };
+
+    /// Fills the front of `into` with the next bytes, and answers how many it gave.
+    ///
+    /// No byte for a nonempty `into` means the end of the input.
+    ///
+    /// # Errors
+    ///
+    /// `PortFault` only where the count of faults rose in this call; it takes nothing.
+    fn take(&mut self, into: &mut [u8]) -> Result<usize, PortFault>
+        ensures bound { ReadsAtMost result into.new }
+        ensures bytes { ReadConsumes (left self.old) (left self.new) result into.new }
+        ensures counts { Counts (faults self.old) (faults self.new) }
+        ensures fault { OnErr result (Rose (faults self.old) (faults self.new)) };
+}

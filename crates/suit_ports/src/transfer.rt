@@ -1,0 +1,112 @@
+//! All bytes of a source, and all bytes of a text to a sink.
+ghost use Rattle.std.specs.Prelude.{◌≡◌, ℕ, ◌<◌, ◌≤◌, List, OnOk, OnErr, IfErr, IsErr, IsErrOf, length, take, ◌⊎◌};
+ghost use Rattle.std.specs.Io.KnownBytes.{Appends, Consumes, IsAtEnd};
+ghost use Rattle.suit_ports.specs.Counts.{Counts, Rose};
+ghost use Rattle.suit_ports.specs.Room.{KeepsRoom, IsFull};
+ghost use Rattle.suit_ports.specs.Reading.{Took};
+
+use super::{PortFault, Sink, Source};
+use std::alloc::{AllocError, Global};
+
+/// The most bytes that one call of a source is asked for.
+const PIECE: usize = 4096;
+
+/// Why a source was not read to its end.
+#[derive(Clone, Copy, Debug, PartialEq, Eq)]
+pub enum ReadEnd {
+    /// A call of the source failed.
+    Fault,
+    /// The source has more bytes than the limit.
+    Long,
+    /// There was no memory for the bytes.
+    Memory,
+}
+
+impl From<PortFault> for ReadEnd {
+    ghost use Rattle.std.specs.Prelude.{◌≡◌};
+    ghost use Rattle.suit_ports.specs.declared.transfer.ReadEnd.TheVariants as ends;
+
+    ghost from_gives = { λ _ e. e ≡ ends.Fault };
+
+    fn from(_: PortFault) -> ReadEnd {
+        ReadEnd::Fault
+    }
+}
+
+impl From<AllocError> for ReadEnd {
+    ghost use Rattle.std.specs.Prelude.{◌≡◌};
+    ghost use Rattle.suit_ports.specs.declared.transfer.ReadEnd.TheVariants as ends;
+
+    ghost from_gives = { λ _ e. e ≡ ends.Memory };
+
+    fn from(_: AllocError) -> ReadEnd {
+        ReadEnd::Memory
+    }
+}
+
+/// A sink stopped before it had taken all bytes.
+#[derive(Clone, Copy, Debug, PartialEq, Eq)]
+pub struct WriteEnd {
+    /// How many bytes it had taken.
+    pub sent: usize,
+}
+
+/// Reads a source to its end, and answers all bytes that it gave, at most `limit`.
+///
+/// Each call asks for at most 4,096 bytes, and for at most one byte past the limit; it gives at
+/// least one byte or ends the reading.
+///
+/// # Errors
+///
+/// `Fault` where a call failed, only where the source's count of faults rose; `Long` exactly where
+/// more than `limit` bytes were taken, one more; `Memory` for want of memory. The bytes taken are
+/// then lost.
+pub fn read_all<S: Source>(alloc: Global, source: &mut S, limit: usize) -> Result<Vec<u8>, ReadEnd>
+    requires { limit < usize.MAX }
+    ensures taken { (taken : List ℕ) × Took limit result taken × Consumes (S.left source.old) (S.left source.new) taken }
+    ensures whole { OnOk result (IsAtEnd (S.left source.new)) }
+    ensures counts { Counts (S.faults source.old) (S.faults source.new) }
+    ensures fault { IsErrOf result ReadEnd.Fault → Rose (S.faults source.old) (S.faults source.new) }
+{
+    let mut bytes = Vec::new(alloc);
+    let mut piece = [0; PIECE];
+    loop {
+        let want = PIECE.min(limit + 1 - bytes.len());
+        let count = source.take(&mut piece[..want])?;
+        if count == 0 {
+            return Ok(bytes);
+        }
+        if count > limit - bytes.len() {
+            return Err(ReadEnd::Long);
+        }
+        bytes.extend_from_slice(&piece[..count])?;
+    }
+}
+
+/// Writes all of `bytes`, in as many calls as the sink needs.
+///
+/// # Errors
+///
+/// `WriteEnd` at the first call that failed or took no byte, only where the sink's count of faults
+/// or of empty puts rose. The first `sent` bytes were appended then, and no others.
+pub fn write_all_of<K: Sink>(sink: &mut K, bytes: &[u8]) -> Result<(), WriteEnd>
+    ensures all { OnOk result (Appends (K.written sink.old) (K.written sink.new) bytes.now) }
+    ensures part { IfErr result (λ end. (end.sent < length bytes.now)
+        × Appends (K.written sink.old) (K.written sink.new) (take end.sent bytes.now)) }
+    ensures cause { OnErr result (Rose (K.faults sink.old) (K.faults sink.new)
+        ⊎ Rose (K.empties sink.old) (K.empties sink.new)) }
+    ensures room_kept { KeepsRoom (K.room sink.old) (K.room sink.new) }
+    ensures counts { (K.faults sink.old ≤ K.faults sink.new) × (K.empties sink.old ≤ K.empties sink.new) }
+    ensures only_empty { K.empties sink.old < K.empties sink.new
+        → IsErr result × IsFull (K.written sink.new) (K.room sink.new) }
+{
+    let mut sent = 0;
+    while sent < bytes.len() {
+        match sink.put(&bytes[sent..]) {
+            Err(_) => return Err(WriteEnd { sent }),
+            Ok(0) => return Err(WriteEnd { sent }),
+            Ok(count) => sent += count,
+        }
+    }
+    Ok(())
+}

@@ -1,0 +1,113 @@
+-- How a run ends that made a reply.
+use Rattle.std.proofs.Common.{◌≡◌, ℕ, ◌+◌, List, [], Err, Option, None, Some, Bool, true, false, nat_lt, length, refl, sym, ap, ◌∙◌, subst, ◌⊎◌, inl, inr, ◌<◌, IsNone}
+use Rattle.std.specs.Prelude.{if◌then◌else◌}
+use Rattle.std.proofs.lemmas.Bool.{lt-ltb}
+use Rattle.std.specs.Io.KnownBytes.{Consumes}
+use Rattle.suit_ports.specs.declared.transfer.ReadEnd.{ReadEnd}
+use Rattle.suit_ports.specs.declared.transfer.ReadEnd.TheVariants as Reading
+use Rattle.suit_ports.specs.Counts.{Rose}
+use Rattle.suit_ports.specs.Reading.{Took}
+use Rattle.suit_ports.specs.Room.{KeepsRoom, IsFull}
+use Rattle.suit_game.specs.declared.question.Question.{Question}
+use Rattle.suit_top.specs.declared.command.Command.{Command}
+use Rattle.suit_top.specs.declared.command.Command.TheVariants.{Solve}
+use Rattle.suit_top.specs.declared.reply.Reply.{Reply}
+use Rattle.suit_top.specs.declared.status.Status.{Status}
+use Rattle.suit_top.specs.declared.status.Status.TheVariants.{Done, Usage, WriteFault, Long, NotBuilt}
+use Rattle.suit_top.specs.Commands.{command_of, reads_input, words_read, limit_of}
+use Rattle.suit_top.specs.Dues.{Due, due_for, due_within, solved, silent}
+use Rattle.suit_top.specs.FourLines.{question_read}
+use Rattle.suit_top.specs.Owing.{Owes}
+use Rattle.suit_top.specs.Replies.{IsReply, Delivered, Stopped}
+use Rattle.suit_top.specs.Runs.{Ports, Runs}
+use Rattle.suit_top.proofs.Inputs.{is_input, long_input}
+
+solved_tells : (question : Option Question) → (solved question).status ≡ Usage → ⊥
+solved_tells None usage = cc
+solved_tells (Some question) usage = cc
+
+long_tells : (long : Bool) (due : Due) → (due.status ≡ Usage → ⊥) → (if long then silent Long else due).status ≡ Usage → ⊥
+long_tells true due tells usage = cc
+long_tells false due tells usage = tells usage
+
+-- a command owes another status than Usage
+pub never_usage : (command : Command) (input : List ℕ) → (due_for (Some command) input).status ≡ Usage → ⊥
+never_usage Solve input usage = long_tells (nat_lt (limit_of Solve) (length input)) (due_within Solve input) (solved_tells (question_read input)) usage
+
+long_is_not_done : (s : Status) → s ≡ Long → s ≡ Done → ⊥
+long_is_not_done s long done = cc
+
+reads_all : (command : Command) → reads_input command ≡ true
+reads_all Solve = refl
+
+none_named : (words : List (List ℕ)) (command : Command) → command_of words ≡ Some command → IsNone (command_of words) → ⊥
+none_named words command named none = let other = subst IsNone named none in cc
+
+-- what a run owes for a reply
+owed : (words : List (List ℕ)) (command : Command) (before after : Option (List ℕ)) (reply : Reply) → command_of words ≡ Some command
+    → (made : IsReply command before after reply) → Owes words made.input reply.status reply.text.items
+owed words command before after reply named made = record {
+  status_due = made.status_due ∙ sym (ap (λ (c : Option Command). (due_for c made.input).status) named);
+  text_due = made.text_due ∙ sym (ap (λ (c : Option Command). (due_for c made.input).text) named);
+}
+
+-- a run that made a reply and delivered it, or was stopped in it
+pub run_replies : (words : List (List ℕ)) (command : Command) (before after : Ports) (reply : Reply) (status : Status) → command_of words ≡ Some command
+    → IsReply command before.left after.left reply
+    → Delivered reply before.written after.written status
+    ⊎ (Stopped reply before.written after.written status × (Rose before.sink_faults after.sink_faults ⊎ Rose before.empty_puts after.empty_puts))
+    → KeepsRoom before.room after.room
+    → (before.empty_puts < after.empty_puts → (status ≡ WriteFault) × IsFull after.written after.room)
+    → Runs words before after status
+run_replies words command before after reply status named made (inl delivered) room empty_puts = record {
+  ending = inl (record {
+    input = made.input;
+    text = reply.text.items;
+    is_input = is_input words command before made.input named (reads_all command) made.is_input;
+    owed = subst (λ (s : Status). Owes words made.input s reply.text.items) (sym delivered.is_status) (owed words command before.left after.left reply named made);
+    written = delivered.whole;
+    all_read = λ done reads. made.all_read (sym delivered.is_status ∙ done);
+  });
+  usage = (
+    λ none. absurd (none_named words command named none),
+    λ usage. absurd (never_usage command made.input (sym made.status_due ∙ sym delivered.is_status ∙ usage)),
+  );
+  room_kept = room;
+  empty_puts = empty_puts;
+}
+run_replies words command before after reply status named made (inr stopped) room empty_puts = record {
+  ending = inr (inr (inl (record {
+    is_write_fault = stopped.0.is_write_fault;
+    rose = stopped.1;
+    input = made.input;
+    text = reply.text.items;
+    owed_status = reply.status;
+    sent = stopped.0.sent;
+    is_input = is_input words command before made.input named (reads_all command) made.is_input;
+    owed = owed words command before.left after.left reply named made;
+    not_whole = stopped.0.not_whole;
+    written = stopped.0.front;
+  })));
+  usage = (
+    λ none. absurd (none_named words command named none),
+    λ usage. let other = stopped.0.is_write_fault in cc,
+  );
+  room_kept = room;
+  empty_puts = empty_puts;
+}
+
+-- a reading that took one byte more than the limit makes the reply Long
+pub long_replies : (A : Type 0) (command : Command) (before after : Option (List ℕ)) (reply : Reply) (end : ReadEnd) (limit : ℕ) (taken : List ℕ)
+    → end ≡ Reading.Long → limit ≡ limit_of command → reply.status ≡ Long → reply.text.items ≡ []
+    → Took {A = A} limit (Err end) taken → Consumes before after taken → IsReply command before after reply
+long_replies A command before after reply end limit taken is_long is_limit status text took consumed =
+    let one_more : length taken ≡ limit_of command + 1 = subst (λ (e : ReadEnd). Took {A = A} limit (Err e) taken) is_long took ∙ ap (λ (n : ℕ). n + 1) is_limit in
+    let given = long_input before after taken (limit_of command) consumed one_more in
+    let past : nat_lt (limit_of command) (length given.0) ≡ true = lt-ltb (limit_of command) (length given.0) given.2 in
+    record {
+      input = given.0;
+      is_input = given.1;
+      status_due = status ∙ sym (ap (λ (b : Bool). (if b then silent Long else due_within command given.0).status) past);
+      text_due = text ∙ sym (ap (λ (b : Bool). (if b then silent Long else due_within command given.0).text) past);
+      all_read = λ done. absurd (long_is_not_done reply.status status done);
+    }

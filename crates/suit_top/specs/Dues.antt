@@ -1,0 +1,37 @@
+-- What a run owes: the status that is due, and the bytes that go with it.
+use Rattle.std.specs.Prelude.{ℕ, nat_lt, List, [], length, Option, Some, None, if◌then◌else◌}
+use Rattle.suit_game.specs.declared.question.Question.{Question}
+use Rattle.suit_top.specs.declared.command.Command.{Command}
+use Rattle.suit_top.specs.declared.command.Command.TheVariants.{Solve}
+use Rattle.suit_top.specs.declared.status.Status.{Status}
+use Rattle.suit_top.specs.declared.status.Status.TheVariants.{Done, Usage, Long, NotBuilt}
+use Rattle.suit_top.specs.Answers.{value_of, answer_text}
+use Rattle.suit_top.specs.Commands.{command_of, limit_of}
+use Rattle.suit_top.specs.FourLines.{question_read}
+
+-- a status and the text that is written with it
+pub record Due : Type 0 where
+  pub status : Status
+  pub text : List ℕ
+
+-- a status with which nothing is written
+abbrev pub silent : Status → Due
+silent status = record { status = status; text = [] }
+
+-- the answer to the question that was read, if one was
+abbrev pub solved : Option Question → Due
+solved None = silent NotBuilt
+solved (Some question) = record { status = Done; text = answer_text (value_of question) }
+
+-- what a command owes for an input that is not too long
+abbrev pub due_within : Command → List ℕ → Due
+due_within Solve input = solved (question_read input)
+
+-- what is owed for a command, if the words form one, and an input
+abbrev pub due_for : Option Command → List ℕ → Due
+due_for None input = silent Usage
+due_for (Some command) input = if nat_lt (limit_of command) (length input) then silent Long else due_within command input
+
+-- what is owed for the words after the program's name and an input
+abbrev pub due : List (List ℕ) → List ℕ → Due
+due words input = due_for (command_of words) input

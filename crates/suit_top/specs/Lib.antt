@@ -1,0 +1,8 @@
+pub mod Answers
+pub mod Commands
+pub mod Dues
+pub mod FourLines
+pub mod Owing
+pub mod Replies
+pub mod Runs
+pub mod Statuses

@@ -1,0 +1,28 @@
+-- What a command makes of its input, and what becomes of it.
+use Rattle.std.specs.Prelude.{◌≡◌, ◌<◌, List, ℕ, Option, Some, [], IfSome, length, take}
+use Rattle.std.specs.Io.KnownBytes.{Appends}
+use Rattle.suit_top.specs.declared.command.Command.{Command}
+use Rattle.suit_top.specs.declared.reply.Reply.{Reply}
+use Rattle.suit_top.specs.declared.status.Status.{Status}
+use Rattle.suit_top.specs.declared.status.Status.TheVariants.{Done, WriteFault}
+use Rattle.suit_top.specs.Dues.{due_for}
+
+-- a reply to a command, from what its source had left, where it tells that, to what it has left
+pub record IsReply (command : Command) (before after : Option (List ℕ)) (reply : Reply) : Type 0 where
+  pub input : List ℕ
+  pub is_input : IfSome before (λ bytes. input ≡ bytes)
+  pub status_due : reply.status ≡ (due_for (Some command) input).status
+  pub text_due : reply.text.items ≡ (due_for (Some command) input).text
+  pub all_read : reply.status ≡ Done → IfSome before (λ _. after ≡ Some [])
+
+-- the whole text was written, and the run ends with its status
+pub record Delivered (reply : Reply) (before after : Option (List ℕ)) (status : Status) : Type 0 where
+  pub is_status : status ≡ reply.status
+  pub whole : Appends before after reply.text.items
+
+-- the sink stopped before it had the whole text
+pub record Stopped (reply : Reply) (before after : Option (List ℕ)) (status : Status) : Type 0 where
+  pub is_write_fault : status ≡ WriteFault
+  pub sent : ℕ
+  pub not_whole : sent < length reply.text.items
+  pub front : Appends before after (take sent reply.text.items)

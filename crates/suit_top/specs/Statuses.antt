@@ -1,0 +1,14 @@
+-- How a run ends, and the number that tells it to whoever started the program.
+use Rattle.std.specs.Prelude.{ℕ}
+use Rattle.suit_top.specs.declared.status.Status.{Status}
+use Rattle.suit_top.specs.declared.status.Status.TheVariants.{Done, Usage, ReadFault, WriteFault, Memory, Long, NotBuilt}
+
+-- the exit code of a status
+abbrev pub code_of : Status → ℕ
+code_of Done = 0
+code_of Usage = 2
+code_of ReadFault = 7
+code_of WriteFault = 8
+code_of Memory = 9
+code_of Long = 11
+code_of NotBuilt = 13

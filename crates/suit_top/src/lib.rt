@@ -1,0 +1,14 @@
+//! The whole program as one call over its words and its ports.
+#![tactic(auto)]
+
+mod answer;
+mod command;
+mod four_lines;
+mod reply;
+mod status;
+#[cfg(test)]
+mod tests;
+mod top;
+
+pub use status::Status;
+pub use top::run;

@@ -1,0 +1,39 @@
+//! How a run ends.
+ghost use Rattle.std.specs.Prelude.{◌≡◌};
+ghost use Rattle.suit_top.specs.Statuses.{code_of};
+
+/// How a run ended. Each has a number, with which the program ends.
+#[derive(Clone, Copy, Debug, PartialEq, Eq)]
+pub enum Status {
+    /// The command's text was written whole, and the input was read to its end.
+    Done,
+    /// The words form no command.
+    Usage,
+    /// The source failed.
+    ReadFault,
+    /// The sink failed or took nothing, before the whole text was written.
+    WriteFault,
+    /// There was no memory.
+    Memory,
+    /// The input has more bytes than the command takes.
+    Long,
+    /// The input is no question that is solved so far.
+    NotBuilt,
+}
+
+impl Status {
+    /// The number of the status.
+    pub fn code(self) -> u8
+        ensures { result ≡ code_of self }
+    {
+        match self {
+            Status::Done => 0,
+            Status::Usage => 2,
+            Status::ReadFault => 7,
+            Status::WriteFault => 8,
+            Status::Memory => 9,
+            Status::Long => 11,
+            Status::NotBuilt => 13,
+        }
+    }
+}
