@@ -1,13 +1,11 @@
 //! The program `suit`: one run over standard input and standard output.
 #![tactic(auto)]
 
-use std::env;
-use std::io;
 use std::io::ErrorKind;
 use std::process::ExitCode;
 use std::rt::Env;
 use std::thread::Threads;
-
+use std::{env, io};
 use suit_game::OpenGate;
 use suit_ports::{Sink, Source, StdSink, StdSource};
 use suit_top::{Status, run};

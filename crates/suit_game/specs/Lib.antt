@@ -1,1 +1,13 @@
+pub mod Examples
+pub mod Fractions
+pub mod GainLaws
+pub mod Gains
+pub mod Layouts
+pub mod Lengths
+pub mod OneTrick
+pub mod Places
+pub mod PlayLaws
 pub mod Question
+pub mod Settled
+pub mod Strategies
+pub mod Validity

@@ -1,6 +1,6 @@
 -- How a run ends that made a reply.
 use Rattle.std.proofs.Common.{◌≡◌, ℕ, ◌+◌, List, [], Err, Option, None, Some, Bool, true, false, nat_lt, length, refl, sym, ap, ◌∙◌, subst, ◌⊎◌, inl, inr, ◌<◌, IsNone}
-use Rattle.std.specs.Prelude.{if◌then◌else◌}
+use Rattle.std.specs.Prelude.{if◌then◌else◌, IfSome}
 use Rattle.std.proofs.lemmas.Bool.{lt-ltb}
 use Rattle.std.specs.Io.KnownBytes.{Consumes}
 use Rattle.suit_ports.specs.declared.transfer.ReadEnd.{ReadEnd}
@@ -9,17 +9,21 @@ use Rattle.suit_ports.specs.Counts.{Rose}
 use Rattle.suit_ports.specs.Reading.{Took}
 use Rattle.suit_ports.specs.Room.{KeepsRoom, IsFull}
 use Rattle.suit_game.specs.declared.question.Question.{Question}
+use Rattle.suit_game.specs.OneTrick.{one_trick_value}
+use Rattle.suit_game.proofs.OneTrickHalves.{one_trick-settled}
 use Rattle.suit_top.specs.declared.command.Command.{Command}
 use Rattle.suit_top.specs.declared.command.Command.TheVariants.{Solve}
 use Rattle.suit_top.specs.declared.reply.Reply.{Reply}
 use Rattle.suit_top.specs.declared.status.Status.{Status}
 use Rattle.suit_top.specs.declared.status.Status.TheVariants.{Done, Usage, WriteFault, Long, NotBuilt}
+use Rattle.suit_top.specs.Answers.{Answers}
 use Rattle.suit_top.specs.Commands.{command_of, reads_input, words_read, limit_of}
 use Rattle.suit_top.specs.Dues.{Due, due_for, due_within, solved, silent}
 use Rattle.suit_top.specs.FourLines.{question_read}
 use Rattle.suit_top.specs.Owing.{Owes}
 use Rattle.suit_top.specs.Replies.{IsReply, Delivered, Stopped}
 use Rattle.suit_top.specs.Runs.{Ports, Runs}
+use Rattle.suit_top.proofs.AskedQuestions.{IsAsked, read_asked, one_trick, weighs}
 use Rattle.suit_top.proofs.Inputs.{is_input, long_input}
 
 solved_tells : (question : Option Question) → (solved question).status ≡ Usage → ⊥
@@ -39,6 +43,27 @@ long_is_not_done s long done = cc
 
 reads_all : (command : Command) → reads_input command ≡ true
 reads_all Solve = refl
+
+settled_answer : (input : List ℕ) (found : Option Question) → question_read input ≡ found → (solved found).status ≡ Done → Answers input (solved found).text
+settled_answer input None read done = absurd (let no = done in cc)
+settled_answer input (Some question) read done =
+    let asked : IsAsked question = subst (λ (f : Option Question). IfSome f IsAsked) read (read_asked input) in
+    record {
+      question = question;
+      asked = read;
+      value = one_trick_value question;
+      is_text = refl;
+      settled = one_trick-settled question (one_trick question asked) (weighs question asked);
+    }
+
+long_answer : (long : Bool) (input : List ℕ) → (if long then silent Long else solved (question_read input)).status ≡ Done
+    → Answers input (if long then silent Long else solved (question_read input)).text
+long_answer true input done = absurd (let no = done in cc)
+long_answer false input done = settled_answer input (question_read input) refl done
+
+-- a text that is due with Done answers the input
+due_answers : (command : Command) (input : List ℕ) → (due_for (Some command) input).status ≡ Done → Answers input (due_for (Some command) input).text
+due_answers Solve input done = long_answer (nat_lt (limit_of Solve) (length input)) input done
 
 none_named : (words : List (List ℕ)) (command : Command) → command_of words ≡ Some command → IsNone (command_of words) → ⊥
 none_named words command named none = let other = subst IsNone named none in cc
@@ -66,6 +91,7 @@ run_replies words command before after reply status named made (inl delivered) r
     is_input = is_input words command before made.input named (reads_all command) made.is_input;
     owed = subst (λ (s : Status). Owes words made.input s reply.text.items) (sym delivered.is_status) (owed words command before.left after.left reply named made);
     written = delivered.whole;
+    answers = λ done. subst (Answers made.input) (sym made.text_due) (due_answers command made.input (sym made.status_due ∙ sym delivered.is_status ∙ done));
     all_read = λ done reads. made.all_read (sym delivered.is_status ∙ done);
   });
   usage = (

@@ -5,7 +5,8 @@ use Rattle.suit_top.specs.declared.command.Command.{Command}
 use Rattle.suit_top.specs.declared.command.Command.TheVariants.{Solve}
 use Rattle.suit_top.specs.declared.status.Status.{Status}
 use Rattle.suit_top.specs.declared.status.Status.TheVariants.{Done, Usage, Long, NotBuilt}
-use Rattle.suit_top.specs.Answers.{value_of, answer_text}
+use Rattle.suit_game.specs.OneTrick.{one_trick_value}
+use Rattle.suit_top.specs.Answers.{answer_text}
 use Rattle.suit_top.specs.Commands.{command_of, limit_of}
 use Rattle.suit_top.specs.FourLines.{question_read}
 
@@ -21,7 +22,7 @@ silent status = record { status = status; text = [] }
 -- the answer to the question that was read, if one was
 abbrev pub solved : Option Question → Due
 solved None = silent NotBuilt
-solved (Some question) = record { status = Done; text = answer_text (value_of question) }
+solved (Some question) = record { status = Done; text = answer_text (one_trick_value question) }
 
 -- what a command owes for an input that is not too long
 abbrev pub due_within : Command → List ℕ → Due

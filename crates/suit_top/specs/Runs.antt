@@ -5,6 +5,7 @@ use Rattle.suit_ports.specs.Counts.{Rose}
 use Rattle.suit_ports.specs.Room.{KeepsRoom, IsFull}
 use Rattle.suit_top.specs.declared.status.Status.{Status}
 use Rattle.suit_top.specs.declared.status.Status.TheVariants.{Done, Usage, ReadFault, WriteFault, Memory}
+use Rattle.suit_top.specs.Answers.{Answers}
 use Rattle.suit_top.specs.Commands.{command_of, words_read}
 use Rattle.suit_top.specs.Owing.{Owes}
 
@@ -31,7 +32,9 @@ pub record Ended (words : List (List ℕ)) (before after : Ports) (status : Stat
   pub is_input : IsInput words before input
   pub owed : Owes words input status text
   pub written : Appends before.written after.written text
-  -- with Done, the input was read to its end
+  -- with Done, the text answers the question
+  pub answers : status ≡ Done → Answers input text
+  -- and the input was read to its end
   pub all_read : status ≡ Done → IsTrue (words_read (command_of words)) → IfSome before.left (λ _. after.left ≡ Some [])
 
 -- the source failed, and nothing was written

@@ -1,0 +1,44 @@
+use Rattle.std.proofs.Common.{◌≡◌, ℕ, ◌≤◌, true, nat_le, List, [], length, inl, inr, arith}
+use Rattle.std.proofs.lemmas.Bool.{cases_Bool, leb-true, le-leb}
+use Rattle.suit_game.specs.declared.question.Question.{Question}
+use Rattle.suit_game.specs.declared.question.Goal.{Goal}
+use Rattle.suit_game.specs.declared.question.Goal.TheVariants.{AtLeast, Tricks}
+use Rattle.suit_game.specs.Fractions.{IsAtLeast, IsAtMost}
+use Rattle.suit_game.specs.Layouts.{layouts, weight}
+use Rattle.suit_game.specs.Question.{missing}
+use Rattle.suit_game.specs.Places.{payoff}
+use Rattle.suit_game.specs.Strategies.{Way, DefenceWay}
+use Rattle.suit_game.specs.Gains.{pay, gain}
+use Rattle.suit_game.proofs.EachElement.{each_gives, each_map}
+use Rattle.suit_game.proofs.WeightedMeans.{mean-least, mean-most}
+use Rattle.suit_game.proofs.LayoutCards.{IsPart, layouts-parts}
+
+-- more tricks are never worth less
+pub payoff-grows : (goal : Goal) (fewer more : ℕ) → fewer ≤ more → payoff goal fewer ≤ payoff goal more
+payoff-grows Tricks fewer more order = order
+payoff-grows (AtLeast least) fewer more order =
+    elim (cases_Bool (nat_le least fewer)) [
+      | inl enough ↦
+          let too : nat_le least more ≡ true = le-leb least more (omega (arith, leb-true least fewer enough)) in
+          rw (enough, too) (omega arith)
+      | inr short ↦ rw short (omega arith)
+    ]
+
+-- a bound for the pays under all layouts is one for the gain
+pub gain-least : (num den : ℕ) (question : Question) (declarer : Way) (defence : DefenceWay)
+    → ((west : List ℕ) → IsPart 15 (missing question) west → IsAtLeast (pay question declarer defence west []) num den)
+    → IsAtLeast (gain question declarer defence) num den
+gain-least num den question declarer defence each =
+    mean-least num den _
+    (each_map (λ item. IsAtLeast item.1 num den) (λ (west : List ℕ). (weight question (length west), pay question declarer defence west [])) _
+    (each_gives (IsPart 15 (missing question)) (λ (west : List ℕ). IsAtLeast (pay question declarer defence west []) num den) (layouts question)
+    each (layouts-parts question)))
+
+pub gain-most : (num den : ℕ) (question : Question) (declarer : Way) (defence : DefenceWay)
+    → ((west : List ℕ) → IsPart 15 (missing question) west → IsAtMost (pay question declarer defence west []) num den)
+    → IsAtMost (gain question declarer defence) num den
+gain-most num den question declarer defence each =
+    mean-most num den _
+    (each_map (λ item. IsAtMost item.1 num den) (λ (west : List ℕ). (weight question (length west), pay question declarer defence west [])) _
+    (each_gives (IsPart 15 (missing question)) (λ (west : List ℕ). IsAtMost (pay question declarer defence west []) num den) (layouts question)
+    each (layouts-parts question)))

@@ -1,0 +1,84 @@
+use Rattle.std.proofs.Common.{◌≡◌, ℕ, ◌<◌, ◌≤◌, true, false, not, ◌||◌, nat_eq, List, [], ◌∷◌, length, map, refl, ◌∙◌, inl, inr, arith}
+use Rattle.std.proofs.lemmas.Bool.{or_cases, or_left, or_right, or_parts, or_from, not-true}
+use Rattle.std.specs.List.{AllByRecursion}
+use Rattle.suit_cards.specs.declared.seats.Seat.{Seat}
+use Rattle.suit_cards.specs.declared.seats.Seat.TheVariants.{N, E, S, W}
+use Rattle.suit_cards.specs.Holdings.{FallsBelow, IsHolding, holds, suit}
+use Rattle.suit_cards.proofs.SuitRuns.{IsHolding-filter_suit, holds-filter_suit}
+use Rattle.suit_game.specs.declared.question.Question.{Question}
+use Rattle.suit_game.specs.Question.{missing}
+use Rattle.suit_game.specs.Layouts.{choices_of, layouts, is_west_length}
+use Rattle.suit_game.specs.Places.{without, dealt}
+use Rattle.suit_game.proofs.EachElement.{each_gives, each_map, each_append, each_filter}
+use Rattle.suit_game.proofs.HeldCards.{FallsBelow-higher, FallsBelow-filter, holds-from_filter, holds-from_without}
+
+-- some of the cards, in their order, falling below a top
+pub record IsPart (top : ℕ) (cards taken : List ℕ) : Type 0 where
+  pub falls : FallsBelow top taken
+  pub held : (card : ℕ) → holds taken card ≡ true → holds cards card ≡ true
+
+part_with : (top first : ℕ) (cards taken : List ℕ) → 2 ≤ first → first < top → IsPart first cards taken → IsPart top (first ∷ cards) (first ∷ taken)
+part_with top first cards taken least below part = record {
+  falls = (least, below, part.falls);
+  held = λ card held. elim (or_cases (nat_eq card first) (holds taken card) held) [
+    | inl same ↦ or_left (nat_eq card first) (holds cards card) same
+    | inr later ↦ or_right (nat_eq card first) (holds cards card) (part.held card later)
+  ];
+}
+
+part_without : (top first : ℕ) (cards taken : List ℕ) → first < top → IsPart first cards taken → IsPart top (first ∷ cards) taken
+part_without top first cards taken below part = record {
+  falls = FallsBelow-higher first top taken (omega arith) part.falls;
+  held = λ card held. or_right (nat_eq card first) (holds cards card) (part.held card held);
+}
+
+-- each choice of falling cards is some of them, falling
+pub choices_of-parts : (top : ℕ) (cards : List ℕ) → FallsBelow top cards → AllByRecursion (IsPart top cards) (choices_of cards)
+unfolding choices_of
+choices_of-parts top [] falls = (record { falls = tt; held = λ card held. held }, tt)
+choices_of-parts top (first ∷ cards) falls =
+    each_append (IsPart top (first ∷ cards)) (map (λ taken. first ∷ taken) (choices_of cards)) (choices_of cards)
+    (each_map (IsPart top (first ∷ cards)) (λ taken. first ∷ taken) (choices_of cards)
+    (each_gives (IsPart first cards) (λ taken. IsPart top (first ∷ cards) (first ∷ taken)) (choices_of cards)
+    (λ taken part. part_with top first cards taken falls.0 falls.1 part) (choices_of-parts first cards falls.2)))
+    (each_gives (IsPart first cards) (IsPart top (first ∷ cards)) (choices_of cards)
+    (λ taken part. part_without top first cards taken falls.1 part) (choices_of-parts first cards falls.2))
+
+-- the missing cards fall
+pub missing-falls : (question : Question) → IsHolding (missing question)
+missing-falls question = IsHolding-filter_suit (λ rank. not (holds question.north rank || holds question.south rank))
+
+-- West's cards are missing ones, and fall
+pub layouts-parts : (question : Question) → AllByRecursion (IsPart 15 (missing question)) (layouts question)
+unfolding layouts
+layouts-parts question =
+    each_filter (IsPart 15 (missing question)) (λ west. is_west_length question (length west)) (choices_of (missing question))
+    (choices_of-parts 15 (missing question) (missing-falls question))
+
+-- a missing card is in neither declarer hand
+pub missing-apart : (question : Question) (card : ℕ) → holds (missing question) card ≡ true
+    → (holds question.north card ≡ false) × (holds question.south card ≡ false)
+missing-apart question card held =
+    or_parts (holds question.north card) (holds question.south card)
+    (not-true (holds question.north card || holds question.south card)
+    (holds-from_filter (λ rank. not (holds question.north rank || holds question.south rank)) suit card held).1)
+
+-- a card of the suit that is in neither is missing
+pub holds-missing : (question : Question) (card : ℕ) → 2 ≤ card → card < 15 → holds question.north card ≡ false → holds question.south card ≡ false
+    → holds (missing question) card ≡ true
+holds-missing question card least below north south =
+    holds-filter_suit (λ rank. not (holds question.north rank || holds question.south rank)) card least below
+    ∙ rw (or_from (holds question.north card) (holds question.south card) north south) refl
+
+-- each hand falls
+pub dealt-falls : (question : Question) (west : List ℕ) → IsHolding question.north → IsHolding question.south → IsPart 15 (missing question) west
+    → (seat : Seat) → IsHolding (dealt question west seat)
+unfolding without
+dealt-falls question west north south part N = north
+dealt-falls question west north south part E = FallsBelow-filter (λ card. not (holds west card)) 15 (missing question) (missing-falls question)
+dealt-falls question west north south part S = south
+dealt-falls question west north south part W = part.falls
+
+-- the defenders hold missing cards alone
+pub east-missing : (question : Question) (west : List ℕ) (card : ℕ) → holds (dealt question west E) card ≡ true → holds (missing question) card ≡ true
+east-missing question west card held = (holds-from_without (missing question) west card held).0

@@ -1,0 +1,15 @@
+pub mod AllowedMoves
+pub mod BoundedPays
+pub mod ChosenMoves
+pub mod EachElement
+pub mod GainBounds
+pub mod Hands
+pub mod HeldCards
+pub mod LayoutCards
+pub mod LongestPlay
+pub mod OneTrickHalves
+pub mod OneTrickPlay
+pub mod PayDenominators
+pub mod Room
+pub mod TrickStates
+pub mod WeightedMeans

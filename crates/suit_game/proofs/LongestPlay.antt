@@ -1,0 +1,85 @@
+-- How many moves a history can have.
+use Rattle.std.proofs.Common.{◌≡◌, ℕ, suc, ◌+◌, ◌*◌, ◌<◌, ◌≤◌, Bool, true, false, cond, List, [], ◌∷◌, length, refl, sym, ap, ◌∙◌, subst, arith, IsTrue}
+use Rattle.std.specs.Prelude.{◌&&◌, ◌||◌, ◌==◌, not, filter, fold, Contains}
+use Rattle.std.specs.List.{list_any}
+use Rattle.std.proofs.lemmas.Bool.{eqb-true}
+use Rattle.suit_cards.specs.Holdings.{IsHolding, holds, suit}
+use Rattle.suit_cards.proofs.HeldSuits.{filter_suit-holds}
+use Rattle.suit_game.specs.declared.question.Question.{Question}
+use Rattle.suit_game.specs.declared.moves.Move.{Move}
+use Rattle.suit_game.specs.Places.{Place, without, start_place, step, after, legal_at, LegalFrom, IsLegal}
+use Rattle.suit_game.specs.Lengths.{cards_left, room}
+use Rattle.suit_game.proofs.Room.{room_falls}
+
+-- play on from a position uses up room, a move each
+uses_room : (question : Question) (west : List ℕ) (place : Place) (moves : List Move) → LegalFrom question west place moves
+    → length moves + room question (fold (step question) place moves) ≤ room question place
+unfolding LegalFrom
+uses_room question west place [] legal = omega arith
+uses_room question west place (move ∷ moves) legal =
+    omega (arith, room_falls question west place move legal.0, uses_room question west (step question place move) moves legal.1)
+
+-- no card is gone at first
+pub without-none : (cards : List ℕ) → without cards [] ≡ cards
+unfolding without
+without-none [] = refl
+without-none (card ∷ cards) = ap (λ (l : List ℕ). card ∷ l) (without-none cards)
+
+pub histories_use_room : (question : Question) (west : List ℕ) (history : List Move) → IsLegal question west history
+    → length history + room question (after question history) ≤ 4 * (length question.north + length question.south)
+histories_use_room question west history legal =
+    omega (arith, uses_room question west (start_place question) history legal, ap length (without-none question.north), ap length (without-none question.south))
+
+count_apart : (p q : Bool) (m n k : ℕ) → (p ≡ true → q ≡ true → ⊥) → m + n ≤ k → cond p (suc m) m + cond q (suc n) n ≤ suc k
+count_apart true true m n k apart fits = absurd (apart refl refl)
+count_apart true false m n k apart fits = omega arith
+count_apart false true m n k apart fits = omega arith
+count_apart false false m n k apart fits = omega arith
+
+length_if : (b : Bool) (x : ℕ) (xs : List ℕ) → length (cond b (x ∷ xs) xs) ≡ cond b (suc (length xs)) (length xs)
+length_if true x xs = refl
+length_if false x xs = refl
+
+-- two tests that no card passes both keep no more cards than there are
+apart_fit : (here there : ℕ → Bool) (cards : List ℕ) → ((card : ℕ) → here card ≡ true → there card ≡ true → ⊥)
+    → length (filter here cards) + length (filter there cards) ≤ length cards
+apart_fit here there [] apart = omega arith
+apart_fit here there (card ∷ cards) apart =
+    omega (
+      arith,
+      length_if (here card) card (filter here cards),
+      length_if (there card) card (filter there cards),
+      count_apart (here card) (there card) (length (filter here cards)) (length (filter there cards)) (length cards) (apart card) (apart_fit here there cards apart),
+    )
+
+any_step : (same later first others : Bool) → (same ≡ true → first ≡ true) → (later ≡ true → others ≡ true) → (same || later) ≡ true → (first || others) ≡ true
+any_step same later true others here there found = refl
+any_step true later false others here there found = absurd (let no = here refl in cc)
+any_step false later false others here there found = there found
+
+-- a card of both hands is shared
+shared_card : (here there : List ℕ) (card : ℕ) → holds here card ≡ true → holds there card ≡ true → list_any (holds there) here ≡ true
+shared_card [] there card in_here in_there = absurd (cc)
+shared_card (x ∷ here) there card in_here in_there =
+    any_step (card == x) (holds here card) (holds there x) (list_any (holds there) here)
+    (λ same. ap (holds there) (sym (eqb-true card x same)) ∙ in_there) (λ later. shared_card here there card later in_there) in_here
+
+-- no card of one hand is in the other
+none_shared : (here there : List ℕ) → IsTrue (not (list_any (holds there) here)) → (card : ℕ) → holds here card ≡ true → holds there card ≡ true → ⊥
+none_shared here there apart card in_here in_there =
+    let shared = shared_card here there card in_here in_there in
+    let contrary : IsTrue (not true) = subst (λ (b : Bool). IsTrue (not b)) shared apart in
+    cc
+
+pub histories_are_short : (question : Question) (west : List ℕ) (history : List Move)
+    → IsHolding question.north → IsHolding question.south → IsTrue (not (list_any (holds question.south) question.north))
+    → IsLegal question west history → length history ≤ 52
+unfolding suit
+histories_are_short question west history north south apart legal =
+    omega (
+      arith,
+      histories_use_room question west history legal,
+      apart_fit (holds question.north) (holds question.south) suit (none_shared question.north question.south apart),
+      ap length (filter_suit-holds question.north north),
+      ap length (filter_suit-holds question.south south),
+    )

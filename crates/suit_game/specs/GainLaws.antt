@@ -1,0 +1,28 @@
+-- Laws of means, pays and gains.
+use Rattle.std.specs.Prelude.{◌≡◌, ℕ, ◌*◌, ◌<◌, List, []}
+use Rattle.suit_game.specs.declared.question.Question.{Question}
+use Rattle.suit_game.specs.declared.moves.Move.{Move}
+use Rattle.suit_game.specs.Fractions.{Fraction, mean, total_weight, weighted_sum}
+use Rattle.suit_game.specs.Gains.{gain, pay}
+use Rattle.suit_game.specs.Layouts.{total}
+use Rattle.suit_game.specs.OneTrick.{IsOneTrick, one_trick_value}
+use Rattle.suit_game.specs.Settled.{Settles}
+use Rattle.suit_game.specs.Strategies.{Way, DefenceWay, by_rows, by_defence_rows}
+
+-- the sum of the weights times the mean is the weighted sum
+abbrev pub MeanLaw : Type 0
+MeanLaw = (items : List (ℕ × Fraction)) → total_weight items * (mean items).num * (weighted_sum items).den ≡ (weighted_sum items).num * (mean items).den
+
+-- no pay has a denominator of 0, so none compares as anything
+abbrev pub PaysAreFractions : Type 0
+PaysAreFractions = (question : Question) (declarer : Way) (defence : DefenceWay) (west : List ℕ) (history : List Move)
+    → 0 < (pay question declarer defence west history).den
+
+-- and no gain, where some layout has a weight
+abbrev pub GainsAreFractions : Type 0
+GainsAreFractions = (question : Question) (declarer : Way) (defence : DefenceWay) → 0 < total question → 0 < (gain question declarer defence).den
+
+-- a question of one trick is settled by a plan and a defence with no rows
+abbrev pub OneTrickIsSettled : Type 0
+OneTrickIsSettled = (question : Question) → IsOneTrick question → 0 < total question
+    → Settles question (by_rows []) (by_defence_rows []) (one_trick_value question) 1

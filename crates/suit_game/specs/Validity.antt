@@ -1,0 +1,42 @@
+-- Which questions make sense.
+use Rattle.std.specs.Prelude.{ℕ, ◌+◌, ◌<◌, ◌≤◌, ◌≢◌, Bool, not, List, length, IsTrue}
+use Rattle.std.specs.List.{list_any}
+use Rattle.suit_cards.specs.Holdings.{holds}
+use Rattle.suit_game.specs.declared.question.Question.{Question}
+use Rattle.suit_game.specs.declared.question.Entries.{Entries}
+use Rattle.suit_game.specs.declared.question.Entries.TheVariants.{Count, Free}
+use Rattle.suit_game.specs.declared.question.Goal.{Goal}
+use Rattle.suit_game.specs.declared.question.Goal.TheVariants.{AtLeast, Tricks}
+use Rattle.suit_game.specs.Question.{missing}
+use Rattle.suit_game.specs.Layouts.{total}
+
+-- a count of entries is at most 13
+abbrev pub AreEntries : Entries → Type 0
+AreEntries Free = Unit {0}
+AreEntries (Count left) = left ≤ 13
+
+-- a goal asks for 13 tricks at most
+abbrev pub IsGoal : Goal → Type 0
+IsGoal Tricks = Unit {0}
+IsGoal (AtLeast least) = least ≤ 13
+
+-- a question is valid
+pub record IsValid (question : Question) : Type 0 where
+  -- no card stands in both declarer hands, and some card in one
+  pub apart : IsTrue (not (list_any (holds question.south) question.north))
+  pub some_card : 0 < length question.north + length question.south
+  pub entries_n : AreEntries question.entries_n
+  pub entries_s : AreEntries question.entries_s
+  pub vacant_w : question.vacant_w ≤ 13
+  pub vacant_e : question.vacant_e ≤ 13
+  pub range : question.west_least ≤ question.west_most
+  pub west_most : question.west_most ≤ 13
+  -- the missing cards fit into the vacant places
+  pub places : length (missing question) ≤ question.vacant_w + question.vacant_e
+  pub goal : IsGoal question.goal
+  -- the budgets
+  pub nodes_least : 1 ≤ question.nodes
+  pub nodes_most : question.nodes ≤ 400000
+  pub pivots : question.pivots ≤ 1000000
+  -- some layout has a weight
+  pub has_weight : 0 < total question
