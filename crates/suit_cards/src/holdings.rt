@@ -178,8 +178,8 @@ impl Holding {
         text
     }
 
-    /// Reads the letters of ranks, in any order and either case. The two bytes `10` are the ten, and `-` alone or no byte
-    /// means no card. The first place where no rank begins, or one that was read before, is the fault.
+    /// Reads a holding as players write it: its letters as they come, capital or small, the ten as `T` or `10`. A dash, or
+    /// nothing at all, is an empty hand. A fault is told at the first place that spells no further rank.
     pub fn read(text: &[u8]) -> Result<Holding, CardFault>
         ensures value { result ≡ holding_read text.now }
         ensures holding { IfOk result IsHolding }

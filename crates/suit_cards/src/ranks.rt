@@ -34,7 +34,7 @@ impl Model for Rank {
 }
 
 impl Default for Rank {
-    /// The two. Nothing rests on it.
+    /// The two, for lists of fixed length that want some value.
     fn default() -> Rank {
         Rank { number: LOWEST }
     }

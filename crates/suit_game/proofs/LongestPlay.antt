@@ -1,14 +1,14 @@
 -- How many moves a history can have.
-use Rattle.std.proofs.Common.{◌≡◌, ℕ, suc, ◌+◌, ◌*◌, ◌<◌, ◌≤◌, Bool, true, false, cond, List, [], ◌∷◌, length, refl, sym, ap, ◌∙◌, subst, arith, IsTrue}
-use Rattle.std.specs.Prelude.{◌&&◌, ◌||◌, ◌==◌, not, filter, fold, Contains}
+use Rattle.std.proofs.Common.{◌≡◌, ℕ, suc, ◌+◌, ◌*◌, ◌≤◌, Bool, true, false, cond, List, [], ◌∷◌, length, refl, sym, ap, ◌∙◌, subst, arith, IsTrue}
+use Rattle.std.specs.Prelude.{◌||◌, ◌==◌, not, filter, fold}
 use Rattle.std.specs.List.{list_any}
 use Rattle.std.proofs.lemmas.Bool.{eqb-true}
 use Rattle.suit_cards.specs.Holdings.{IsHolding, holds, suit}
 use Rattle.suit_cards.proofs.HeldSuits.{filter_suit-holds}
 use Rattle.suit_game.specs.declared.question.Question.{Question}
 use Rattle.suit_game.specs.declared.moves.Move.{Move}
-use Rattle.suit_game.specs.Places.{Place, without, start_place, step, after, legal_at, LegalFrom, IsLegal}
-use Rattle.suit_game.specs.Lengths.{cards_left, room}
+use Rattle.suit_game.specs.Places.{Place, without, start_place, step, after, LegalFrom, IsLegal}
+use Rattle.suit_game.specs.Lengths.{room}
 use Rattle.suit_game.proofs.Room.{room_falls}
 
 -- play on from a position uses up room, a move each
@@ -45,12 +45,8 @@ apart_fit : (here there : ℕ → Bool) (cards : List ℕ) → ((card : ℕ) →
     → length (filter here cards) + length (filter there cards) ≤ length cards
 apart_fit here there [] apart = omega arith
 apart_fit here there (card ∷ cards) apart =
-    omega (
-      arith,
-      length_if (here card) card (filter here cards),
-      length_if (there card) card (filter there cards),
-      count_apart (here card) (there card) (length (filter here cards)) (length (filter there cards)) (length cards) (apart card) (apart_fit here there cards apart),
-    )
+    omega (arith, length_if (here card) card (filter here cards), length_if (there card) card (filter there cards),
+        count_apart (here card) (there card) (length (filter here cards)) (length (filter there cards)) (length cards) (apart card) (apart_fit here there cards apart))
 
 any_step : (same later first others : Bool) → (same ≡ true → first ≡ true) → (later ≡ true → others ≡ true) → (same || later) ≡ true → (first || others) ≡ true
 any_step same later true others here there found = refl
@@ -65,21 +61,22 @@ shared_card (x ∷ here) there card in_here in_there =
     (λ same. ap (holds there) (sym (eqb-true card x same)) ∙ in_there) (λ later. shared_card here there card later in_there) in_here
 
 -- no card of one hand is in the other
-none_shared : (here there : List ℕ) → IsTrue (not (list_any (holds there) here)) → (card : ℕ) → holds here card ≡ true → holds there card ≡ true → ⊥
+pub none_shared : (here there : List ℕ) → IsTrue (not (list_any (holds there) here)) → (card : ℕ) → holds here card ≡ true → holds there card ≡ true → ⊥
 none_shared here there apart card in_here in_there =
     let shared = shared_card here there card in_here in_there in
     let contrary : IsTrue (not true) = subst (λ (b : Bool). IsTrue (not b)) shared apart in
     cc
 
+-- two hands that share no card have thirteen at most
+pub holdings_fit : (north south : List ℕ) → IsHolding north → IsHolding south → IsTrue (not (list_any (holds south) north))
+    → length north + length south ≤ 13
+unfolding suit
+holdings_fit north south is_north is_south apart =
+    omega (arith, apart_fit (holds north) (holds south) suit (none_shared north south apart),
+        ap length (filter_suit-holds north is_north), ap length (filter_suit-holds south is_south))
+
 pub histories_are_short : (question : Question) (west : List ℕ) (history : List Move)
     → IsHolding question.north → IsHolding question.south → IsTrue (not (list_any (holds question.south) question.north))
     → IsLegal question west history → length history ≤ 52
-unfolding suit
 histories_are_short question west history north south apart legal =
-    omega (
-      arith,
-      histories_use_room question west history legal,
-      apart_fit (holds question.north) (holds question.south) suit (none_shared question.north question.south apart),
-      ap length (filter_suit-holds question.north north),
-      ap length (filter_suit-holds question.south south),
-    )
+    omega (arith, histories_use_room question west history legal, holdings_fit question.north question.south north south apart)

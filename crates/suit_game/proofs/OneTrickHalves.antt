@@ -280,6 +280,7 @@ one_trick-settled question one weighs = record {
       (λ west part. pay-least question (by_rows []) other west one part);
   holds = λ other. gain-most (one_trick_value question) 1 question other (by_defence_rows [])
       (λ west part. pay-most question other west one part);
+  positive = omega arith;
   weighs = weighs;
   dens = λ plan other. gain-den question plan other weighs;
 }

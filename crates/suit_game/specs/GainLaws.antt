@@ -1,17 +1,26 @@
 -- Laws of means, pays and gains.
-use Rattle.std.specs.Prelude.{◌≡◌, ℕ, ◌*◌, ◌<◌, List, []}
+use Rattle.std.specs.Prelude.{◌≡◌, ℕ, ◌*◌, ◌<◌, ◌≤◌, List, []}
 use Rattle.suit_game.specs.declared.question.Question.{Question}
 use Rattle.suit_game.specs.declared.moves.Move.{Move}
-use Rattle.suit_game.specs.Fractions.{Fraction, mean, total_weight, weighted_sum}
+use Rattle.suit_game.specs.Deals.{IsDeal}
+use Rattle.suit_game.specs.Fractions.{Fraction, IsAtLeast, IsAtMost, mean, total_weight, weighted_sum}
 use Rattle.suit_game.specs.Gains.{gain, pay}
 use Rattle.suit_game.specs.Layouts.{total}
 use Rattle.suit_game.specs.OneTrick.{IsOneTrick, one_trick_value}
+use Rattle.suit_game.specs.Places.{IsLegal, payoff}
 use Rattle.suit_game.specs.Settled.{Settles}
 use Rattle.suit_game.specs.Strategies.{Way, DefenceWay, by_rows, by_defence_rows}
 
 -- the sum of the weights times the mean is the weighted sum
 abbrev pub MeanLaw : Type 0
 MeanLaw = (items : List (ℕ × Fraction)) → total_weight items * (mean items).num * (weighted_sum items).den ≡ (weighted_sum items).num * (mean items).den
+
+-- a pay after a legal history lies between bounds of the payoffs, which thirteen tricks at most are won for
+abbrev pub PaysAreBetween : Type 0
+PaysAreBetween = (question : Question) (declarer : Way) (defence : DefenceWay) (west : List ℕ) (history : List Move) (least most : ℕ)
+    → IsDeal question west → IsLegal question west history
+    → ((won : ℕ) → won ≤ 13 → (least ≤ payoff question.goal won) × (payoff question.goal won ≤ most))
+    → IsAtLeast (pay question declarer defence west history) least 1 × IsAtMost (pay question declarer defence west history) most 1
 
 -- no pay has a denominator of 0, so none compares as anything
 abbrev pub PaysAreFractions : Type 0

@@ -14,6 +14,6 @@ abbrev pub seats_left : Trick → ℕ
 seats_left Closed = 0
 seats_left (Open turn after winner highest) = suc after
 
--- more than the moves that can come from a position on
+-- no more moves than this can come from a position on
 abbrev pub room : Question → Place → ℕ
 room question place = 4 * cards_left question place + seats_left place.trick

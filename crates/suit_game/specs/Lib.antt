@@ -1,3 +1,4 @@
+pub mod Deals
 pub mod Examples
 pub mod Fractions
 pub mod GainLaws
@@ -8,6 +9,7 @@ pub mod OneTrick
 pub mod Places
 pub mod PlayLaws
 pub mod Question
+pub mod Reached
 pub mod Settled
 pub mod Strategies
 pub mod Validity

@@ -111,7 +111,7 @@ legal_in question west place (Open turn after winner highest) = follows_of (hand
 abbrev pub legal_at : Question → List ℕ → Place → List Move
 legal_at question west place = legal_in question west place place.trick
 
--- a trick that North or South wins counts, and the lead then stands at the winner; the defenders' put it at regain
+-- declarer's tricks are counted and leave the lead with the hand that won; after the defenders' it stands at regain
 abbrev pub ended_trick : Question → Place → Seat → Place
 ended_trick question place N = record place { trick = Closed; lead = leads.N; won = place.won + 1 }
 ended_trick question place S = record place { trick = Closed; lead = leads.S; won = place.won + 1 }
@@ -167,11 +167,11 @@ unfoldable pub LegalFrom : Question → List ℕ → Place → List Move → Typ
 LegalFrom question west place [] = Unit {0}
 LegalFrom question west place (move ∷ moves) = Contains (legal_at question west place) move × LegalFrom question west (step question place move) moves
 
--- a history is legal under a layout where each of its moves is legal after the moves before it
+-- a legal history is a play on from the start
 abbrev pub IsLegal : Question → List ℕ → List Move → Type 0
 IsLegal question west history = LegalFrom question west (start_place question) history
 
--- play has ended where no trick is in progress and no lead is legal
+-- between tricks, with nothing that may be led, play is over
 abbrev pub ended_in : Question → Place → Trick → Bool
 ended_in question place Closed = is_empty (leads_at question place)
 ended_in question place (Open turn after winner highest) = false

@@ -11,5 +11,6 @@ pub record Settles (question : Question) (declarer : Way) (defence : DefenceWay)
   pub earns : (other : DefenceWay) → IsAtLeast (gain question declarer other) num den
   pub holds : (other : Way) → IsAtMost (gain question other defence) num den
   -- no fraction here has a denominator of 0, which would compare as anything
+  pub positive : 0 < den
   pub weighs : 0 < total question
   pub dens : (plan : Way) (other : DefenceWay) → 0 < (gain question plan other).den

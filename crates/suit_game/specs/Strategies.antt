@@ -48,7 +48,7 @@ abbrev pub counted : ℤ → ℕ
 counted (pos number) = number
 counted (negsuc number) = 0
 
--- the number of the first pair that names a move, and 0 where none does
+-- the number that a row gives to a move: a later pair for it does not count, and without one it is 0
 unfoldable pub number_of : List (Move × ℤ) → Move → ℕ
 number_of [] move = 0
 number_of (pair ∷ pairs) move = if same_move pair.0 move then counted pair.1 else number_of pairs move

@@ -1,7 +1,7 @@
 -- Which questions make sense.
 use Rattle.std.specs.Prelude.{ℕ, ◌+◌, ◌<◌, ◌≤◌, ◌≢◌, Bool, not, List, length, IsTrue}
 use Rattle.std.specs.List.{list_any}
-use Rattle.suit_cards.specs.Holdings.{holds}
+use Rattle.suit_cards.specs.Holdings.{IsHolding, holds}
 use Rattle.suit_game.specs.declared.question.Question.{Question}
 use Rattle.suit_game.specs.declared.question.Entries.{Entries}
 use Rattle.suit_game.specs.declared.question.Entries.TheVariants.{Count, Free}
@@ -22,7 +22,9 @@ IsGoal (AtLeast least) = least ≤ 13
 
 -- a question is valid
 pub record IsValid (question : Question) : Type 0 where
-  -- no card stands in both declarer hands, and some card in one
+  -- the declarer hands are holdings that share no card, and are not both empty
+  pub north : IsHolding question.north
+  pub south : IsHolding question.south
   pub apart : IsTrue (not (list_any (holds question.south) question.north))
   pub some_card : 0 < length question.north + length question.south
   pub entries_n : AreEntries question.entries_n

@@ -11,7 +11,7 @@ pub fn weights_of_two()
     ensures { WeightsOfTwo }
 {}
 
-/// The weights of all layouts add up to all deals of the vacant places.
+/// The weights of all layouts of two questions add up to all deals of the vacant places.
 pub fn totals()
     ensures { Totals }
 {}

@@ -1,6 +1,6 @@
 //! What each task on several threads passes first.
 
-/// Entered by each task once, before its other work. No answer depends on a gate.
+/// A task on a thread enters the gate once and first of all; what it then answers is the same whatever the gate does.
 pub trait Gate {
     /// Passes the gate.
     fn enter(&self);

@@ -58,9 +58,9 @@ pub struct Question {
     pub west_most: u8,
     /// What declarer plays for.
     pub goal: Goal,
-    /// How many pairs of a history and a layout the game may have.
+    /// The budget of nodes: how large the game that is solved may be.
     pub nodes: u32,
-    /// How many pivots each round of solving may take.
+    /// The budget of pivots: how many steps each round of solving may take.
     pub pivots: u32,
 }
 

@@ -1,5 +1,4 @@
-//! Greatest common divisors of positive numbers by shifts, which take a third of the time that
-//! divisions take. Both numbers are kept odd: then their difference is even, and its powers of 2
+//! Greatest common divisors of positive numbers by shifts in place of divisions. Both numbers are kept odd: then their difference is even, and its powers of 2
 //! divide neither of them.
 ghost use Rattle.std.specs.Prelude.{◌<◌};
 ghost use Rattle.std.specs.Int.{IsGcd};
@@ -29,7 +28,7 @@ pub(crate) fn wide_halving_gcd(a: u128, b: u128) -> u128
     let mut x = a >> a.trailing_zeros();
     let mut y = b >> b.trailing_zeros();
     while x != y {
-        // The rest goes faster in 64 bits.
+        // The rest is left to 64 bits.
         if let (Ok(p), Ok(q)) = (u64::try_from(x), u64::try_from(y)) {
             return u128::from(halving_gcd(p, q)) << twos;
         }

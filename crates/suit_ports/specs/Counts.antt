@@ -6,6 +6,6 @@ pub record Counts (before after : ℕ) : Type 0 where
   pub never_falls : before ≤ after
   pub fits : after < 2 ^ 64
 
--- a count rose where it is greater afterwards, or stands at the last value of its type
+-- a call raised a count: it is greater than before, or so high already that it cannot grow
 abbrev pub Rose : ℕ → ℕ → Type 0
 Rose before after = (before < after) ⊎ (after ≡ 2 ^ 64 - 1)

@@ -11,7 +11,7 @@ pub record Held : Type 0 where
 abbrev pub fitting : Held → List ℕ → ℕ
 fitting held piece = min (length piece) (held.room - length held.bytes)
 
--- a count of a `u64` after one more, which stays at the last value of its type
+-- one more, as far as a `u64` can count
 abbrev pub one_more : ℕ → ℕ
 one_more count = min (count + 1) (2 ^ 64 - 1)
 

@@ -23,12 +23,12 @@ pub trait Sink {
 
     /// Appends the front of `from`, and answers how many bytes it took.
     ///
-    /// It takes no byte of a nonempty `from` only where the count of empty puts rose, and where
-    /// the whole room is told only once it is full.
+    /// A put that takes nothing, though there was something to take, is an empty put and is counted. A
+    /// sink that tells its room makes one only when that is full.
     ///
     /// # Errors
     ///
-    /// `PortFault` only where the count of faults rose in this call; it appends nothing.
+    /// `PortFault` where a call failed: this very call raised the count of faults, and nothing was appended.
     fn put(&mut self, from: &[u8]) -> Result<usize, PortFault>
         ensures bound { WritesAtMost result from.now }
         ensures bytes { WriteAppends (written self.old) (written self.new) result from.now }
@@ -40,6 +40,6 @@ pub trait Sink {
         ensures only_empty { empties self.old < empties self.new → TookNone result from.now }
         ensures full { TookNone result from.now → IsFull (written self.new) (room self.new) };
 
-    /// A sink that tells its whole room tells its bytes too.
+    /// Who knows the room knows the bytes.
     ghost room_with_bytes: { (sink : Self) (whole : ℕ) → room sink ≡ Some whole → IsSome (written sink) };
 }

@@ -18,11 +18,11 @@ pub trait Source {
 
     /// Fills the front of `into` with the next bytes, and answers how many it gave.
     ///
-    /// No byte for a nonempty `into` means the end of the input.
+    /// Where `into` has room and no byte comes, the source has ended.
     ///
     /// # Errors
     ///
-    /// `PortFault` only where the count of faults rose in this call; it takes nothing.
+    /// `PortFault` where a call failed: this very call raised the count of faults, and the bytes left stay.
     fn take(&mut self, into: &mut [u8]) -> Result<usize, PortFault>
         ensures bound { ReadsAtMost result into.new }
         ensures bytes { ReadConsumes (left self.old) (left self.new) result into.new }

@@ -4,7 +4,7 @@ ghost use Rattle.std.specs.Prelude.{◌≡◌, ℕ, ◌<◌, None};
 use super::{PortFault, Sink, Source};
 use std::io::{Read, Write};
 
-/// A source over a reader, such as standard input. It tells no bytes.
+/// A source over a reader, such as standard input. Nothing is known of what is left in it.
 #[derive(Drop)]
 pub struct StdSource<R> {
     inner: R,
@@ -37,10 +37,10 @@ impl<R: Read> Source for StdSource<R> {
     }
 }
 
-/// A sink over a writer, such as standard output. It tells no bytes and no room.
+/// A sink over a writer, such as standard output. Nothing is known of what it holds.
 ///
-/// It flushes the writer after each write that took bytes. Where the flush fails, the put fails,
-/// though the bytes may have gone out.
+/// After a write of some bytes the writer is flushed. A flush that fails is a fault of the put, which
+/// then says nothing about whether its bytes have left.
 #[derive(Drop)]
 pub struct StdSink<W> {
     inner: W,

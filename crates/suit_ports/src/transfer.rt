@@ -53,14 +53,14 @@ pub struct WriteEnd {
 
 /// Reads a source to its end, and answers all bytes that it gave, at most `limit`.
 ///
-/// Each call asks for at most 4,096 bytes, and for at most one byte past the limit; it gives at
-/// least one byte or ends the reading.
+/// Each call asks for at most 4,096 bytes and never for more than one past the limit, and either
+/// brings a byte or is the last one.
 ///
 /// # Errors
 ///
-/// `Fault` where a call failed, only where the source's count of faults rose; `Long` exactly where
-/// more than `limit` bytes were taken, one more; `Memory` for want of memory. The bytes taken are
-/// then lost.
+/// `Fault` at a call that failed, which the source's count of faults shows. `Long` as soon as the source has
+/// given one byte past the limit, and in no other case. `Memory` for want of memory. What was read by
+/// then is gone.
 pub fn read_all<S: Source>(alloc: Global, source: &mut S, limit: usize) -> Result<Vec<u8>, ReadEnd>
     requires { limit < usize.MAX }
     ensures taken { (taken : List ℕ) × Took limit result taken × Consumes (S.left source.old) (S.left source.new) taken }
@@ -87,8 +87,8 @@ pub fn read_all<S: Source>(alloc: Global, source: &mut S, limit: usize) -> Resul
 ///
 /// # Errors
 ///
-/// `WriteEnd` at the first call that failed or took no byte, only where the sink's count of faults
-/// or of empty puts rose. The first `sent` bytes were appended then, and no others.
+/// `WriteEnd` at a call that failed or took nothing, which the sink's count of faults or of empty puts
+/// shows. By then the front of `sent` bytes had been appended, and no more.
 pub fn write_all_of<K: Sink>(sink: &mut K, bytes: &[u8]) -> Result<(), WriteEnd>
     ensures all { OnOk result (Appends (K.written sink.old) (K.written sink.new) bytes.now) }
     ensures part { IfErr result (λ end. (end.sent < length bytes.now)

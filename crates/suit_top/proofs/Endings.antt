@@ -16,7 +16,7 @@ use Rattle.suit_top.specs.declared.command.Command.TheVariants.{Solve}
 use Rattle.suit_top.specs.declared.reply.Reply.{Reply}
 use Rattle.suit_top.specs.declared.status.Status.{Status}
 use Rattle.suit_top.specs.declared.status.Status.TheVariants.{Done, Usage, WriteFault, Long, NotBuilt}
-use Rattle.suit_top.specs.Answers.{Answers}
+use Rattle.suit_top.specs.Answers.{Answers, Says}
 use Rattle.suit_top.specs.Commands.{command_of, reads_input, words_read, limit_of}
 use Rattle.suit_top.specs.Dues.{Due, due_for, due_within, solved, silent}
 use Rattle.suit_top.specs.FourLines.{question_read}
@@ -61,9 +61,9 @@ long_answer : (long : Bool) (input : List ℕ) → (if long then silent Long els
 long_answer true input done = absurd (let no = done in cc)
 long_answer false input done = settled_answer input (question_read input) refl done
 
--- a text that is due with Done answers the input
-due_answers : (command : Command) (input : List ℕ) → (due_for (Some command) input).status ≡ Done → Answers input (due_for (Some command) input).text
-due_answers Solve input done = long_answer (nat_lt (limit_of Solve) (length input)) input done
+-- a text that is due with Done says what the command is for
+due_says : (command : Command) (input : List ℕ) → (due_for (Some command) input).status ≡ Done → Says (Some command) input (due_for (Some command) input).text
+due_says Solve input done = long_answer (nat_lt (limit_of Solve) (length input)) input done
 
 none_named : (words : List (List ℕ)) (command : Command) → command_of words ≡ Some command → IsNone (command_of words) → ⊥
 none_named words command named none = let other = subst IsNone named none in cc
@@ -91,7 +91,8 @@ run_replies words command before after reply status named made (inl delivered) r
     is_input = is_input words command before made.input named (reads_all command) made.is_input;
     owed = subst (λ (s : Status). Owes words made.input s reply.text.items) (sym delivered.is_status) (owed words command before.left after.left reply named made);
     written = delivered.whole;
-    answers = λ done. subst (Answers made.input) (sym made.text_due) (due_answers command made.input (sym made.status_due ∙ sym delivered.is_status ∙ done));
+    says = λ done. subst (λ (c : Option Command). Says c made.input reply.text.items) (sym named)
+        (subst (Says (Some command) made.input) (sym made.text_due) (due_says command made.input (sym made.status_due ∙ sym delivered.is_status ∙ done)));
     all_read = λ done reads. made.all_read (sym delivered.is_status ∙ done);
   });
   usage = (

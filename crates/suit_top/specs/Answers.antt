@@ -1,9 +1,11 @@
 -- The answer to a question with at most one card in each declarer hand.
-use Rattle.std.specs.Prelude.{◌≡◌, ℕ, zero, suc, List, [], Some, codes}
+use Rattle.std.specs.Prelude.{◌≡◌, ℕ, zero, suc, List, [], Option, None, Some, codes}
 use Rattle.suit_game.specs.declared.question.Question.{Question}
 use Rattle.suit_game.specs.OneTrick.{one_trick_value}
 use Rattle.suit_game.specs.Settled.{Settles}
 use Rattle.suit_game.specs.Strategies.{by_rows, by_defence_rows}
+use Rattle.suit_top.specs.declared.command.Command.{Command}
+use Rattle.suit_top.specs.declared.command.Command.TheVariants.{Solve}
 use Rattle.suit_top.specs.FourLines.{question_read}
 
 -- an answer whose plan and defence have no rows, and whose value is 0 or 1
@@ -18,3 +20,8 @@ pub record Answers (input text : List ℕ) : Type 0 where
   pub value : ℕ
   pub is_text : text ≡ answer_text value
   pub settled : Settles question (by_rows []) (by_defence_rows []) value 1
+
+-- what a text says that a command writes with Done
+abbrev pub Says : Option Command → List ℕ → List ℕ → Type 0
+Says None input text = ⊥
+Says (Some Solve) input text = Answers input text

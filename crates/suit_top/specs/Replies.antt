@@ -1,10 +1,11 @@
 -- What a command makes of its input, and what becomes of it.
-use Rattle.std.specs.Prelude.{◌≡◌, ◌<◌, List, ℕ, Option, Some, [], IfSome, length, take}
-use Rattle.std.specs.Io.KnownBytes.{Appends}
+use Rattle.std.specs.Prelude.{◌≡◌, ◌<◌, ◌≤◌, List, ℕ, Option, Some, [], IfSome, length, take}
+use Rattle.std.specs.Io.KnownBytes.{Appends, Consumes}
 use Rattle.suit_top.specs.declared.command.Command.{Command}
 use Rattle.suit_top.specs.declared.reply.Reply.{Reply}
 use Rattle.suit_top.specs.declared.status.Status.{Status}
 use Rattle.suit_top.specs.declared.status.Status.TheVariants.{Done, WriteFault}
+use Rattle.suit_top.specs.Commands.{limit_of}
 use Rattle.suit_top.specs.Dues.{due_for}
 
 -- a reply to a command, from what its source had left, where it tells that, to what it has left
@@ -14,6 +15,12 @@ pub record IsReply (command : Command) (before after : Option (List ℕ)) (reply
   pub status_due : reply.status ≡ (due_for (Some command) input).status
   pub text_due : reply.text.items ≡ (due_for (Some command) input).text
   pub all_read : reply.status ≡ Done → IfSome before (λ _. after ≡ Some [])
+
+-- a source failed before it had given more than the command takes
+pub record Failed (command : Command) (before after : Option (List ℕ)) : Type 0 where
+  pub taken : List ℕ
+  pub took : Consumes before after taken
+  pub within : length taken ≤ limit_of command
 
 -- the whole text was written, and the run ends with its status
 pub record Delivered (reply : Reply) (before after : Option (List ℕ)) (status : Status) : Type 0 where

@@ -1,12 +1,13 @@
 -- The clause of `run`: four ways to end, and what holds of each.
 use Rattle.std.specs.Prelude.{◌≡◌, ℕ, ◌<◌, ◌≤◌, ◌⊎◌, ◌↔◌, List, [], length, take, Option, Some, IsTrue, IfSome, IsSome, IsNone, MatchBool}
-use Rattle.std.specs.Io.KnownBytes.{Keeps, Appends}
+use Rattle.std.specs.Io.KnownBytes.{Keeps, Appends, Consumes}
 use Rattle.suit_ports.specs.Counts.{Rose}
 use Rattle.suit_ports.specs.Room.{KeepsRoom, IsFull}
 use Rattle.suit_top.specs.declared.status.Status.{Status}
 use Rattle.suit_top.specs.declared.status.Status.TheVariants.{Done, Usage, ReadFault, WriteFault, Memory}
-use Rattle.suit_top.specs.Answers.{Answers}
-use Rattle.suit_top.specs.Commands.{command_of, words_read}
+use Rattle.suit_top.specs.Answers.{Says}
+use Rattle.suit_top.specs.declared.command.Command.{Command}
+use Rattle.suit_top.specs.Commands.{command_of, words_read, reads_input, limit_of}
 use Rattle.suit_top.specs.Owing.{Owes}
 
 -- what both ports tell at one moment
@@ -32,16 +33,21 @@ pub record Ended (words : List (List ℕ)) (before after : Ports) (status : Stat
   pub is_input : IsInput words before input
   pub owed : Owes words input status text
   pub written : Appends before.written after.written text
-  -- with Done, the text answers the question
-  pub answers : status ≡ Done → Answers input text
+  -- with Done, the text says what the command is for
+  pub says : status ≡ Done → Says (command_of words) input text
   -- and the input was read to its end
   pub all_read : status ≡ Done → IsTrue (words_read (command_of words)) → IfSome before.left (λ _. after.left ≡ Some [])
 
--- the source failed, and nothing was written
+-- the source failed before it had given more than the command takes, and nothing was written
 pub record SourceFailed (words : List (List ℕ)) (before after : Ports) (status : Status) : Type 0 where
   pub is_read_fault : status ≡ ReadFault
-  pub reads : IsTrue (words_read (command_of words))
+  pub command : Command
+  pub named : command_of words ≡ Some command
+  pub reads : IsTrue (reads_input command)
   pub rose : Rose before.source_faults after.source_faults
+  pub taken : List ℕ
+  pub took : Consumes before.left after.left taken
+  pub within : length taken ≤ limit_of command
   pub nothing_written : Keeps before.written after.written
 
 -- the sink failed, or took nothing, after a front of the text that was owed but not the whole
@@ -57,7 +63,7 @@ pub record SinkFailed (words : List (List ℕ)) (before after : Ports) (status :
   pub not_whole : sent < length text
   pub written : Appends before.written after.written (take sent text)
 
--- there was no memory, and nothing was written
+-- for want of memory nothing was written
 pub record LackedMemory (words : List (List ℕ)) (before after : Ports) (status : Status) : Type 0 where
   pub is_memory : status ≡ Memory
   pub command : IsSome (command_of words)
@@ -72,7 +78,7 @@ pub record Runs (words : List (List ℕ)) (before after : Ports) (status : Statu
       ⊎ LackedMemory words before after status))
   -- Usage tells exactly of words that form no command, whatever the ports and the memory do
   pub usage : IsNone (command_of words) ↔ (status ≡ Usage)
-  -- a whole room that the sink tells stays as it was
+  -- the sink tells the same room as before, if it told one
   pub room_kept : KeepsRoom before.room after.room
-  -- more empty puts come only with WriteFault, and where the whole room is told only once it is full
+  -- a run counts an empty put only when it ends in WriteFault, and over a room that is told only when that is full
   pub empty_puts : before.empty_puts < after.empty_puts → (status ≡ WriteFault) × IsFull after.written after.room

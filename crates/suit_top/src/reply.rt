@@ -3,7 +3,7 @@ ghost use Rattle.std.specs.Prelude.{◌≡◌, ◌≤◌, [], Some, IfOk, IsErrO
 ghost use Rattle.suit_ports.specs.Counts.{Rose};
 ghost use Rattle.suit_top.specs.Dues.{due_for, due_within};
 ghost use Rattle.suit_top.specs.Commands.{limit_of};
-ghost use Rattle.suit_top.specs.Replies.{IsReply};
+ghost use Rattle.suit_top.specs.Replies.{Failed, IsReply};
 
 use crate::answer::answer_to;
 use crate::command::Command;
@@ -35,7 +35,8 @@ pub fn reply_to<S: Source>(
     source: &mut S,
 ) -> Result<Reply, ReplyEnd>
     ensures reply { IfOk result (IsReply command (S.left source.old) (S.left source.new)) }
-    ensures fault { IsErrOf result ReplyEnd.ReadFault → Rose (S.faults source.old) (S.faults source.new) }
+    ensures fault { IsErrOf result ReplyEnd.ReadFault
+        → Rose (S.faults source.old) (S.faults source.new) × Failed command (S.left source.old) (S.left source.new) }
 {
     match read_all(alloc, source, command.limit()) {
         Ok(input) => reply_within(alloc, command, &input).map_err(|_| ReplyEnd::Memory),

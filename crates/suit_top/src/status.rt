@@ -5,7 +5,7 @@ ghost use Rattle.suit_top.specs.Statuses.{code_of};
 /// How a run ended. Each has a number, with which the program ends.
 #[derive(Clone, Copy, Debug, PartialEq, Eq)]
 pub enum Status {
-    /// The command's text was written whole, and the input was read to its end.
+    /// All is well: the whole text is out, and nothing of the input is left.
     Done,
     /// The words form no command.
     Usage,
@@ -13,7 +13,7 @@ pub enum Status {
     ReadFault,
     /// The sink failed or took nothing, before the whole text was written.
     WriteFault,
-    /// There was no memory.
+    /// For want of memory nothing was written.
     Memory,
     /// The input has more bytes than the command takes.
     Long,

@@ -1,0 +1,5 @@
+use Rattle.suit_game.proofs.EnoughMoves.{pay_where_on}
+use Rattle.suit_game.proofs.laws.pay_where_on.Goals as goal
+
+pub returns : goal.returns
+returns c = pay_where_on

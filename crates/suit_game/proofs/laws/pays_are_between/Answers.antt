@@ -1,0 +1,5 @@
+use Rattle.suit_game.proofs.KeptPays.{pays_are_between}
+use Rattle.suit_game.proofs.laws.pays_are_between.Goals as goal
+
+pub returns : goal.returns
+returns c = pays_are_between

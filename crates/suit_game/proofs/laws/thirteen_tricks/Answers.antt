@@ -1,0 +1,5 @@
+use Rattle.suit_game.proofs.ReachedPlaces.{thirteen_tricks}
+use Rattle.suit_game.proofs.laws.thirteen_tricks.Goals as goal
+
+pub returns : goal.returns
+returns c = thirteen_tricks
