@@ -25,7 +25,7 @@ Contains-later x xs y (k, below, is) = (suc k, omega arith, is)
 pub Contains-map_from : {X Y : Type 0} (f : X → Y) (xs : List X) (y : Y) → Contains (map f xs) y → (x : X) × Contains xs x × (f x ≡ y)
 Contains-map_from f [] y found = absurd (Contains-nil y found)
 Contains-map_from f (x ∷ xs) y found = elim (Contains-cons_cases (f x) (map f xs) y found) [
-  inl here ↦ (x, Contains-first x xs, here)
+  | inl here ↦ (x, Contains-first x xs, here)
   | inr there ↦ let later = Contains-map_from f xs y there in (later.0, Contains-later x xs later.0 later.1, later.2)
 ]
 
@@ -49,7 +49,7 @@ less_kept true true x card xs ys same fewer less found = less found
 less_kept true false x card xs ys same fewer less found = omega arith
 less_kept false true x card xs ys same fewer less found = less found
 less_kept false false x card xs ys same fewer less found = elim (Contains-cons_cases x ys card found) [
-  inl here ↦ absurd (let other = same (sym here) in cc)
+  | inl here ↦ absurd (let other = same (sym here) in cc)
   | inr there ↦ let fewer_later = less there in omega arith
 ]
 

@@ -83,5 +83,5 @@ pays_are_between question declarer defence west history least most deal legal_hi
     payoffs = λ place come. omega (arith, (bounds place.won (thirteen_at question west place deal come)).1);
     moves = come_to_later question west;
     means = mean-most most 1;
-  }) 52 history (record { history = history; legal_history = legal_history; there = refl })
+  }) 52 history (record { history = history; legal_history = legal_history; there = refl }),
 )

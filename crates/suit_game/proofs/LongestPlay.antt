@@ -45,8 +45,12 @@ apart_fit : (here there : ℕ → Bool) (cards : List ℕ) → ((card : ℕ) →
     → length (filter here cards) + length (filter there cards) ≤ length cards
 apart_fit here there [] apart = omega arith
 apart_fit here there (card ∷ cards) apart =
-    omega (arith, length_if (here card) card (filter here cards), length_if (there card) card (filter there cards),
-        count_apart (here card) (there card) (length (filter here cards)) (length (filter there cards)) (length cards) (apart card) (apart_fit here there cards apart))
+    omega (
+      arith,
+      length_if (here card) card (filter here cards),
+      length_if (there card) card (filter there cards),
+      count_apart (here card) (there card) (length (filter here cards)) (length (filter there cards)) (length cards) (apart card) (apart_fit here there cards apart),
+    )
 
 any_step : (same later first others : Bool) → (same ≡ true → first ≡ true) → (later ≡ true → others ≡ true) → (same || later) ≡ true → (first || others) ≡ true
 any_step same later true others here there found = refl
@@ -72,8 +76,12 @@ pub holdings_fit : (north south : List ℕ) → IsHolding north → IsHolding so
     → length north + length south ≤ 13
 unfolding suit
 holdings_fit north south is_north is_south apart =
-    omega (arith, apart_fit (holds north) (holds south) suit (none_shared north south apart),
-        ap length (filter_suit-holds north is_north), ap length (filter_suit-holds south is_south))
+    omega (
+      arith,
+      apart_fit (holds north) (holds south) suit (none_shared north south apart),
+      ap length (filter_suit-holds north is_north),
+      ap length (filter_suit-holds south is_south),
+    )
 
 pub histories_are_short : (question : Question) (west : List ℕ) (history : List Move)
     → IsHolding question.north → IsHolding question.south → IsTrue (not (list_any (holds question.south) question.north))

@@ -20,7 +20,7 @@ Contains-if false xs y found = absurd (Contains-nil y found)
 pub lead_cases : (question : Question) (place : Place) (move : Move) → Contains (leads_at question place) move
     → ((card : ℕ) × Contains (hand question [] place N) card × (Lead N card ≡ move)) ⊎ ((card : ℕ) × Contains (hand question [] place S) card × (Lead S card ≡ move))
 lead_cases question place move found = elim (Contains-append_cases _ _ move found) [
-  inl north ↦ inl (Contains-map_from (Lead N) _ move (Contains-if (may_lead_n place) _ move north))
+  | inl north ↦ inl (Contains-map_from (Lead N) _ move (Contains-if (may_lead_n place) _ move north))
   | inr south ↦ inr (Contains-map_from (Lead S) _ move (Contains-if (may_lead_s place) _ move south))
 ]
 
@@ -41,7 +41,7 @@ room_passed question place turn (suc after) winner highest = refl
 
 room_either : (question : Question) (place : Place) (turn : Seat) (after : ℕ) (winner : Seat) (highest card : ℕ) (beaten : Bool)
     → room question (if beaten then passed_on question place turn after turn card else passed_on question place turn after winner highest)
-      ≡ 4 * cards_left question place + after
+    ≡ 4 * cards_left question place + after
 room_either question place turn after winner highest card true = room_passed question place turn after turn card
 room_either question place turn after winner highest card false = room_passed question place turn after winner highest
 
@@ -54,8 +54,11 @@ cards_left_more question place card =
 room_follows : (question : Question) (place : Place) (turn : Seat) (after : ℕ) (winner : Seat) (highest card : ℕ)
     → room question (followed question place turn after winner highest card) < 4 * cards_left question place + suc after
 room_follows question place turn after winner highest card =
-    omega (arith, room_either question (record place { gone = card ∷ place.gone }) turn after winner highest card (nat_lt highest card),
-        cards_left_more question place card)
+    omega (
+      arith,
+      room_either question (record place { gone = card ∷ place.gone }) turn after winner highest card (nat_lt highest card),
+      cards_left_more question place card,
+    )
 
 room_leads_n : (question : Question) (place : Place) (card : ℕ) → Contains (hand question [] place N) card
     → room question (led place N card) < 4 * cards_left question place + 0
@@ -72,13 +75,13 @@ room_in : (question : Question) (west : List ℕ) (place : Place) (trick : Trick
     → room question (step_in question place trick move) < 4 * cards_left question place + seats_left trick
 unfolding legal_in step_in
 room_in question west place Closed move found = elim (lead_cases question place move found) [
-  inl north ↦ subst (λ (m : Move). room question (step_in question place Closed m) < 4 * cards_left question place + 0) north.2
+  | inl north ↦ subst (λ (m : Move). room question (step_in question place Closed m) < 4 * cards_left question place + 0) north.2
       (room_leads_n question place north.0 north.1)
   | inr south ↦ subst (λ (m : Move). room question (step_in question place Closed m) < 4 * cards_left question place + 0) south.2
       (room_leads_s question place south.0 south.1)
 ]
 room_in question west place (Open turn after winner highest) move found = elim (follow_cases _ move found) [
-  inl card ↦ subst (λ (m : Move). room question (step_in question place (Open turn after winner highest) m) < 4 * cards_left question place + suc after) card.2
+  | inl card ↦ subst (λ (m : Move). room question (step_in question place (Open turn after winner highest) m) < 4 * cards_left question place + suc after) card.2
       (room_follows question place turn after winner highest card.0)
   | inr shown ↦ subst (λ (m : Move). room question (step_in question place (Open turn after winner highest) m) < 4 * cards_left question place + suc after) shown
       (omega (arith, room_passed question place turn after winner highest))
