@@ -1,14 +1,17 @@
-use Rattle.std.proofs.Common.{◌≡◌, ℕ, Bool, true, false, cond, List, [], ◌∷◌, map, refl}
+-- The moves that may be played, by the cards of the hand that plays.
+use Rattle.std.proofs.Common.{◌≡◌, ℕ, Bool, true, false, List, [], ◌∷◌, refl, subst, inl, inr}
 use Rattle.std.proofs.lemmas.Bool.{true≢false, false≢true}
 use Rattle.std.specs.List.{AllByRecursion}
 use Rattle.suit_cards.specs.declared.seats.Seat.TheVariants.{N, S}
 use Rattle.suit_cards.specs.Holdings.{holds}
+use Rattle.suit_cards.proofs.HeldRanks.{holds_tells}
 use Rattle.suit_game.specs.declared.question.Question.{Question}
 use Rattle.suit_game.specs.declared.moves.Move.{Move}
 use Rattle.suit_game.specs.declared.moves.Move.TheVariants.{Lead, Follow, ShowOut}
-use Rattle.suit_game.specs.Places.{Place, hand, may_lead_n, may_lead_s, leads_at, follows_of}
-use Rattle.suit_game.proofs.EachElement.{each_map, each_append}
+use Rattle.suit_game.specs.Places.{Place, hand, leads_at, follows_of}
+use Rattle.suit_game.proofs.EachElement.{each_map, each_in}
 use Rattle.suit_game.proofs.HeldCards.{IsFirst, holds-first, each_held}
+use Rattle.suit_game.proofs.LegalPlays.{lead_cases}
 use Rattle.suit_game.proofs.BoundedPays.{allowed_in, allowed_each}
 
 -- a card that may be followed with: one that is held, and the first where no other is allowed
@@ -26,18 +29,13 @@ each_follow P true true (first ∷ cards) out card =
     each_map P Follow (first ∷ cards) (each_held (λ (x : ℕ). P (Follow x)) (first ∷ cards) (λ x held. card x (held, λ _ e. absurd (true≢false e))))
 each_follow P true false (first ∷ cards) out card = (card first (holds-first first cards, λ _ _. refl), tt)
 
-each_if : (P : Move → Type 0) (b : Bool) (moves : List Move) → AllByRecursion P moves → AllByRecursion P (cond b moves [])
-each_if P true moves each = each
-each_if P false moves each = tt
-
 -- what holds of the lead of each card of North's and of South's holds of each lead
 pub each_lead : (P : Move → Type 0) (question : Question) (place : Place)
     → ((card : ℕ) → holds (hand question [] place N) card ≡ true → P (Lead N card))
     → ((card : ℕ) → holds (hand question [] place S) card ≡ true → P (Lead S card))
     → AllByRecursion P (leads_at question place)
 each_lead P question place north south =
-    each_append P (cond (may_lead_n place) (map (Lead N) (hand question [] place N)) []) (cond (may_lead_s place) (map (Lead S) (hand question [] place S)) [])
-    (each_if P (may_lead_n place) (map (Lead N) (hand question [] place N))
-    (each_map P (Lead N) (hand question [] place N) (each_held (λ (x : ℕ). P (Lead N x)) (hand question [] place N) north)))
-    (each_if P (may_lead_s place) (map (Lead S) (hand question [] place S))
-    (each_map P (Lead S) (hand question [] place S) (each_held (λ (x : ℕ). P (Lead S x)) (hand question [] place S) south)))
+    each_in P (leads_at question place) (λ move found. elim (lead_cases question place move found) [
+      | inl card ↦ subst P card.2 (north card.0 ((holds_tells (hand question [] place N) card.0).1 card.1))
+      | inr card ↦ subst P card.2 (south card.0 ((holds_tells (hand question [] place S) card.0).1 card.1))
+    ])

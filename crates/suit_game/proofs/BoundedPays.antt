@@ -1,13 +1,14 @@
+-- What holds of the payoffs that lines of play end with, and of means, holds of what the ways pay.
 use Rattle.std.proofs.Common.{◌≡◌, ℕ, zero, suc, ◌<◌, ◌≤◌, Bool, true, false, cond, List, [], ◌∷◌, ◌++◌, map, sym, ◌∙◌, subst, ◌⊎◌, inl, inr, arith}
 use Rattle.std.proofs.lemmas.Bool.{true≢false, cond_both}
-use Rattle.std.proofs.lemmas.List.Sums.{fold_push}
 use Rattle.std.specs.List.{AllByRecursion}
 use Rattle.suit_game.specs.declared.question.Question.{Question}
 use Rattle.suit_game.specs.declared.moves.Move.{Move}
 use Rattle.suit_game.specs.Fractions.{Fraction, whole, mean, total_weight}
-use Rattle.suit_game.specs.Places.{Place, start_place, after, step, legal_at, has_ended, payoff}
+use Rattle.suit_game.specs.Places.{Place, after, step, legal_at, has_ended, payoff}
 use Rattle.suit_game.specs.Strategies.{Way, DefenceWay, Weighed, chosen}
 use Rattle.suit_game.specs.Gains.{is_declarer_turn, played, pay_within}
+use Rattle.suit_game.proofs.LegalPlays.{after_move}
 use Rattle.suit_game.proofs.EachElement.{each_map, each_gives}
 use Rattle.suit_game.proofs.ChosenMoves.{first_of, first_of_each, chosen_each, chosen_first}
 use Rattle.suit_game.proofs.PayDenominators.{played-weight}
@@ -74,7 +75,7 @@ pay_step firsts Fine Good question declarer defence west carries first m n histo
     (λ (move : Move). Good (pay_within m question declarer defence west (history ++ move ∷ []))) (allowed firsts question west place)
     (λ move line. next (history ++ move ∷ [])
     (subst (λ (later : Place). Ends firsts Fine question west n later)
-    (sym (fold_push (step question) (start_place question) history move)) line))
+    (sym (after_move question history move)) line))
     each in
     carries.means _
     (each_map (λ item. Good item.1) (λ (choice : Weighed). (choice.0, pay_within m question declarer defence west (history ++ choice.1 ∷ []))) _

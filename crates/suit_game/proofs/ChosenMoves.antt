@@ -1,8 +1,11 @@
+-- What a side plays is among its legal moves, and has weight.
 use Rattle.std.proofs.Common.{◌≡◌, ℕ, zero, suc, ◌<◌, List, [], ◌∷◌, map, refl, arith}
+use Rattle.std.specs.Prelude.{Contains}
 use Rattle.std.specs.List.{AllByRecursion}
 use Rattle.suit_game.specs.declared.moves.Move.{Move}
 use Rattle.suit_game.specs.Fractions.{Fraction, total_weight}
 use Rattle.suit_game.specs.Strategies.{Weighed, kept, weighed, or_first, chosen}
+use Rattle.suit_game.proofs.EachElement.{each_at, each_contained}
 
 -- the first move alone
 abbrev pub first_of : List Move → List Move
@@ -37,6 +40,11 @@ pub chosen_each : (P : Move → Type 0) (weight_of : Move → ℕ) (moves : List
     → AllByRecursion P moves → AllByRecursion (λ choice. P choice.1) (chosen weight_of moves)
 chosen_each P weight_of moves each =
     or_first_each P (weighed weight_of moves) moves (weighed_each P weight_of moves each) (first_of_each P moves each)
+
+-- what is chosen among some moves is one of them
+pub chosen_from : (weight_of : Move → ℕ) (moves : List Move) (choice : Weighed) → Contains (chosen weight_of moves) choice → Contains moves choice.1
+chosen_from weight_of moves choice found =
+    each_at (λ (it : Weighed). Contains moves it.1) (chosen weight_of moves) choice (chosen_each (Contains moves) weight_of moves (each_contained moves)) found
 
 weighed-none : (weight_of : Move → ℕ) (moves : List Move) → ((move : Move) → weight_of move ≡ 0) → weighed weight_of moves ≡ []
 unfolding weighed

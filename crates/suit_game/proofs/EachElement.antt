@@ -1,5 +1,48 @@
-use Rattle.std.proofs.Common.{Bool, true, false, cond, List, [], ◌∷◌, ◌++◌, map}
+-- What is in a list, and what holds of each element of one.
+use Rattle.std.proofs.Common.{◌≡◌, zero, suc, ◌⊎◌, Bool, List, [], ◌∷◌, ◌++◌, map, refl, inl, inr, arith}
+use Rattle.std.specs.Prelude.{Contains}
 use Rattle.std.specs.List.{AllByRecursion, filter}
+use Rattle.std.proofs.lemmas.List.Elements.{All-contains, All-contains_itself, All-filter, All-from_recursion, recursion_from_All}
+
+-- an element of a list with a first one is the first, or one of the others
+pub Contains-cons_cases : {X : Type 0} (x : X) (xs : List X) (y : X) → Contains (x ∷ xs) y → (x ≡ y) ⊎ Contains xs y
+Contains-cons_cases x xs y (zero, below, is) = inl is
+Contains-cons_cases x xs y (suc k, below, is) = inr (k, omega arith, is)
+
+-- nothing is in no list
+pub Contains-nil : {X : Type 0} (y : X) → Contains {X = X} [] y → ⊥
+Contains-nil y (k, below, is) = omega arith
+
+-- the first is in a list, and so are the others
+pub Contains-first : {X : Type 0} (x : X) (xs : List X) → Contains (x ∷ xs) x
+Contains-first x xs = (0, omega arith, refl)
+
+pub Contains-later : {X : Type 0} (x : X) (xs : List X) (y : X) → Contains xs y → Contains (x ∷ xs) y
+Contains-later x xs y (k, below, is) = (suc k, omega arith, is)
+
+-- what a function makes of a list comes of its elements
+pub Contains-map_from : {X Y : Type 0} (f : X → Y) (xs : List X) (y : Y) → Contains (map f xs) y → (x : X) × Contains xs x × (f x ≡ y)
+Contains-map_from f [] y found = absurd (Contains-nil y found)
+Contains-map_from f (x ∷ xs) y found = elim (Contains-cons_cases (f x) (map f xs) y found) [
+  | inl here ↦ (x, Contains-first x xs, here)
+  | inr there ↦ let later = Contains-map_from f xs y there in (later.0, Contains-later x xs later.0 later.1, later.2)
+]
+
+-- two functions that agree on the elements of a list make the same list of it
+pub map_same : {X Y : Type 0} (f g : X → Y) (xs : List X) → ((x : X) → Contains xs x → f x ≡ g x) → map f xs ≡ map g xs
+map_same f g [] same = refl
+map_same f g (x ∷ xs) same =
+    let first : f x ≡ g x = same x (Contains-first x xs) in
+    let others : map f xs ≡ map g xs = map_same f g xs (λ y found. same y (Contains-later x xs y found)) in
+    cc
+
+-- each element of a list is in it
+pub each_contained : {X : Type 0} (xs : List X) → AllByRecursion (Contains xs) xs
+each_contained xs = recursion_from_All (Contains xs) xs (All-contains_itself xs)
+
+-- what holds of each element holds of one that is in the list
+pub each_at : {X : Type 0} (P : X → Type 0) (xs : List X) (x : X) → AllByRecursion P xs → Contains xs x → P x
+each_at P xs x each found = All-contains P xs x (All-from_recursion P xs each) found
 
 -- what holds of everything holds of each element
 pub each_of : {X : Type 0} (P : X → Type 0) (xs : List X) → ((x : X) → P x) → AllByRecursion P xs
@@ -10,6 +53,10 @@ each_of P (x ∷ xs) all = (all x, each_of P xs all)
 pub each_gives : {X : Type 0} (P Q : X → Type 0) (xs : List X) → ((x : X) → P x → Q x) → AllByRecursion P xs → AllByRecursion Q xs
 each_gives P Q [] gives each = tt
 each_gives P Q (x ∷ xs) gives each = (gives x each.0, each_gives P Q xs gives each.1)
+
+-- what holds of all that is in a list holds of each element
+pub each_in : {X : Type 0} (P : X → Type 0) (xs : List X) → ((x : X) → Contains xs x → P x) → AllByRecursion P xs
+each_in P xs all = each_gives (Contains xs) P xs all (each_contained xs)
 
 -- each element that a map gives
 pub each_map : {X Y : Type 0} (P : Y → Type 0) (f : X → Y) (xs : List X) → AllByRecursion (λ x. P (f x)) xs → AllByRecursion P (map f xs)
@@ -23,9 +70,4 @@ each_append P (x ∷ xs) ys each other = (each.0, each_append P xs ys each.1 oth
 
 -- each element that a filter keeps
 pub each_filter : {X : Type 0} (P : X → Type 0) (test : X → Bool) (xs : List X) → AllByRecursion P xs → AllByRecursion P (filter test xs)
-each_filter P test [] each = tt
-each_filter P test (x ∷ xs) each =
-    elim (test x) as (λ b. AllByRecursion P (cond b (x ∷ filter test xs) (filter test xs))) [
-      | true ↦ (each.0, each_filter P test xs each.1)
-      | false ↦ each_filter P test xs each.1
-    ]
+each_filter P test xs each = recursion_from_All P (filter test xs) (All-filter test P xs (All-from_recursion P xs each))

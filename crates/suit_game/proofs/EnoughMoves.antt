@@ -1,35 +1,28 @@
 -- Pay does not depend on how many moves are asked for, once they suffice.
-use Rattle.std.proofs.Common.{◌≡◌, ℕ, zero, suc, ◌+◌, ◌*◌, ◌≤◌, Bool, true, false, List, [], ◌∷◌, ◌++◌, length, refl, sym, ap, ◌∙◌, arith, IsTrue}
+use Rattle.std.proofs.Common.{◌≡◌, ℕ, zero, suc, ◌+◌, ◌*◌, ◌≤◌, true, false, List, [], ◌∷◌, ◌++◌, refl, sym, ap, ◌∙◌, arith, IsTrue}
 use Rattle.std.specs.Prelude.{map, not, Contains, if◌then◌else◌}
 use Rattle.std.specs.List.{list_any}
-use Rattle.std.proofs.lemmas.List.Sums.{fold_push}
+use Rattle.std.proofs.lemmas.List.{nil_from_length}
 use Rattle.suit_cards.specs.Holdings.{IsHolding, holds}
 use Rattle.suit_cards.specs.declared.seats.Seat.TheVariants.{N, S}
 use Rattle.suit_game.specs.declared.question.Question.{Question}
 use Rattle.suit_game.specs.declared.moves.Move.{Move}
-use Rattle.suit_game.specs.declared.moves.Move.TheVariants.{Lead}
 use Rattle.suit_game.specs.Fractions.{Fraction, whole, mean}
 use Rattle.suit_game.specs.Gains.{is_declarer_turn, played, pay_within, pay}
 use Rattle.suit_game.specs.Lengths.{cards_left, seats_left, room}
-use Rattle.suit_game.specs.Places.{Place, Trick, Closed, Open, hand, may_lead_n, may_lead_s, is_empty, start_place, step, after, legal, ended_in, has_ended, payoff, IsLegal}
+use Rattle.suit_game.specs.Places.{Place, Trick, Closed, Open, hand, is_empty, after, legal, ended_in, has_ended, payoff, IsLegal}
 use Rattle.suit_game.specs.Strategies.{Way, DefenceWay, Weighed}
-use Rattle.suit_game.proofs.ChosenAmong.{chosen_from, map_same}
+use Rattle.suit_game.proofs.ChosenMoves.{chosen_from}
+use Rattle.suit_game.proofs.EachElement.{map_same}
+use Rattle.suit_game.proofs.LegalPlays.{leads_at-none, after_move}
 use Rattle.suit_game.proofs.LongestPlay.{holdings_fit, histories_use_room}
 use Rattle.suit_game.proofs.Room.{room_falls}
-
-no_leads : (may_n may_s : Bool) (north south : List ℕ) → length north + length south ≤ 0
-    → is_empty ((if may_n then map (Lead N) north else []) ++ (if may_s then map (Lead S) south else [])) ≡ true
-no_leads true true [] [] none = refl
-no_leads true false [] [] none = refl
-no_leads false true [] [] none = refl
-no_leads false false [] [] none = refl
-no_leads may_n may_s [] (card ∷ south) none = absurd (omega arith)
-no_leads may_n may_s (card ∷ north) south none = absurd (omega arith)
 
 ended_in_no_room : (question : Question) (place : Place) (trick : Trick) → 4 * cards_left question place + seats_left trick ≤ 0
     → ended_in question place trick ≡ true
 ended_in_no_room question place Closed none =
-    no_leads (may_lead_n place) (may_lead_s place) (hand question [] place N) (hand question [] place S) (omega arith)
+    ap is_empty (leads_at-none question place
+    (nil_from_length (hand question [] place N) (omega arith)) (nil_from_length (hand question [] place S) (omega arith)))
 ended_in_no_room question place (Open turn after winner highest) none = absurd (omega arith)
 
 -- with no room left play has ended
@@ -43,7 +36,7 @@ room_after_move question west history move most found fits =
     omega (
       arith,
       room_falls question west (after question history) move found,
-      ap (room question) (fold_push (step question) (start_place question) history move),
+      ap (room question) (after_move question history move),
     )
 
 -- a move that is played is legal

@@ -1,9 +1,11 @@
-use Rattle.std.proofs.Common.{◌≡◌, ℕ, ◌≤◌, true, nat_le, List, [], length, inl, inr, arith}
+-- A bound for the pays under all layouts is one for the gain.
+use Rattle.std.proofs.Common.{◌≡◌, ℕ, ◌≤◌, true, nat_le, List, [], length, map, inl, inr, arith}
 use Rattle.std.proofs.lemmas.Bool.{cases_Bool, leb-true, le-leb}
+use Rattle.std.specs.List.{AllByRecursion}
 use Rattle.suit_game.specs.declared.question.Question.{Question}
 use Rattle.suit_game.specs.declared.question.Goal.{Goal}
 use Rattle.suit_game.specs.declared.question.Goal.TheVariants.{AtLeast, Tricks}
-use Rattle.suit_game.specs.Fractions.{IsAtLeast, IsAtMost}
+use Rattle.suit_game.specs.Fractions.{Fraction, IsAtLeast, IsAtMost}
 use Rattle.suit_game.specs.Layouts.{layouts, weight}
 use Rattle.suit_game.specs.Question.{missing}
 use Rattle.suit_game.specs.Places.{payoff}
@@ -24,21 +26,24 @@ payoff-grows (AtLeast least) fewer more order =
       | inr short ↦ rw short (omega arith)
     ]
 
+-- what holds of the pay under each layout holds of each item of the gain
+each_pay : (Good : Fraction → Type 0) (question : Question) (declarer : Way) (defence : DefenceWay)
+    → ((west : List ℕ) → IsPart 15 (missing question) west → Good (pay question declarer defence west []))
+    → AllByRecursion (λ (item : ℕ × Fraction). Good item.1) (map (λ (west : List ℕ). (weight question (length west), pay question declarer defence west [])) (layouts question))
+each_pay Good question declarer defence each =
+    each_map (λ (item : ℕ × Fraction). Good item.1) (λ (west : List ℕ). (weight question (length west), pay question declarer defence west [])) (layouts question)
+    (each_gives (IsPart 15 (missing question)) (λ (west : List ℕ). Good (pay question declarer defence west [])) (layouts question)
+    each (layouts-parts question))
+
 -- a bound for the pays under all layouts is one for the gain
 pub gain-least : (num den : ℕ) (question : Question) (declarer : Way) (defence : DefenceWay)
     → ((west : List ℕ) → IsPart 15 (missing question) west → IsAtLeast (pay question declarer defence west []) num den)
     → IsAtLeast (gain question declarer defence) num den
 gain-least num den question declarer defence each =
-    mean-least num den _
-    (each_map (λ item. IsAtLeast item.1 num den) (λ (west : List ℕ). (weight question (length west), pay question declarer defence west [])) _
-    (each_gives (IsPart 15 (missing question)) (λ (west : List ℕ). IsAtLeast (pay question declarer defence west []) num den) (layouts question)
-    each (layouts-parts question)))
+    mean-least num den _ (each_pay (λ fraction. IsAtLeast fraction num den) question declarer defence each)
 
 pub gain-most : (num den : ℕ) (question : Question) (declarer : Way) (defence : DefenceWay)
     → ((west : List ℕ) → IsPart 15 (missing question) west → IsAtMost (pay question declarer defence west []) num den)
     → IsAtMost (gain question declarer defence) num den
 gain-most num den question declarer defence each =
-    mean-most num den _
-    (each_map (λ item. IsAtMost item.1 num den) (λ (west : List ℕ). (weight question (length west), pay question declarer defence west [])) _
-    (each_gives (IsPart 15 (missing question)) (λ (west : List ℕ). IsAtMost (pay question declarer defence west []) num den) (layouts question)
-    each (layouts-parts question)))
+    mean-most num den _ (each_pay (λ fraction. IsAtMost fraction num den) question declarer defence each)

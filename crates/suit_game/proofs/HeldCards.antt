@@ -1,8 +1,13 @@
-use Rattle.std.proofs.Common.{◌≡◌, ℕ, suc, ◌<◌, ◌≤◌, Bool, true, false, cond, not, nat_eq, List, [], ◌∷◌, length, refl, sym, ◌∙◌, subst, inl, inr, arith}
-use Rattle.std.proofs.lemmas.Bool.{true≢false, false≢true, cases_Bool, or_cases, or_left, or_right, not-true, eq-eqb, eqb-true, false_from_ne_true}
+-- The cards that a list of ranks holds, that a filter keeps of it, and that are left of a hand as cards go.
+use Rattle.std.proofs.Common.{◌≡◌, ℕ, suc, ◌<◌, ◌≤◌, Bool, true, false, cond, not, nat_eq, List, [], ◌∷◌, length, refl, sym, ap, ◌∙◌, subst, inl, inr, arith}
+use Rattle.std.proofs.lemmas.Bool.{true≢false, false≢true, cases_lt, cases_eq, or_cases, or_parts, or_left, or_right, and_parts, and_from, not-true, not_from_false, eq-eqb, ne_eqb, eqb-true, eqb-false, false_from_ne_true}
+use Rattle.std.specs.Prelude.{◌||◌, ◌==◌, Contains}
 use Rattle.std.specs.List.{AllByRecursion, filter}
 use Rattle.suit_cards.specs.Holdings.{FallsBelow, holds}
+use Rattle.suit_cards.proofs.HeldRanks.{holds_tells}
+use Rattle.suit_cards.proofs.HeldSuits.{holds-above, holds-filter}
 use Rattle.suit_game.specs.Places.{without}
+use Rattle.suit_game.proofs.EachElement.{each_in, Contains-cons_cases, Contains-nil}
 
 -- a card that stands first is held
 pub holds-first : (card : ℕ) (cards : List ℕ) → holds (card ∷ cards) card ≡ true
@@ -10,49 +15,18 @@ holds-first card cards = or_left (nat_eq card card) (holds cards card) (eq-eqb c
 
 -- what holds of each card held holds of each card of the list
 pub each_held : (P : ℕ → Type 0) (cards : List ℕ) → ((card : ℕ) → holds cards card ≡ true → P card) → AllByRecursion P cards
-each_held P [] each = tt
-each_held P (first ∷ cards) each =
-    (each first (holds-first first cards), each_held P cards (λ card held. each card (or_right (nat_eq card first) (holds cards card) held)))
+each_held P cards each = each_in P cards (λ card found. each card ((holds_tells cards card).1 found))
 
 -- what a filter keeps is held, and passes
 pub holds-from_filter : (test : ℕ → Bool) (cards : List ℕ) (card : ℕ) → holds (filter test cards) card ≡ true
     → (holds cards card ≡ true) × (test card ≡ true)
-holds-from_filter test [] card held = absurd (false≢true held)
-holds-from_filter test (first ∷ cards) card held =
-    elim (cases_Bool (test first)) [
-      | inl passes ↦
-          let here : holds (first ∷ filter test cards) card ≡ true = rw passes at held in
-          elim (or_cases (nat_eq card first) (holds (filter test cards) card) here) [
-            | inl same ↦ (
-              or_left (nat_eq card first) (holds cards card) same,
-              subst (λ (x : ℕ). test x ≡ true) (sym (eqb-true card first same)) passes,
-            )
-            | inr later ↦
-                let rest = holds-from_filter test cards card later in
-                (or_right (nat_eq card first) (holds cards card) rest.0, rest.1)
-          ]
-      | inr fails ↦
-          let here : holds (filter test cards) card ≡ true = rw fails at held in
-          let rest = holds-from_filter test cards card here in
-          (or_right (nat_eq card first) (holds cards card) rest.0, rest.1)
-    ]
+holds-from_filter test cards card held = and_parts (holds cards card) (test card) (sym (holds-filter test cards card) ∙ held)
 
--- a card held that passes is kept
-pub holds-filter : (test : ℕ → Bool) (cards : List ℕ) (card : ℕ) → holds cards card ≡ true → test card ≡ true
-    → holds (filter test cards) card ≡ true
-holds-filter test [] card held passes = absurd (false≢true held)
-holds-filter test (first ∷ cards) card held passes =
-    elim (or_cases (nat_eq card first) (holds cards card) held) [
-      | inl same ↦
-          let first_passes : test first ≡ true = subst (λ (x : ℕ). test x ≡ true) (eqb-true card first same) passes in
-          rw first_passes (or_left (nat_eq card first) (holds (filter test cards) card) same)
-      | inr later ↦
-          let rest : holds (filter test cards) card ≡ true = holds-filter test cards card later passes in
-          elim (test first) as (λ b. holds (cond b (first ∷ filter test cards) (filter test cards)) card ≡ true) [
-            | true ↦ or_right (nat_eq card first) (holds (filter test cards) card) rest
-            | false ↦ rest
-          ]
-    ]
+-- no card is gone at first
+pub without-none : (cards : List ℕ) → without cards [] ≡ cards
+unfolding without
+without-none [] = refl
+without-none (card ∷ cards) = ap (λ (left : List ℕ). card ∷ left) (without-none cards)
 
 -- a card left in a hand was in it, and is not gone
 pub holds-from_without : (hand gone : List ℕ) (card : ℕ) → holds (without hand gone) card ≡ true
@@ -66,8 +40,9 @@ holds-from_without hand gone card held =
 pub holds-without : (hand gone : List ℕ) (card : ℕ) → holds hand card ≡ true → holds gone card ≡ false
     → holds (without hand gone) card ≡ true
 unfolding without
-holds-without hand gone card held there =
-    holds-filter (λ (x : ℕ). not (holds gone x)) hand card held (rw there refl)
+holds-without hand gone card held stays =
+    holds-filter (λ (x : ℕ). not (holds gone x)) hand card
+    ∙ and_from (holds hand card) (not (holds gone card)) held (not_from_false (holds gone card) stays)
 
 -- where nothing is held a list is empty
 pub empty_where_none : (cards : List ℕ) → ((card : ℕ) → holds cards card ≡ true → ⊥) → cards ≡ []
@@ -108,27 +83,79 @@ without-played hand gone card short held =
     let same : other ≡ card = one_card hand other card short parts.0 held in
     true≢false (sym (or_left (nat_eq other card) (holds gone other) (eq-eqb other card same)) ∙ parts.1))
 
--- what falls below a top falls below a higher one
-pub FallsBelow-higher : (top higher : ℕ) (cards : List ℕ) → top ≤ higher → FallsBelow top cards → FallsBelow higher cards
-FallsBelow-higher top higher [] up falls = tt
-FallsBelow-higher top higher (first ∷ cards) up falls = (falls.0, omega (arith, falls.1), falls.2)
+fewer_kept : (first held : Bool) (x : ℕ) (xs ys : List ℕ) → length xs ≤ length ys
+    → length (cond (not (first || held)) (x ∷ xs) xs) ≤ length (cond (not held) (x ∷ ys) ys)
+fewer_kept true true x xs ys fewer = fewer
+fewer_kept true false x xs ys fewer = omega arith
+fewer_kept false true x xs ys fewer = fewer
+fewer_kept false false x xs ys fewer = omega arith
 
--- what a filter keeps of a falling list falls
-pub FallsBelow-filter : (test : ℕ → Bool) (top : ℕ) (cards : List ℕ) → FallsBelow top cards → FallsBelow top (filter test cards)
-FallsBelow-filter test top [] falls = tt
-FallsBelow-filter test top (first ∷ cards) falls =
-    elim (test first) as (λ b. FallsBelow top (cond b (first ∷ filter test cards) (filter test cards))) [
-      | true ↦ (falls.0, falls.1, FallsBelow-filter test first cards falls.2)
-      | false ↦ FallsBelow-higher first top (filter test cards) (omega (arith, falls.1)) (FallsBelow-filter test first cards falls.2)
+-- a hand has no more cards once one more is gone
+pub length-without_more : (cards gone : List ℕ) (card : ℕ) → length (without cards (card ∷ gone)) ≤ length (without cards gone)
+unfolding without
+length-without_more [] gone card = omega arith
+length-without_more (x ∷ cards) gone card =
+    fewer_kept (x == card) (holds gone x) x (without cards (card ∷ gone)) (without cards gone) (length-without_more cards gone card)
+
+less_kept : (first held : Bool) (x card : ℕ) (xs ys : List ℕ) → (card ≡ x → first ≡ true) → length xs ≤ length ys → (Contains ys card → length xs < length ys)
+    → Contains (cond (not held) (x ∷ ys) ys) card → length (cond (not (first || held)) (x ∷ xs) xs) < length (cond (not held) (x ∷ ys) ys)
+less_kept true true x card xs ys same fewer less found = less found
+less_kept true false x card xs ys same fewer less found = omega arith
+less_kept false true x card xs ys same fewer less found = less found
+less_kept false false x card xs ys same fewer less found = elim (Contains-cons_cases x ys card found) [
+  | inl here ↦ absurd (let other = same (sym here) in cc)
+  | inr there ↦ let fewer_later = less there in omega arith
+]
+
+-- a hand has fewer cards once one that it had is gone
+pub length-without_less : (cards gone : List ℕ) (card : ℕ) → Contains (without cards gone) card
+    → length (without cards (card ∷ gone)) < length (without cards gone)
+unfolding without
+length-without_less [] gone card found = absurd (Contains-nil card found)
+length-without_less (x ∷ cards) gone card found =
+    less_kept (x == card) (holds gone x) x card (without cards (card ∷ gone)) (without cards gone) (λ same. eq-eqb x card (sym same))
+    (length-without_more cards gone card) (length-without_less cards gone card) found
+
+-- a hand stays as it is where a card goes that it never had
+pub without_away : (cards gone : List ℕ) (card : ℕ) → holds cards card ≡ false → without cards (card ∷ gone) ≡ without cards gone
+unfolding without
+without_away [] gone card away = refl
+without_away (x ∷ cards) gone card away =
+    let parts = or_parts (card == x) (holds cards card) away in
+    rw (ne_eqb x card (λ e. eqb-false card x parts.0 (sym e)), without_away cards gone card parts.1) refl
+
+one_kept : (held : Bool) (x : ℕ) (xs ys : List ℕ) → suc (length xs) ≡ length ys
+    → suc (length (cond (not held) (x ∷ xs) xs)) ≡ length (cond (not held) (x ∷ ys) ys)
+one_kept true x xs ys one = one
+one_kept false x xs ys one = ap suc one
+
+-- a hand has one card fewer where a card goes that it had
+pub length-without_one : (top : ℕ) (cards gone : List ℕ) (card : ℕ) → FallsBelow top cards → holds (without cards gone) card ≡ true
+    → suc (length (without cards (card ∷ gone))) ≡ length (without cards gone)
+unfolding without
+length-without_one top [] gone card falls held = absurd (cc)
+length-without_one top (x ∷ cards) gone card falls held =
+    let parts = holds-from_without (x ∷ cards) gone card held in
+    elim (cases_eq x card) [
+      | inl same ↦
+          let stays : holds gone x ≡ false = ap (holds gone) same ∙ parts.1 in
+          rw (eq-eqb x card same, stays, without_away cards gone card (holds-above x cards card falls.2 (omega arith))) refl
+      | inr differs ↦
+          let later : holds cards card ≡ true = elim (or_cases (card == x) (holds cards card) parts.0) [
+            | inl here ↦ absurd (differs (sym (eqb-true card x here)))
+            | inr there ↦ there
+          ] in
+          rw (ne_eqb x card differs)
+          (one_kept (holds gone x) x (without cards (card ∷ gone)) (without cards gone)
+          (length-without_one x cards gone card falls.2 (holds-without cards gone card later parts.1)))
     ]
 
 -- a card of a falling list is below the top
 pub holds-below : (top : ℕ) (cards : List ℕ) (card : ℕ) → FallsBelow top cards → holds cards card ≡ true → card < top
-holds-below top [] card falls held = absurd (false≢true held)
-holds-below top (first ∷ cards) card falls held =
-    elim (or_cases (nat_eq card first) (holds cards card) held) [
-      | inl same ↦ omega (arith, eqb-true card first same, falls.1)
-      | inr later ↦ omega (arith, holds-below first cards card falls.2 later, falls.1)
+holds-below top cards card falls held =
+    elim (cases_lt card top) [
+      | inl below ↦ below
+      | inr above ↦ absurd (true≢false (sym held ∙ holds-above top cards card falls above))
     ]
 
 -- the card that stands first

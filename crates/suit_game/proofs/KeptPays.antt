@@ -1,28 +1,20 @@
 -- What legal moves keep, and means keep, holds of every pay.
-use Rattle.std.proofs.Common.{◌≡◌, ℕ, zero, suc, ◌≤◌, ◌∷◌, ◌++◌, List, [], map, cond, refl, sym, ap, ◌∙◌, subst, arith}
+use Rattle.std.proofs.Common.{◌≡◌, ℕ, zero, suc, ◌≤◌, ◌∷◌, ◌++◌, List, [], cond, refl, sym, ap, ◌∙◌, subst, arith}
 use Rattle.std.specs.Prelude.{Contains}
 use Rattle.std.specs.List.{AllByRecursion}
 use Rattle.std.proofs.lemmas.Bool.{cond_both}
-use Rattle.std.proofs.lemmas.List.Sums.{fold_push}
 use Rattle.suit_game.specs.declared.question.Question.{Question}
 use Rattle.suit_game.specs.declared.moves.Move.{Move}
 use Rattle.suit_game.specs.Fractions.{Fraction, whole, mean, IsAtLeast, IsAtMost}
 use Rattle.suit_game.specs.Gains.{is_declarer_turn, pay, pay_within}
-use Rattle.suit_game.specs.Places.{Place, start_place, after, step, legal, legal_at, IsLegal, has_ended, payoff}
-use Rattle.suit_game.specs.Strategies.{Way, DefenceWay, Weighed, chosen}
+use Rattle.suit_game.specs.Places.{Place, after, step, legal, legal_at, IsLegal, has_ended, payoff}
+use Rattle.suit_game.specs.Strategies.{Way, DefenceWay, Weighed}
 use Rattle.suit_game.specs.Deals.{IsDeal}
-use Rattle.suit_game.proofs.LegalPlays.{legal_moves_extend}
+use Rattle.suit_game.proofs.LegalPlays.{after_move, legal_moves_extend}
 use Rattle.suit_game.proofs.ReachedPlaces.{thirteen_tricks}
 use Rattle.suit_game.proofs.WeightedMeans.{mean-least, mean-most}
 use Rattle.suit_game.proofs.ChosenMoves.{chosen_each}
-use Rattle.suit_game.proofs.EachElement.{each_gives, each_map}
-use Rattle.suit_game.proofs.Hands.{Contains-first, Contains-later}
-
--- each element of a list is in it
-pub each_contained : {X : Type 0} (xs : List X) → AllByRecursion (Contains xs) xs
-each_contained [] = tt
-each_contained (x ∷ xs) =
-    (Contains-first x xs, each_gives (Contains xs) (Contains (x ∷ xs)) xs (λ y found. Contains-later x xs y found) (each_contained xs))
+use Rattle.suit_game.proofs.EachElement.{each_in, each_map}
 
 -- a fact of positions that legal moves keep, and a fact of fractions that it gives of payoffs and that means keep
 pub record Keeps (question : Question) (west : List ℕ) (At : Place → Type 0) (Good : Fraction → Type 0) : Type 0 where
@@ -43,11 +35,9 @@ pay_within-kept question declarer defence west At Good keeps (suc n) history at 
     (each_map (λ item. Good item.1) (λ (choice : Weighed). (choice.0, pay_within n question declarer defence west (history ++ choice.1 ∷ []))) _
     (chosen_each (λ (move : Move). Good (pay_within n question declarer defence west (history ++ move ∷ [])))
     (cond (is_declarer_turn (after question history).trick) (declarer history) (defence west history)) (legal question west history)
-    (each_gives (Contains (legal question west history)) (λ (move : Move). Good (pay_within n question declarer defence west (history ++ move ∷ [])))
-    (legal question west history)
+    (each_in (λ (move : Move). Good (pay_within n question declarer defence west (history ++ move ∷ []))) (legal question west history)
     (λ move found. pay_within-kept question declarer defence west At Good keeps n (history ++ move ∷ [])
-    (subst At (sym (fold_push (step question) (start_place question) history move)) (keeps.moves (after question history) move at found)))
-    (each_contained (legal question west history))))))
+    (subst At (sym (after_move question history move)) (keeps.moves (after question history) move at found)))))))
 
 -- a position that legal play under a layout comes to
 pub record IsComeTo (question : Question) (west : List ℕ) (place : Place) : Type 0 where
@@ -61,7 +51,7 @@ come_to_later question west place move come found = record {
   history = come.history ++ move ∷ [];
   legal_history = legal_moves_extend question west come.history move come.legal_history
       (subst (λ (p : Place). Contains (legal_at question west p) move) (sym come.there) found);
-  there = fold_push (step question) (start_place question) come.history move ∙ ap (λ (p : Place). step question p move) come.there;
+  there = after_move question come.history move ∙ ap (λ (p : Place). step question p move) come.there;
 }
 
 thirteen_at : (question : Question) (west : List ℕ) (place : Place) → IsDeal question west → IsComeTo question west place → place.won ≤ 13

@@ -1,16 +1,24 @@
-use Rattle.std.proofs.Common.{◌≡◌, ℕ, ◌<◌, ◌≤◌, true, false, not, ◌||◌, nat_eq, List, [], ◌∷◌, length, map, refl, ◌∙◌, inl, inr, arith}
-use Rattle.std.proofs.lemmas.Bool.{or_cases, or_left, or_right, or_parts, or_from, not-true}
-use Rattle.std.specs.List.{AllByRecursion}
+-- The layouts: West's cards fall and are missing ones, and the missing cards are in neither hand of declarer.
+use Rattle.std.proofs.Common.{◌≡◌, ℕ, ◌<◌, ◌≤◌, true, false, not, ◌||◌, nat_eq, List, [], ◌∷◌, length, map, refl, sym, ◌∙◌, inl, inr, arith}
+use Rattle.std.proofs.lemmas.Bool.{true≢false, or_cases, or_left, or_right, or_parts, or_from, not-true}
+use Rattle.std.specs.Prelude.{IsTrue, Contains}
+use Rattle.std.specs.List.{AllByRecursion, list_any}
 use Rattle.suit_cards.specs.declared.seats.Seat.{Seat}
 use Rattle.suit_cards.specs.declared.seats.Seat.TheVariants.{N, E, S, W}
 use Rattle.suit_cards.specs.Holdings.{FallsBelow, IsHolding, holds, suit}
-use Rattle.suit_cards.proofs.SuitRuns.{IsHolding-filter_suit, holds-filter_suit}
+use Rattle.suit_cards.proofs.HeldSuits.{IsHolding-filter, IsHolding-others_of, holds-others_of}
 use Rattle.suit_game.specs.declared.question.Question.{Question}
+use Rattle.suit_game.specs.Deals.{IsDeal}
 use Rattle.suit_game.specs.Question.{missing}
 use Rattle.suit_game.specs.Layouts.{choices_of, layouts, is_west_length}
 use Rattle.suit_game.specs.Places.{without, dealt}
-use Rattle.suit_game.proofs.EachElement.{each_gives, each_map, each_append, each_filter}
-use Rattle.suit_game.proofs.HeldCards.{FallsBelow-higher, FallsBelow-filter, holds-from_filter, holds-from_without}
+use Rattle.suit_game.proofs.EachElement.{each_at, each_gives, each_map, each_append, each_filter}
+use Rattle.suit_game.proofs.HeldCards.{holds-from_filter, holds-from_without}
+
+-- what falls below a top falls below a higher one
+FallsBelow-higher : (top higher : ℕ) (cards : List ℕ) → top ≤ higher → FallsBelow top cards → FallsBelow higher cards
+FallsBelow-higher top higher [] up falls = tt
+FallsBelow-higher top higher (first ∷ cards) up falls = (falls.0, omega (arith, falls.1), falls.2)
 
 -- some of the cards, in their order, falling below a top
 pub record IsPart (top : ℕ) (cards taken : List ℕ) : Type 0 where
@@ -44,30 +52,36 @@ choices_of-parts top (first ∷ cards) falls =
     (each_gives (IsPart first cards) (IsPart top (first ∷ cards)) (choices_of cards)
     (λ taken part. part_without top first cards taken falls.1 part) (choices_of-parts first cards falls.2))
 
--- the missing cards fall
-pub missing-falls : (question : Question) → IsHolding (missing question)
-missing-falls question = IsHolding-filter_suit (λ rank. not (holds question.north rank || holds question.south rank))
-
 -- West's cards are missing ones, and fall
 pub layouts-parts : (question : Question) → AllByRecursion (IsPart 15 (missing question)) (layouts question)
 unfolding layouts
 layouts-parts question =
     each_filter (IsPart 15 (missing question)) (λ west. is_west_length question (length west)) (choices_of (missing question))
-    (choices_of-parts 15 (missing question) (missing-falls question))
+    (choices_of-parts 15 (missing question) (IsHolding-others_of question.north question.south))
 
--- a missing card is in neither declarer hand
+-- under a layout West's cards fall and are missing ones
+pub layouts_are_deals : (question : Question) (west : List ℕ)
+    → IsHolding question.north → IsHolding question.south → IsTrue (not (list_any (holds question.south) question.north))
+    → Contains (layouts question) west → IsDeal question west × IsHolding west
+layouts_are_deals question west north south apart found =
+    let part = each_at (IsPart 15 (missing question)) (layouts question) west (layouts-parts question) found in
+    (record { north = north; south = south; apart = apart; defenders = part.held }, part.falls)
+
+-- a missing card is in neither hand of declarer
 pub missing-apart : (question : Question) (card : ℕ) → holds (missing question) card ≡ true
-    → (holds question.north card ≡ false) × (holds question.south card ≡ false)
+    → (holds question.north card ≡ true → ⊥) × (holds question.south card ≡ true → ⊥)
 missing-apart question card held =
+    let neither : (holds question.north card ≡ false) × (holds question.south card ≡ false) =
     or_parts (holds question.north card) (holds question.south card)
     (not-true (holds question.north card || holds question.south card)
-    (holds-from_filter (λ rank. not (holds question.north rank || holds question.south rank)) suit card held).1)
+    (holds-from_filter (λ rank. not (holds question.north rank || holds question.south rank)) suit card held).1) in
+    (λ in_north. true≢false (sym in_north ∙ neither.0), λ in_south. true≢false (sym in_south ∙ neither.1))
 
 -- a card of the suit that is in neither is missing
 pub holds-missing : (question : Question) (card : ℕ) → 2 ≤ card → card < 15 → holds question.north card ≡ false → holds question.south card ≡ false
     → holds (missing question) card ≡ true
 holds-missing question card least below north south =
-    holds-filter_suit (λ rank. not (holds question.north rank || holds question.south rank)) card least below
+    holds-others_of question.north question.south card (least, omega arith)
     ∙ rw (or_from (holds question.north card) (holds question.south card) north south) refl
 
 -- each hand falls
@@ -75,7 +89,8 @@ pub dealt-falls : (question : Question) (west : List ℕ) → IsHolding question
     → (seat : Seat) → IsHolding (dealt question west seat)
 unfolding without
 dealt-falls question west north south part N = north
-dealt-falls question west north south part E = FallsBelow-filter (λ card. not (holds west card)) 15 (missing question) (missing-falls question)
+dealt-falls question west north south part E =
+    IsHolding-filter (λ card. not (holds west card)) (missing question) (IsHolding-others_of question.north question.south)
 dealt-falls question west north south part S = south
 dealt-falls question west north south part W = part.falls
 

@@ -1,14 +1,15 @@
 -- How many moves a history can have.
-use Rattle.std.proofs.Common.{◌≡◌, ℕ, suc, ◌+◌, ◌*◌, ◌≤◌, Bool, true, false, cond, List, [], ◌∷◌, length, refl, sym, ap, ◌∙◌, subst, arith, IsTrue}
-use Rattle.std.specs.Prelude.{◌||◌, ◌==◌, not, filter, fold}
+use Rattle.std.proofs.Common.{◌≡◌, ℕ, suc, ◌+◌, ◌*◌, ◌≤◌, Bool, true, false, cond, List, [], ◌∷◌, length, refl, ap, subst, arith, IsTrue}
+use Rattle.std.specs.Prelude.{not, filter, fold}
 use Rattle.std.specs.List.{list_any}
-use Rattle.std.proofs.lemmas.Bool.{eqb-true}
 use Rattle.suit_cards.specs.Holdings.{IsHolding, holds, suit}
+use Rattle.suit_cards.proofs.HeldRanks.{holds_tells, shares_tells}
 use Rattle.suit_cards.proofs.HeldSuits.{filter_suit-holds}
 use Rattle.suit_game.specs.declared.question.Question.{Question}
 use Rattle.suit_game.specs.declared.moves.Move.{Move}
-use Rattle.suit_game.specs.Places.{Place, without, start_place, step, after, LegalFrom, IsLegal}
+use Rattle.suit_game.specs.Places.{Place, start_place, step, after, LegalFrom, IsLegal}
 use Rattle.suit_game.specs.Lengths.{room}
+use Rattle.suit_game.proofs.HeldCards.{without-none}
 use Rattle.suit_game.proofs.Room.{room_falls}
 
 -- play on from a position uses up room, a move each
@@ -18,12 +19,6 @@ unfolding LegalFrom
 uses_room question west place [] legal = omega arith
 uses_room question west place (move ∷ moves) legal =
     omega (arith, room_falls question west place move legal.0, uses_room question west (step question place move) moves legal.1)
-
--- no card is gone at first
-pub without-none : (cards : List ℕ) → without cards [] ≡ cards
-unfolding without
-without-none [] = refl
-without-none (card ∷ cards) = ap (λ (l : List ℕ). card ∷ l) (without-none cards)
 
 pub histories_use_room : (question : Question) (west : List ℕ) (history : List Move) → IsLegal question west history
     → length history + room question (after question history) ≤ 4 * (length question.north + length question.south)
@@ -52,17 +47,11 @@ apart_fit here there (card ∷ cards) apart =
       count_apart (here card) (there card) (length (filter here cards)) (length (filter there cards)) (length cards) (apart card) (apart_fit here there cards apart),
     )
 
-any_step : (same later first others : Bool) → (same ≡ true → first ≡ true) → (later ≡ true → others ≡ true) → (same || later) ≡ true → (first || others) ≡ true
-any_step same later true others here there found = refl
-any_step true later false others here there found = absurd (let no = here refl in cc)
-any_step false later false others here there found = there found
-
 -- a card of both hands is shared
 shared_card : (here there : List ℕ) (card : ℕ) → holds here card ≡ true → holds there card ≡ true → list_any (holds there) here ≡ true
-shared_card [] there card in_here in_there = absurd (cc)
-shared_card (x ∷ here) there card in_here in_there =
-    any_step (card == x) (holds here card) (holds there x) (list_any (holds there) here)
-    (λ same. ap (holds there) (sym (eqb-true card x same)) ∙ in_there) (λ later. shared_card here there card later in_there) in_here
+shared_card here there card in_here in_there =
+    let stands = (holds_tells here card).0 in_here in
+    (shares_tells here there).1 (stands.0, card, stands.1, stands.2, (holds_tells there card).0 in_there)
 
 -- no card of one hand is in the other
 pub none_shared : (here there : List ℕ) → IsTrue (not (list_any (holds there) here)) → (card : ℕ) → holds here card ≡ true → holds there card ≡ true → ⊥

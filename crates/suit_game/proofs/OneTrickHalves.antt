@@ -1,8 +1,10 @@
-use Rattle.std.proofs.Common.{◌≡◌, ℕ, ◌<◌, ◌≤◌, Bool, true, false, cond, not, ◌&&◌, ◌||◌, nat_eq, List, [], ◌∷◌, length, refl, sym, ◌∙◌, subst, ◌⊎◌, inl, inr, arith}
-use Rattle.std.proofs.lemmas.Bool.{true≢false, cases_Bool, or_cases, or_parts, or_from, cases_eq, ne_eqb, false_from_ne_true}
+-- With one card at most in each hand of declarer, the value is the payoff of the sure trick: declarer earns it, and the defenders hold to it.
+use Rattle.std.proofs.Common.{◌≡◌, ℕ, ◌<◌, ◌≤◌, Bool, true, false, cond, not, ◌&&◌, ◌||◌, List, [], ◌∷◌, length, refl, sym, ◌∙◌, ◌⊎◌, inl, inr, arith}
+use Rattle.std.proofs.lemmas.Bool.{true≢false, cases_Bool, or_cases, or_parts, cases_eq, false_from_ne_true}
 use Rattle.suit_cards.specs.declared.seats.Seat.{Seat}
 use Rattle.suit_cards.specs.declared.seats.Seat.TheVariants.{N, E, S, W}
 use Rattle.suit_cards.specs.Holdings.{IsHolding, holds}
+use Rattle.suit_cards.proofs.HeldSuits.{IsHolding-filter}
 use Rattle.suit_game.specs.declared.question.Question.{Question}
 use Rattle.suit_game.specs.Fractions.{IsAtLeast, IsAtMost}
 use Rattle.suit_game.specs.Layouts.{total}
@@ -15,9 +17,9 @@ use Rattle.suit_game.specs.Gains.{is_declarer, pay}
 use Rattle.suit_game.proofs.WeightedMeans.{mean-least, mean-most}
 use Rattle.suit_game.proofs.PayDenominators.{gain-den}
 use Rattle.suit_game.proofs.BoundedPays.{PlaysFirst, Carries, pay_within_holds}
-use Rattle.suit_game.proofs.HeldCards.{holds-from_without, holds-without, one_card, FallsBelow-filter, holds-below, highest_first}
+use Rattle.suit_game.proofs.HeldCards.{holds-from_without, holds-without, one_card, holds-below, highest_first}
 use Rattle.suit_game.proofs.AllowedMoves.{IsPlayable}
-use Rattle.suit_game.proofs.TrickStates.{tally, comes, Stand, Free, Taken, Waiting}
+use Rattle.suit_game.proofs.TrickStates.{tally, comes, Stand, Free, Taken, Waiting, not_gone, not_the_ace}
 use Rattle.suit_game.proofs.OneTrickPlay.{AreSmall, one_trick_ends}
 use Rattle.suit_game.proofs.LayoutCards.{IsPart, missing-apart, holds-missing, dealt-falls, east-missing}
 use Rattle.suit_game.proofs.GainBounds.{payoff-grows, gain-least, gain-most}
@@ -29,23 +31,20 @@ are_small question west one part = record {
   low = λ seat card held. holds-below 15 (dealt question west seat) card (dealt-falls question west one.north one.south part seat) held;
 }
 
--- the defenders have no ace where declarer has it
+-- the ace is not missing where declarer has it
+ace_not_missing : (question : Question) → (holds question.north 14 ≡ true) ⊎ (holds question.south 14 ≡ true) → holds (missing question) 14 ≡ true → ⊥
+ace_not_missing question (inl north) held = (missing-apart question 14 held).0 north
+ace_not_missing question (inr south) held = (missing-apart question 14 held).1 south
+
+-- then neither defender has it
 west-none : (question : Question) (west : List ℕ) → IsPart 15 (missing question) west
     → (holds question.north 14 ≡ true) ⊎ (holds question.south 14 ≡ true) → holds west 14 ≡ false
-west-none question west part (inl north) =
-    false_from_ne_true (holds west 14) (λ held. true≢false (sym north ∙ (missing-apart question 14 (part.held 14 held)).0))
-west-none question west part (inr south) =
-    false_from_ne_true (holds west 14) (λ held. true≢false (sym south ∙ (missing-apart question 14 (part.held 14 held)).1))
+west-none question west part ace = false_from_ne_true (holds west 14) (λ held. ace_not_missing question ace (part.held 14 held))
 
 east-none : (question : Question) (west : List ℕ)
     → (holds question.north 14 ≡ true) ⊎ (holds question.south 14 ≡ true) → holds (dealt question west E) 14 ≡ false
-east-none question west (inl north) =
-    false_from_ne_true (holds (dealt question west E) 14) (λ held. true≢false (sym north ∙ (missing-apart question 14 (east-missing question west 14 held)).0))
-east-none question west (inr south) =
-    false_from_ne_true (holds (dealt question west E) 14) (λ held. true≢false (sym south ∙ (missing-apart question 14 (east-missing question west 14 held)).1))
-
-alone_not_gone : (card : ℕ) → (card ≡ 14 → ⊥) → holds (card ∷ []) 14 ≡ false
-alone_not_gone card differs = or_from (nat_eq 14 card) false (ne_eqb 14 card (λ e. differs (sym e))) refl
+east-none question west ace =
+    false_from_ne_true (holds (dealt question west E) 14) (λ held. ace_not_missing question ace (east-missing question west 14 held))
 
 -- after a lead, where declarer has the ace: the card led is the ace, or it is the only card of the hand across
 ace_stands : (firsts : Bool) (Fine : ℕ → Type 0) (question : Question) (west : List ℕ) (leader across : Seat) (card : ℕ)
@@ -73,7 +72,7 @@ ace_stands firsts Fine question west leader across card fine_leader fine_across 
                 one_card (dealt question west across) played 14 one_across
                 (holds-from_without (dealt question west across) gone played plays.0).0 has;
           })
-          (omega (arith, differs)) (alone_not_gone card differs) later
+          (omega (arith, differs)) (not_gone [] card differs refl) later
     ]
 
 others_none_n : (question : Question) (west : List ℕ) → IsPart 15 (missing question) west
@@ -179,7 +178,7 @@ forced_first : (question : Question) (west : List ℕ) (seat : Seat) → IsHoldi
 unfolding without
 forced_first question west seat falls has defends gone card kept plays =
     highest_first 14 (without (dealt question west seat) gone) card
-    (FallsBelow-filter (λ it. not (holds gone it)) 15 (dealt question west seat) falls)
+    (IsHolding-filter (λ it. not (holds gone it)) (dealt question west seat) falls)
     (holds-without (dealt question west seat) gone 14 has kept)
     (plays.1 refl defends)
 
@@ -214,7 +213,7 @@ defenders_stand Fine question west leader card one part fine north south low dif
             only = only_west question west north south held;
             forced = forced_first question west W (dealt-falls question west one.north one.south part W) held refl;
           })
-          (omega (arith, differs)) (alone_not_gone card differs) later_w
+          (omega (arith, differs)) (not_gone [] card differs refl) later_w
       | inr none ↦
           let has : holds (dealt question west E) 14 ≡ true =
           holds-without (missing question) west 14 (holds-missing question 14 (omega arith) (omega arith) north south) none in
@@ -225,36 +224,24 @@ defenders_stand Fine question west leader card one part fine north south low dif
             only = only_east question west north south none;
             forced = forced_first question west E (dealt-falls question west one.north one.south part E) has refl;
           })
-          (omega (arith, differs)) (alone_not_gone card differs) later_e
+          (omega (arith, differs)) (not_gone [] card differs refl) later_e
     ]
 
-not_the_ace : (cards : List ℕ) (card : ℕ) → holds cards card ≡ true → holds cards 14 ≡ false → card ≡ 14 → ⊥
-not_the_ace cards card held none same = true≢false (sym (subst (λ (x : ℕ). holds cards x ≡ true) same held) ∙ none)
-
-upper_n : (question : Question) (west : List ℕ) → IsOneTrick question → IsPart 15 (missing question) west
-    → has_ended question (start_place question) ≡ false → (card : ℕ) → holds question.north card ≡ true
-    → Stand true (λ won. won ≤ sure_tricks question) question west N 3 (card ∷ []) N card
-upper_n question west one part going card held =
+upper_led : (question : Question) (west : List ℕ) (leader : Seat) → IsOneTrick question → IsPart 15 (missing question) west
+    → IsHolding (dealt question west leader)
+    → (holds question.north 14 ≡ false → holds question.south 14 ≡ false → holds (dealt question west leader) 14 ≡ false)
+    → comes leader 3 E ≡ true → comes leader 3 W ≡ true
+    → has_ended question (start_place question) ≡ false → (card : ℕ) → holds (dealt question west leader) card ≡ true
+    → Stand true (λ won. won ≤ sure_tricks question) question west leader 3 (card ∷ []) leader card
+upper_led question west leader one part falls without_ace later_e later_w going card held =
     elim (cases_Bool (holds question.north 14 || holds question.south 14)) [
       | inl ace ↦ Free (λ seat. rw (sure-one question ace going) (tally-most seat))
       | inr none ↦
           let neither : (holds question.north 14 ≡ false) × (holds question.south 14 ≡ false) =
           or_parts (holds question.north 14) (holds question.south 14) none in
-          defenders_stand (λ won. won ≤ sure_tricks question) question west N card one part (rw (sure-none question none) (omega arith)) neither.0 neither.1
-          (holds-below 15 question.north card one.north held) (not_the_ace question.north card held neither.0) refl refl
-    ]
-
-upper_s : (question : Question) (west : List ℕ) → IsOneTrick question → IsPart 15 (missing question) west
-    → has_ended question (start_place question) ≡ false → (card : ℕ) → holds question.south card ≡ true
-    → Stand true (λ won. won ≤ sure_tricks question) question west S 3 (card ∷ []) S card
-upper_s question west one part going card held =
-    elim (cases_Bool (holds question.north 14 || holds question.south 14)) [
-      | inl ace ↦ Free (λ seat. rw (sure-one question ace going) (tally-most seat))
-      | inr none ↦
-          let neither : (holds question.north 14 ≡ false) × (holds question.south 14 ≡ false) =
-          or_parts (holds question.north 14) (holds question.south 14) none in
-          defenders_stand (λ won. won ≤ sure_tricks question) question west S card one part (rw (sure-none question none) (omega arith)) neither.0 neither.1
-          (holds-below 15 question.south card one.south held) (not_the_ace question.south card held neither.1) refl refl
+          defenders_stand (λ won. won ≤ sure_tricks question) question west leader card one part (rw (sure-none question none) (omega arith)) neither.0 neither.1
+          (holds-below 15 (dealt question west leader) card falls held)
+          (not_the_ace (dealt question west leader) card held (without_ace neither.0 neither.1)) later_e later_w
     ]
 
 plays_first : PlaysFirst true (by_defence_rows [])
@@ -269,8 +256,8 @@ pay-most question declarer west one part =
     question declarer (by_defence_rows []) west (carries_most question) plays_first 52 4 [] (omega arith)
     (one_trick_ends true (λ won. won ≤ sure_tricks question) question west (are_small question west one part)
     (λ over. omega arith)
-    (upper_n question west one part)
-    (upper_s question west one part))
+    (upper_led question west N one part one.north (λ north _. north) refl refl)
+    (upper_led question west S one part one.south (λ _ south. south) refl refl))
 
 -- a question of one trick is settled by a plan and a defence with no rows
 pub one_trick-settled : (question : Question) → IsOneTrick question → 0 < total question

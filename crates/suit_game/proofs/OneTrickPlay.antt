@@ -1,4 +1,5 @@
-use Rattle.std.proofs.Common.{◌≡◌, ℕ, zero, suc, ◌<◌, ◌≤◌, Bool, true, false, cond, List, [], ◌∷◌, ◌++◌, length, refl, ap, inl, inr}
+-- With one card at most in each hand of declarer, play ends with the first trick.
+use Rattle.std.proofs.Common.{◌≡◌, ℕ, zero, suc, ◌<◌, ◌≤◌, Bool, true, false, List, [], ◌∷◌, length, refl, ap, inl, inr}
 use Rattle.std.proofs.lemmas.Bool.{cases_Bool, cond_both, ltb-true, ltb-false}
 use Rattle.suit_cards.specs.declared.seats.Seat.{Seat}
 use Rattle.suit_cards.specs.declared.seats.Seat.TheVariants.{N, E, S, W}
@@ -8,23 +9,13 @@ use Rattle.suit_game.specs.declared.question.Question.{Question}
 use Rattle.suit_game.specs.declared.question.LeadAt.{LeadAt}
 use Rattle.suit_game.specs.declared.question.Entries.{Entries}
 use Rattle.suit_game.specs.declared.moves.Move.{Move}
-use Rattle.suit_game.specs.Places.{Place, Trick, Closed, Open, start_place, without, dealt, is_empty, may_lead_n, may_lead_s, leads_at, legal_in, ended_trick, passed_on, after_lead, step_in, step, has_ended}
+use Rattle.suit_game.specs.Places.{Place, Trick, Closed, Open, start_place, without, dealt, is_empty, leads_at, legal_in, ended_trick, passed_on, after_lead, step_in, step, has_ended}
 use Rattle.suit_game.specs.Gains.{is_declarer}
+use Rattle.suit_game.proofs.LegalPlays.{leads_at-none}
 use Rattle.suit_game.proofs.HeldCards.{holds-from_without, without-played}
 use Rattle.suit_game.proofs.BoundedPays.{allowed_each, IsOver, Ends}
 use Rattle.suit_game.proofs.AllowedMoves.{IsPlayable, each_follow, each_lead}
 use Rattle.suit_game.proofs.TrickStates.{tally, Stand, Stand-last, Stand-out, Stand-higher, Stand-lower, IsSpent, IsSpent-last, IsSpent-out, IsSpent-played}
-
-none_either : (b c : Bool) → cond {A = List Move} b [] [] ++ cond c [] [] ≡ []
-none_either true true = refl
-none_either true false = refl
-none_either false true = refl
-none_either false false = refl
-
--- two empty hands have no lead
-pub leads_at-none : (question : Question) (place : Place) → without question.north place.gone ≡ [] → without question.south place.gone ≡ []
-    → leads_at question place ≡ []
-leads_at-none question place north south = rw (north, south) (none_either (may_lead_n place) (may_lead_s place))
 
 -- a position in the only trick
 abbrev pub spot : LeadAt → Entries → Entries → List ℕ → Trick → Place

@@ -9,8 +9,9 @@ use Rattle.suit_game.specs.declared.moves.Move.{Move}
 use Rattle.suit_game.specs.Deals.{IsDeal}
 use Rattle.suit_game.specs.Places.{Place, Trick, Closed, Open, dealt, start_place, step, after, legal_at, LegalFrom, IsLegal}
 use Rattle.suit_game.specs.Reached.{seats_played, held_at_trick, IsTrickAt, IsReached}
-use Rattle.suit_game.proofs.Hands.{Contains-nil}
-use Rattle.suit_game.proofs.LongestPlay.{holdings_fit, without-none}
+use Rattle.suit_game.proofs.EachElement.{Contains-nil}
+use Rattle.suit_game.proofs.HeldCards.{without-none}
+use Rattle.suit_game.proofs.LongestPlay.{holdings_fit}
 use Rattle.suit_game.proofs.MovesCounted.{Counted, tricks_later, counted_later, held_later}
 use Rattle.suit_game.proofs.TricksReached.{own_at, once_later, from_hands_later, trick_later}
 

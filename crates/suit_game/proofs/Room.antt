@@ -1,34 +1,14 @@
 -- Each legal move leaves less room for further ones.
-use Rattle.std.proofs.Common.{◌≡◌, ℕ, zero, suc, ◌+◌, ◌*◌, ◌<◌, ◌≤◌, ◌⊎◌, Bool, true, false, cond, List, [], ◌∷◌, ◌++◌, length, refl, sym, ap, ◌∙◌, subst, inl, inr, arith}
-use Rattle.std.specs.Prelude.{map, Contains, nat_lt, if◌then◌else◌}
-use Rattle.std.proofs.lemmas.List.Elements.{Contains-append_cases}
+use Rattle.std.proofs.Common.{◌≡◌, ℕ, zero, suc, ◌+◌, ◌*◌, ◌<◌, ◌≤◌, Bool, true, false, List, [], ◌∷◌, refl, subst, inl, inr, arith}
+use Rattle.std.specs.Prelude.{Contains, nat_lt, if◌then◌else◌}
 use Rattle.suit_cards.specs.declared.seats.Seat.{Seat}
 use Rattle.suit_cards.specs.declared.seats.Seat.TheVariants.{N, E, S, W}
 use Rattle.suit_game.specs.declared.question.Question.{Question}
 use Rattle.suit_game.specs.declared.moves.Move.{Move}
-use Rattle.suit_game.specs.declared.moves.Move.TheVariants.{Lead, Follow, ShowOut}
-use Rattle.suit_game.specs.Places.{Place, Trick, Closed, Open, without, hand, may_lead_n, may_lead_s, leads_at, follows_of, legal_in, legal_at, step_in, step, led, followed, passed_on}
+use Rattle.suit_game.specs.Places.{Place, Trick, Closed, Open, hand, legal_in, legal_at, step_in, step, led, followed, passed_on}
 use Rattle.suit_game.specs.Lengths.{cards_left, seats_left, room}
-use Rattle.suit_game.proofs.Hands.{Contains-cons_cases, Contains-map_from, Contains-nil, length-without_more, length-without_less}
-
--- what a choice between a list and none contains is in the list
-pub Contains-if : {X : Type 0} (b : Bool) (xs : List X) (y : X) → Contains (if b then xs else []) y → Contains xs y
-Contains-if true xs y found = found
-Contains-if false xs y found = absurd (Contains-nil y found)
-
--- a lead is of a card that North holds, or South
-pub lead_cases : (question : Question) (place : Place) (move : Move) → Contains (leads_at question place) move
-    → ((card : ℕ) × Contains (hand question [] place N) card × (Lead N card ≡ move)) ⊎ ((card : ℕ) × Contains (hand question [] place S) card × (Lead S card ≡ move))
-lead_cases question place move found = elim (Contains-append_cases _ _ move found) [
-  | inl north ↦ inl (Contains-map_from (Lead N) _ move (Contains-if (may_lead_n place) _ move north))
-  | inr south ↦ inr (Contains-map_from (Lead S) _ move (Contains-if (may_lead_s place) _ move south))
-]
-
--- a follow is of a card of the hand, or shows out
-pub follow_cases : (cards : List ℕ) (move : Move) → Contains (follows_of cards) move
-    → ((card : ℕ) × Contains cards card × (Follow card ≡ move)) ⊎ (ShowOut ≡ move)
-follow_cases [] move found = elim (Contains-cons_cases ShowOut [] move found) [ inl here ↦ inr here | inr there ↦ absurd (Contains-nil move there) ]
-follow_cases (card ∷ cards) move found = inl (Contains-map_from Follow (card ∷ cards) move found)
+use Rattle.suit_game.proofs.LegalPlays.{lead_cases, follow_or_show}
+use Rattle.suit_game.proofs.HeldCards.{length-without_more, length-without_less}
 
 -- passing a trick on takes one seat from those left
 room_passed : (question : Question) (place : Place) (turn : Seat) (after : ℕ) (winner : Seat) (highest : ℕ)
@@ -80,10 +60,10 @@ room_in question west place Closed move found = elim (lead_cases question place 
   | inr south ↦ subst (λ (m : Move). room question (step_in question place Closed m) < 4 * cards_left question place + 0) south.2
       (room_leads_s question place south.0 south.1)
 ]
-room_in question west place (Open turn after winner highest) move found = elim (follow_cases _ move found) [
+room_in question west place (Open turn after winner highest) move found = elim (follow_or_show _ move found) [
   | inl card ↦ subst (λ (m : Move). room question (step_in question place (Open turn after winner highest) m) < 4 * cards_left question place + suc after) card.2
       (room_follows question place turn after winner highest card.0)
-  | inr shown ↦ subst (λ (m : Move). room question (step_in question place (Open turn after winner highest) m) < 4 * cards_left question place + suc after) shown
+  | inr none ↦ subst (λ (m : Move). room question (step_in question place (Open turn after winner highest) m) < 4 * cards_left question place + suc after) none.1
       (omega (arith, room_passed question place turn after winner highest))
 ]
 

@@ -1,4 +1,5 @@
-use Rattle.std.proofs.Common.{◌≡◌, ℕ, zero, suc, ◌<◌, ◌≤◌, Bool, true, false, ◌||◌, nat_eq, List, [], ◌∷◌, length, refl, sym, ◌∙◌, subst, ◌⊎◌, inl, inr, arith}
+-- Who may still win the trick in progress, and which hands are empty by its end.
+use Rattle.std.proofs.Common.{◌≡◌, ℕ, zero, suc, ◌<◌, ◌≤◌, Bool, true, false, nat_eq, List, [], ◌∷◌, length, refl, sym, ◌∙◌, subst, ◌⊎◌, inl, inr, arith}
 use Rattle.std.proofs.lemmas.Bool.{true≢false, false≢true, cases_Bool, or_cases, or_from, ne_eqb}
 use Rattle.suit_cards.specs.declared.seats.Seat.{Seat}
 use Rattle.suit_cards.specs.declared.seats.Seat.TheVariants.{N, E, S, W}
@@ -8,6 +9,7 @@ use Rattle.suit_game.specs.declared.question.Question.{Question}
 use Rattle.suit_game.specs.Places.{without, dealt}
 use Rattle.suit_game.specs.Strategies.{same_seat}
 use Rattle.suit_game.specs.Gains.{is_declarer}
+use Rattle.suit_game.specs.Reached.{is_to_play}
 use Rattle.suit_game.proofs.HeldCards.{holds-from_without, holds-without, without-more, without-played}
 use Rattle.suit_game.proofs.AllowedMoves.{IsPlayable}
 
@@ -28,7 +30,7 @@ tally W = 0
 -- whether a seat is among the next so many after another
 abbrev pub comes : Seat → ℕ → Seat → Bool
 comes turn zero seat = false
-comes turn (suc more) seat = same_seat (clockwise turn) seat || comes (clockwise turn) more seat
+comes turn (suc more) seat = is_to_play (clockwise turn) more seat
 
 -- a seat alone has the ace and must play it, and may win
 pub record HasAce (firsts : Bool) (Fine : ℕ → Type 0) (question : Question) (west : List ℕ) (seat : Seat) : Type 0 where
@@ -56,8 +58,9 @@ Stand-last firsts Fine question west turn gone winner highest (Waiting seat ace 
 
 coming_else : (turn : Seat) (more : ℕ) (seat : Seat) → same_seat (clockwise turn) seat ≡ false → comes turn (suc more) seat ≡ true
     → comes (clockwise turn) more seat ≡ true
-coming_else turn more seat other later =
-    elim (or_cases (same_seat (clockwise turn) seat) (comes (clockwise turn) more seat) later) [
+coming_else turn zero seat other later = absurd (false≢true (sym other ∙ later))
+coming_else turn (suc more) seat other later =
+    elim (or_cases (same_seat (clockwise turn) seat) (is_to_play (clockwise (clockwise turn)) more seat) later) [
       | inl same ↦ absurd (false≢true (sym other ∙ same))
       | inr rest ↦ rest
     ]
@@ -78,16 +81,19 @@ Stand-out firsts Fine question west turn more gone winner highest none (Waiting 
       | inr other ↦ Waiting seat ace low kept (coming_else turn more seat other later)
     ]
 
-not_gone : (gone : List ℕ) (card : ℕ) → (card ≡ 14 → ⊥) → holds gone 14 ≡ false → holds (card ∷ gone) 14 ≡ false
+-- the ace stays where another card goes
+pub not_gone : (gone : List ℕ) (card : ℕ) → (card ≡ 14 → ⊥) → holds gone 14 ≡ false → holds (card ∷ gone) 14 ≡ false
 not_gone gone card differs kept = or_from (nat_eq 14 card) (holds gone 14) (ne_eqb 14 card (λ e. differs (sym e))) kept
+
+-- a card of a hand without the ace is not the ace
+pub not_the_ace : (cards : List ℕ) (card : ℕ) → holds cards card ≡ true → holds cards 14 ≡ false → card ≡ 14 → ⊥
+not_the_ace cards card held none same = true≢false (sym (subst (λ (x : ℕ). holds cards x ≡ true) same held) ∙ none)
 
 not_ace : (firsts : Bool) (Fine : ℕ → Type 0) (question : Question) (west : List ℕ) (seat other : Seat) (gone : List ℕ) (card : ℕ)
     → HasAce firsts Fine question west seat → same_seat other seat ≡ false
     → holds (without (dealt question west other) gone) card ≡ true → card ≡ 14 → ⊥
-not_ace firsts Fine question west seat other gone card ace differs held same =
-    true≢false
-    (sym (subst (λ (x : ℕ). holds (dealt question west other) x ≡ true) same (holds-from_without (dealt question west other) gone card held).0)
-    ∙ ace.only other differs)
+not_ace firsts Fine question west seat other gone card ace differs held =
+    not_the_ace (dealt question west other) card (holds-from_without (dealt question west other) gone card held).0 (ace.only other differs)
 
 forced_by : (firsts : Bool) (Fine : ℕ → Type 0) (question : Question) (west : List ℕ) (seat other : Seat) (gone : List ℕ) (card : ℕ)
     → HasAce firsts Fine question west seat → same_seat other seat ≡ true → holds gone 14 ≡ false

@@ -3,26 +3,29 @@ use Rattle.std.proofs.Common.{◌≡◌, ℕ, zero, suc, ◌≤◌, Bool, true, 
 use Rattle.std.specs.Prelude.{◌==◌, Contains, nat_lt, if◌then◌else◌}
 use Rattle.std.specs.List.{IsDistinct, AllByRecursion}
 use Rattle.std.proofs.lemmas.Bool.{or_parts}
+use Rattle.std.proofs.lemmas.Map.Keys.{IsDistinct-cons}
 use Rattle.suit_cards.specs.declared.seats.Seat.{Seat}
 use Rattle.suit_cards.specs.declared.seats.Seat.TheVariants.{N, E, S, W}
 use Rattle.suit_cards.specs.Seats.{clockwise}
 use Rattle.suit_cards.specs.Holdings.{holds}
+use Rattle.suit_cards.proofs.HeldRanks.{holds_tells}
 use Rattle.suit_game.specs.declared.question.Question.{Question}
 use Rattle.suit_game.specs.declared.moves.Move.{Move}
 use Rattle.suit_game.specs.Gains.{is_declarer}
 use Rattle.suit_game.specs.Places.{Place, Trick, Closed, Open, without, dealt, hand, legal_in, legal_at, step_in, step, passed_on, ended_trick}
 use Rattle.suit_game.specs.Reached.{is_to_play, IsOpen, IsTrickAt}
 use Rattle.suit_game.specs.Strategies.{same_seat}
-use Rattle.suit_game.proofs.Hands.{Contains-cons_cases, Contains-first, Contains-later}
-use Rattle.suit_game.proofs.HandCards.{holds-from_Contains, Contains-from_holds, out_of_without}
+use Rattle.suit_game.proofs.EachElement.{Contains-cons_cases, Contains-first, Contains-later}
+use Rattle.suit_game.proofs.HeldCards.{holds-from_without}
 use Rattle.suit_game.proofs.OwnCards.{PlaysOwn}
-use Rattle.suit_game.proofs.Room.{lead_cases}
-use Rattle.suit_game.proofs.TurnsTaken.{follow_or_show, follow_plays_own, lead_opens}
+use Rattle.suit_game.proofs.LegalPlays.{lead_cases, follow_or_show}
+use Rattle.suit_game.proofs.TrickStates.{comes}
+use Rattle.suit_game.proofs.TurnsTaken.{follow_plays_own, lead_opens}
 
 -- a card that is left of a hand was dealt to it
 dealt_from_hand : (cards gone : List ℕ) (card : ℕ) → Contains (without cards gone) card → Contains cards card
 dealt_from_hand cards gone card found =
-    Contains-from_holds cards card (out_of_without cards gone card (holds-from_Contains (without cards gone) card found)).0
+    (holds_tells cards card).0 (holds-from_without cards gone card ((holds_tells (without cards gone) card).1 found)).0
 
 -- each legal move is by some seat, of its own cards
 pub own_at : (question : Question) (west : List ℕ) (place : Place) (trick : Trick) (move : Move) → place.trick ≡ trick
@@ -40,16 +43,13 @@ all_apart card (x ∷ gone) away =
     let parts = or_parts (card == x) (holds gone card) away in
     (parts.0, all_apart card gone parts.1)
 
-distinct_more : (card : ℕ) (gone : List ℕ) → IsDistinct (◌==◌) gone → holds gone card ≡ false → IsDistinct (◌==◌) (card ∷ gone)
-unfolding IsDistinct
-distinct_more card gone distinct away = (all_apart card gone away, distinct)
-
 -- no card goes twice
 pub once_later : (cards gone later : List ℕ) → IsDistinct (◌==◌) gone → PlaysOwn cards gone later → IsDistinct (◌==◌) later
 once_later cards gone later distinct plays = elim plays [
   | inl card ↦
       subst (λ (l : List ℕ). IsDistinct (◌==◌) l) (sym card.2)
-      (distinct_more card.0 gone distinct (out_of_without cards gone card.0 (holds-from_Contains (without cards gone) card.0 card.1)).1)
+      (IsDistinct-cons (◌==◌) card.0 gone
+      (all_apart card.0 gone (holds-from_without cards gone card.0 ((holds_tells (without cards gone) card.0).1 card.1)).1) distinct)
   | inr none ↦ subst (λ (l : List ℕ). IsDistinct (◌==◌) l) (sym none.1) distinct
 ]
 
@@ -65,19 +65,14 @@ from_hands_later question west gone later seat before plays other found = elim p
   | inr none ↦ before other (subst (λ (l : List ℕ). Contains l other) none.1 found)
 ]
 
--- after the next seat's turn has come, a seat is no longer to play
-IsDone : Seat → ℕ → Seat → Type 0
-IsDone turn zero seat = Unit {0}
-IsDone turn (suc after) seat = is_to_play (clockwise turn) after seat ≡ false
-
-done_before : (turn : Seat) (after : ℕ) (seat : Seat) → is_to_play turn after seat ≡ false → IsDone turn after seat
-unfolding IsDone
-done_before turn zero seat played = tt
+-- a seat that is no longer to play is not among the seats after the one on turn
+done_before : (turn : Seat) (after : ℕ) (seat : Seat) → is_to_play turn after seat ≡ false → comes turn after seat ≡ false
+done_before turn zero seat played = refl
 done_before turn (suc after) seat played = (or_parts (same_seat turn seat) (is_to_play (clockwise turn) after seat) played).1
 
-done_now : (turn : Seat) (after : ℕ) → after ≤ 2 → IsDone turn after turn
-unfolding IsDone
-done_now turn zero most = tt
+-- nor is the one on turn
+done_now : (turn : Seat) (after : ℕ) → after ≤ 2 → comes turn after turn ≡ false
+done_now turn zero most = refl
 done_now N (suc zero) most = refl
 done_now E (suc zero) most = refl
 done_now S (suc zero) most = refl
@@ -107,9 +102,8 @@ trick_ended question west place S = tt
 trick_ended question west place W = tt
 
 trick_passed : (question : Question) (west : List ℕ) (place : Place) (turn : Seat) (after : ℕ) (winner : Seat) (highest : ℕ)
-    → after ≤ 2 → is_declarer turn ≡ (after == 1) → Contains place.gone highest → Contains (dealt question west winner) highest → IsDone turn after winner
+    → after ≤ 2 → is_declarer turn ≡ (after == 1) → Contains place.gone highest → Contains (dealt question west winner) highest → comes turn after winner ≡ false
     → IsTrickAt question west (passed_on question place turn after winner highest).gone (passed_on question place turn after winner highest).trick
-unfolding IsDone
 trick_passed question west place turn zero winner highest most sides is_gone is_dealt done = trick_ended question west place winner
 trick_passed question west place turn (suc after) winner highest most sides is_gone is_dealt done = record {
   after_most = omega arith;

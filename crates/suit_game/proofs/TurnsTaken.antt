@@ -1,30 +1,22 @@
 -- What each legal move does to the trick in progress and to the hand that makes it.
-use Rattle.std.proofs.Common.{◌≡◌, ℕ, zero, suc, ◌+◌, ◌≤◌, ◌⊎◌, Bool, true, false, List, [], ◌∷◌, refl, sym, subst, inl, inr, arith}
+use Rattle.std.proofs.Common.{◌≡◌, ℕ, zero, suc, ◌+◌, ◌≤◌, ◌⊎◌, Bool, true, false, List, ◌∷◌, refl, sym, subst, inl, inr, arith}
 use Rattle.std.specs.Prelude.{Contains, nat_lt, if◌then◌else◌}
 use Rattle.suit_cards.specs.declared.seats.Seat.{Seat}
 use Rattle.suit_cards.specs.declared.seats.Seat.TheVariants.{N, E, S, W}
 use Rattle.suit_cards.specs.Seats.{clockwise}
 use Rattle.suit_game.specs.declared.question.Question.{Question}
 use Rattle.suit_game.specs.declared.moves.Move.{Move}
-use Rattle.suit_game.specs.declared.moves.Move.TheVariants.{Follow, ShowOut}
-use Rattle.suit_game.specs.Places.{Place, Trick, Closed, Open, dealt, hand, follows_of, legal_in, legal_at, step_in, step, followed, passed_on, ended_trick}
-use Rattle.suit_game.proofs.Hands.{Contains-cons_cases, Contains-map_from, Contains-nil}
+use Rattle.suit_game.specs.Places.{Place, Trick, Closed, Open, dealt, hand, legal_in, legal_at, step_in, step, followed, passed_on, ended_trick}
 use Rattle.suit_game.proofs.OwnCards.{PlaysOwn}
-use Rattle.suit_game.proofs.Room.{lead_cases}
-
--- a follow is of a card of the hand, or shows out where it has none
-pub follow_or_show : (cards : List ℕ) (move : Move) → Contains (follows_of cards) move
-    → ((card : ℕ) × Contains cards card × (Follow card ≡ move)) ⊎ ((cards ≡ []) × (ShowOut ≡ move))
-follow_or_show [] move found = elim (Contains-cons_cases ShowOut [] move found) [ inl here ↦ inr (refl, here) | inr there ↦ absurd (Contains-nil move there) ]
-follow_or_show (card ∷ cards) move found = inl (Contains-map_from Follow (card ∷ cards) move found)
+use Rattle.suit_game.proofs.LegalPlays.{lead_cases, follow_or_show}
 
 -- the next seat is on turn, so many come after it, and no trick is won
 abbrev pub IsPassed : (place later : Place) (turn : Seat) (after : ℕ) → Type 0
 IsPassed place later turn after = ((winner : Seat) × (highest : ℕ) × (later.trick ≡ Open turn after winner highest)) × (later.won ≡ place.won)
 
 -- the trick is over, and declarer won it or not
-abbrev pub IsOver : (place later : Place) → Type 0
-IsOver place later = (later.trick ≡ Closed) × (place.won ≤ later.won) × (later.won ≤ place.won + 1)
+abbrev pub IsTrickOver : (place later : Place) → Type 0
+IsTrickOver place later = (later.trick ≡ Closed) × (place.won ≤ later.won) × (later.won ≤ place.won + 1)
 
 gone_ended : (question : Question) (place : Place) (winner : Seat) → (ended_trick question place winner).gone ≡ place.gone
 gone_ended question place N = refl
@@ -55,14 +47,14 @@ passed_either : (question : Question) (place : Place) (turn : Seat) (after : ℕ
 passed_either question place turn after winner highest card true = ((turn, card, refl), refl)
 passed_either question place turn after winner highest card false = ((winner, highest, refl), refl)
 
-over_ended : (question : Question) (place : Place) (winner : Seat) → IsOver place (ended_trick question place winner)
+over_ended : (question : Question) (place : Place) (winner : Seat) → IsTrickOver place (ended_trick question place winner)
 over_ended question place N = (refl, omega arith, omega arith)
 over_ended question place E = (refl, omega arith, omega arith)
 over_ended question place S = (refl, omega arith, omega arith)
 over_ended question place W = (refl, omega arith, omega arith)
 
 over_either : (question : Question) (place : Place) (turn winner : Seat) (highest card : ℕ) (beaten : Bool)
-    → IsOver place (if beaten then passed_on question place turn zero turn card else passed_on question place turn zero winner highest)
+    → IsTrickOver place (if beaten then passed_on question place turn zero turn card else passed_on question place turn zero winner highest)
 over_either question place turn winner highest card true = over_ended question place turn
 over_either question place turn winner highest card false = over_ended question place winner
 
@@ -91,12 +83,12 @@ passed_in question west place turn after winner highest move found = elim (follo
 
 over_in : (question : Question) (west : List ℕ) (place : Place) (turn winner : Seat) (highest : ℕ) (move : Move)
     → Contains (legal_in question west place (Open turn zero winner highest)) move
-    → IsOver place (step_in question place (Open turn zero winner highest) move)
+    → IsTrickOver place (step_in question place (Open turn zero winner highest) move)
 unfolding legal_in step_in
 over_in question west place turn winner highest move found = elim (follow_or_show (hand question west place turn) move found) [
-  | inl card ↦ subst (λ (m : Move). IsOver place (step_in question place (Open turn zero winner highest) m)) card.2
+  | inl card ↦ subst (λ (m : Move). IsTrickOver place (step_in question place (Open turn zero winner highest) m)) card.2
       (over_either question (record place { gone = card.0 ∷ place.gone }) turn winner highest card.0 (nat_lt highest card.0))
-  | inr none ↦ subst (λ (m : Move). IsOver place (step_in question place (Open turn zero winner highest) m)) none.1
+  | inr none ↦ subst (λ (m : Move). IsTrickOver place (step_in question place (Open turn zero winner highest) m)) none.1
       (over_ended question place winner)
 ]
 
@@ -121,9 +113,9 @@ follow_passes question west place turn after winner highest move is =
 
 -- the last follow ends the trick
 pub last_ends : (question : Question) (west : List ℕ) (place : Place) (turn winner : Seat) (highest : ℕ) (move : Move)
-    → place.trick ≡ Open turn zero winner highest → Contains (legal_at question west place) move → IsOver place (step question place move)
+    → place.trick ≡ Open turn zero winner highest → Contains (legal_at question west place) move → IsTrickOver place (step question place move)
 last_ends question west place turn winner highest move is =
-    subst (λ (t : Trick). Contains (legal_in question west place t) move → IsOver place (step_in question place t move)) (sym is)
+    subst (λ (t : Trick). Contains (legal_in question west place t) move → IsTrickOver place (step_in question place t move)) (sym is)
     (over_in question west place turn winner highest move)
 
 -- a follow is by the hand on turn

@@ -1,3 +1,4 @@
+-- Weighted means: their denominators, and bounds of them.
 use Rattle.std.proofs.Common.{ℕ, ◌+◌, ◌*◌, ◌<◌, ◌≤◌, List, [], ◌∷◌, arith}
 use Rattle.std.proofs.Math.Nat.{mul-le-mul_left, mul-pos}
 use Rattle.std.specs.List.{AllByRecursion}

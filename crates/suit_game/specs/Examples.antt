@@ -1,6 +1,6 @@
 -- Worked examples: questions, strategies and what they come to, written down by hand.
 use Rattle.std.specs.Prelude.{◌≡◌, ℕ, List, [], ◌∷◌, ◌++◌, ℤ, pos, negsuc, map}
-use Rattle.suit_cards.specs.declared.seats.Seat.TheVariants.{N, E, S, W}
+use Rattle.suit_cards.specs.declared.seats.Seat.TheVariants.{N, S}
 use Rattle.suit_game.specs.declared.question.Question.{Question}
 use Rattle.suit_game.specs.declared.question.LeadAt.TheVariants as leads
 use Rattle.suit_game.specs.declared.question.Entries.TheVariants.{Count, Free}

@@ -6,7 +6,7 @@ use Rattle.suit_game.specs.declared.question.Question.{Question}
 use Rattle.suit_game.specs.declared.moves.Move.{Move}
 use Rattle.suit_game.specs.Fractions.{Fraction, whole, mean}
 use Rattle.suit_game.specs.Layouts.{layouts, weight}
-use Rattle.suit_game.specs.Places.{Place, Trick, Closed, Open, after, legal, has_ended, payoff}
+use Rattle.suit_game.specs.Places.{Trick, Closed, Open, after, legal, has_ended, payoff}
 use Rattle.suit_game.specs.Strategies.{Way, DefenceWay, Weighed, chosen}
 
 -- whether a seat is declarer's

@@ -1,6 +1,5 @@
 -- How long play can go on.
 use Rattle.std.specs.Prelude.{ℕ, suc, ◌+◌, ◌*◌, [], length}
-use Rattle.suit_cards.specs.declared.seats.Seat.{Seat}
 use Rattle.suit_cards.specs.declared.seats.Seat.TheVariants.{N, S}
 use Rattle.suit_game.specs.declared.question.Question.{Question}
 use Rattle.suit_game.specs.Places.{Place, Trick, Closed, Open, hand}

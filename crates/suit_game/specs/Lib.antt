@@ -13,3 +13,4 @@ pub mod Reached
 pub mod Settled
 pub mod Strategies
 pub mod Validity
+pub mod Weights

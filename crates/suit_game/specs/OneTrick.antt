@@ -1,5 +1,5 @@
 -- Questions with at most one card in each declarer hand: there is one trick at most, and the ace wins it.
-use Rattle.std.specs.Prelude.{ℕ, ◌≤◌, ◌&&◌, ◌||◌, not, Bool, List, length, if◌then◌else◌}
+use Rattle.std.specs.Prelude.{ℕ, ◌≤◌, ◌&&◌, ◌||◌, not, length, if◌then◌else◌}
 use Rattle.suit_cards.specs.Holdings.{IsHolding, holds}
 use Rattle.suit_game.specs.declared.question.Question.{Question}
 use Rattle.suit_game.specs.Places.{start_place, has_ended, payoff}

@@ -1,5 +1,5 @@
 -- Which questions make sense.
-use Rattle.std.specs.Prelude.{ℕ, ◌+◌, ◌<◌, ◌≤◌, ◌≢◌, Bool, not, List, length, IsTrue}
+use Rattle.std.specs.Prelude.{◌+◌, ◌<◌, ◌≤◌, not, length, IsTrue}
 use Rattle.std.specs.List.{list_any}
 use Rattle.suit_cards.specs.Holdings.{IsHolding, holds}
 use Rattle.suit_game.specs.declared.question.Question.{Question}

@@ -1,4 +1,4 @@
-//! The question that a player asks, and what a call on several threads is given.
+//! The question that a player asks, the game of single cards that it is about, and the laws of that game.
 #![tactic(auto)]
 
 pub mod examples;
@@ -9,7 +9,11 @@ mod question;
 mod sharing;
 #[cfg(test)]
 mod tests;
+mod validity;
+pub mod weight_laws;
+mod weights;
 
 pub use gate::{Gate, OpenGate};
 pub use moves::Move;
 pub use question::{Entries, Goal, LeadAt, Question};
+pub use weights::{total, weight};

@@ -1,5 +1,5 @@
 //! What tasks on several threads share and hand over.
-use super::{Entries, Goal, LeadAt, OpenGate, Question};
+use super::{Entries, Goal, LeadAt, Move, OpenGate, Question};
 use suit_cards::{Holding, Rank, Seat};
 
 fn shared<T: Send + Sync>() {}
@@ -13,5 +13,6 @@ pub fn questions_are_shared() {
     shared::<LeadAt>();
     shared::<Entries>();
     shared::<Goal>();
+    shared::<Move>();
     shared::<OpenGate>();
 }

@@ -1,5 +1,5 @@
 -- What a sink in memory holds, and what a put leaves.
-use Rattle.std.specs.Prelude.{ℕ, ◌+◌, ◌-◌, ◌^◌, List, ◌++◌, Bool, ◌&&◌, ◌==◌, nat_lt, length, min, take, if◌then◌else◌}
+use Rattle.std.specs.Prelude.{ℕ, ◌+◌, ◌-◌, ◌^◌, List, ◌++◌, ◌&&◌, ◌==◌, nat_lt, length, min, take, if◌then◌else◌}
 
 -- the bytes written, how many it can hold in all, and how many puts took no byte of some
 pub record Held : Type 0 where

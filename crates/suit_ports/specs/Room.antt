@@ -1,6 +1,5 @@
 -- The whole room of a sink, and puts that find none left.
 use Rattle.std.specs.Prelude.{◌≡◌, ℕ, ◌<◌, List, Option, None, Some, IfSome, Result, Ok, length, ⊤}
-use Rattle.suit_ports.specs.Counts.{Rose}
 
 -- who tells a room goes on telling the same
 abbrev pub KeepsRoom : Option ℕ → Option ℕ → Type 0

@@ -15,9 +15,9 @@ use Rattle.suit_top.specs.declared.command.Command.{Command}
 use Rattle.suit_top.specs.declared.command.Command.TheVariants.{Solve}
 use Rattle.suit_top.specs.declared.reply.Reply.{Reply}
 use Rattle.suit_top.specs.declared.status.Status.{Status}
-use Rattle.suit_top.specs.declared.status.Status.TheVariants.{Done, Usage, WriteFault, Long, NotBuilt}
+use Rattle.suit_top.specs.declared.status.Status.TheVariants.{Done, Usage, WriteFault, Long}
 use Rattle.suit_top.specs.Answers.{Answers, Says}
-use Rattle.suit_top.specs.Commands.{command_of, reads_input, words_read, limit_of}
+use Rattle.suit_top.specs.Commands.{command_of, reads_input, limit_of}
 use Rattle.suit_top.specs.Dues.{Due, due_for, due_within, solved, silent}
 use Rattle.suit_top.specs.FourLines.{question_read}
 use Rattle.suit_top.specs.Owing.{Owes}

@@ -1,12 +1,11 @@
 -- Whether a lead is legal at the start.
-use Rattle.std.proofs.Common.{◌≡◌, ℕ, Bool, true, false, cond, List, [], ◌∷◌, ◌++◌, refl, sym, ap, ◌∙◌, IsTrue}
+use Rattle.std.proofs.Common.{◌≡◌, ℕ, Bool, true, false, List, [], ◌∷◌, ◌++◌, refl, sym, ap, ◌∙◌, IsTrue}
 use Rattle.std.specs.Prelude.{◌||◌, ◌&&◌, ◌↔◌, not, map, if◌then◌else◌}
 use Rattle.suit_cards.specs.declared.seats.Seat.TheVariants.{N, S}
 use Rattle.suit_game.specs.declared.question.Question.{Question}
-use Rattle.suit_game.specs.declared.moves.Move.{Move}
 use Rattle.suit_game.specs.declared.moves.Move.TheVariants.{Lead}
-use Rattle.suit_game.specs.Places.{start_place, has_ended, hand, is_empty, may_lead_n, may_lead_s, without}
-use Rattle.suit_game.proofs.LongestPlay.{without-none}
+use Rattle.suit_game.specs.Places.{start_place, has_ended, hand, is_empty, may_lead_n, may_lead_s}
+use Rattle.suit_game.proofs.HeldCards.{without-none}
 
 -- a list joined of two is empty where both are
 empty-append : {X : Type 0} (xs ys : List X) → is_empty (xs ++ ys) ≡ (is_empty xs && is_empty ys)

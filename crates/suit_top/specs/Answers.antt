@@ -1,7 +1,6 @@
 -- The answer to a question with at most one card in each declarer hand.
 use Rattle.std.specs.Prelude.{◌≡◌, ℕ, zero, suc, List, [], Option, None, Some, codes}
 use Rattle.suit_game.specs.declared.question.Question.{Question}
-use Rattle.suit_game.specs.OneTrick.{one_trick_value}
 use Rattle.suit_game.specs.Settled.{Settles}
 use Rattle.suit_game.specs.Strategies.{by_rows, by_defence_rows}
 use Rattle.suit_top.specs.declared.command.Command.{Command}

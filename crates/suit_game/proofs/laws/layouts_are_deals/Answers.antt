@@ -1,4 +1,4 @@
-use Rattle.suit_game.proofs.LayoutDeals.{layouts_are_deals}
+use Rattle.suit_game.proofs.LayoutCards.{layouts_are_deals}
 use Rattle.suit_game.proofs.laws.layouts_are_deals.Goals as goal
 
 pub returns : goal.returns

@@ -1,5 +1,5 @@
 -- The front that was copied is the front of what was left.
-use Rattle.std.proofs.Common.{◌≡◌, ℕ, ◌+◌, ◌-◌, ◌≤◌, ◌<◌, ◌++◌, List, [], length, take, drop, sym, ap, ◌∙◌, subst, arith, length-append, length-drop, min}
+use Rattle.std.proofs.Common.{◌≡◌, ℕ, ◌+◌, ◌-◌, ◌≤◌, ◌++◌, List, length, take, drop, sym, ap, ◌∙◌, subst, arith, length-append, length-drop, min}
 use Rattle.std.proofs.lemmas.List.{drop-drop, drop_all, take_all, length-take, length-take-le, take-append-drop}
 use Rattle.std.proofs.Math.Seq.{take-append_seam}
 use Rattle.suit_ports.proofs.sure.SureSourceSource.take.Goals as goal

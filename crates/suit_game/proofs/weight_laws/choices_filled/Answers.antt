@@ -1,0 +1,5 @@
+use Rattle.suit_game.proofs.FilledPlaces.{choices_filled}
+use Rattle.suit_game.proofs.weight_laws.choices_filled.Goals as goal
+
+pub returns : goal.returns
+returns c = choices_filled
