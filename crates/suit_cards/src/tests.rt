@@ -34,7 +34,7 @@ fn tells_the_first_fault(rt: HostRuntime) {
         ("0", CardFault::NotRank { at: 0 }),
         ("AtT", CardFault::Twice { at: 2 }),
         ("1010", CardFault::Twice { at: 2 }),
-        ("T10", CardFault::Twice { at: 1 }),
+        ("t10", CardFault::Twice { at: 1 }),
         ("KKx", CardFault::Twice { at: 1 }),
     ] {
         assert_eq!(rt; Holding::read(text.as_bytes()), Err(want), "from {text}");

@@ -1,5 +1,5 @@
-use Rattle.std.specs.Prelude.{◌≡◌, ℕ, suc, ◌+◌, ◌*◌, ◌<◌, ◌↔◌, ℤ, pos, ◌*ℤ◌, ◌<ℤ◌, ◌≤ℤ◌, unsigned_abs}
-use Rattle.std.specs.Int.{IsGcd}
+use Rattle.std.specs.Prelude.{◌≡◌, ℕ, suc, ◌+◌, ◌*◌, ◌<◌, ◌↔◌, ℤ, pos, ◌+ℤ◌, ◌-ℤ◌, ◌*ℤ◌, ◌<ℤ◌, ◌≤ℤ◌, unsigned_abs, int_div}
+use Rattle.std.specs.Int.{IsGcd, ◌∣◌}
 use Rattle.suit_num.specs.Binomials.{binomial}
 use Rattle.suit_num.specs.Divisors.{IsCoprime, IsLcm, gcd_of, lcm_of}
 
@@ -47,3 +47,17 @@ abbrev pub FractionOrderLaw : Type 0
 FractionOrderLaw =
     (a b c d e f : ℤ) → pos 0 <ℤ b → pos 0 <ℤ d → pos 0 <ℤ f
     → (a *ℤ d) ≤ℤ (c *ℤ b) → (c *ℤ f) ≤ℤ (e *ℤ d) → (a *ℤ f) ≤ℤ (e *ℤ b)
+
+-- products of integers may be regrouped, and a product of a sum or a difference is taken term by term
+abbrev pub IntegerProductsLaw : Type 0
+IntegerProductsLaw =
+    (a b c : ℤ) → ((a *ℤ b) *ℤ c ≡ a *ℤ (b *ℤ c)) × (a *ℤ (b +ℤ c) ≡ a *ℤ b +ℤ a *ℤ c) × (a *ℤ (b -ℤ c) ≡ a *ℤ b -ℤ a *ℤ c)
+
+-- a quotient by a divisor is exact
+abbrev pub ExactDivisionLaw : Type 0
+ExactDivisionLaw = (a d : ℤ) → unsigned_abs d ∣ unsigned_abs a → int_div a d *ℤ d ≡ a
+
+-- a divisor of two numbers divides each combination of them
+abbrev pub CombinationLaw : Type 0
+CombinationLaw =
+    (d a b x y : ℤ) → unsigned_abs d ∣ unsigned_abs a → unsigned_abs d ∣ unsigned_abs b → unsigned_abs d ∣ unsigned_abs (a *ℤ x -ℤ b *ℤ y)

@@ -1,6 +1,6 @@
 //! What holds of the definitions that the contracts cite. Each function does nothing: its contract
 //! is the law, and `proofs/` has the same facts as lemmas.
-ghost use Rattle.suit_num.specs.Laws.{PascalLaw, NoneChosenLaw, AllChosenLaw, TooManyChosenLaw, RestChosenLaw, AbsorptionLaw, GcdLaw, LcmLaw, LowestTermsLaw, FractionOrderLaw};
+ghost use Rattle.suit_num.specs.Laws.{PascalLaw, NoneChosenLaw, AllChosenLaw, TooManyChosenLaw, RestChosenLaw, AbsorptionLaw, GcdLaw, LcmLaw, LowestTermsLaw, FractionOrderLaw, IntegerProductsLaw, ExactDivisionLaw, CombinationLaw};
 
 /// Each number of Pascal's triangle is the sum of the two above it.
 pub fn pascal()
@@ -50,4 +50,19 @@ pub fn lowest_terms()
 /// The order of fractions by products is transitive.
 pub fn fraction_order()
     ensures { FractionOrderLaw }
+{}
+
+/// Products of integers may be regrouped, and are taken term by term of a sum or a difference.
+pub fn integer_products()
+    ensures { IntegerProductsLaw }
+{}
+
+/// A quotient by a divisor is exact.
+pub fn exact_division()
+    ensures { ExactDivisionLaw }
+{}
+
+/// A divisor of two numbers divides each combination of them.
+pub fn combinations_divided()
+    ensures { CombinationLaw }
 {}
