@@ -1,5 +1,5 @@
-//! Greatest common divisors of positive numbers by shifts in place of divisions. Both numbers are kept odd: then their difference is even, and its powers of 2
-//! divide neither of them.
+//! Greatest common divisors of positive numbers by shifts in place of divisions. Both numbers are
+//! kept odd: then their difference is even, and its powers of 2 divide neither of them.
 ghost use Rattle.std.specs.Prelude.{◌<◌};
 ghost use Rattle.std.specs.Int.{IsGcd};
 

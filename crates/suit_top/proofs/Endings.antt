@@ -1,8 +1,8 @@
 -- How a run ends that made a reply.
-use Rattle.std.proofs.Common.{◌≡◌, ℕ, ◌+◌, List, [], Err, Option, None, Some, Bool, true, false, nat_lt, length, refl, sym, ap, ◌∙◌, subst, ◌⊎◌, inl, inr, ◌<◌, IsNone}
+use Rattle.std.proofs.Common.{◌≡◌, ℕ, ◌+◌, ◌≤◌, ◌++◌, append-nil, arith, List, [], Result, Ok, Err, Option, None, Some, Bool, true, false, nat_lt, length, refl, sym, ap, ◌∙◌, subst, ◌⊎◌, inl, inr, ◌<◌, IsNone}
 use Rattle.std.specs.Prelude.{if◌then◌else◌, IfSome}
-use Rattle.std.proofs.lemmas.Bool.{lt-ltb}
-use Rattle.std.specs.Io.KnownBytes.{Consumes}
+use Rattle.std.proofs.lemmas.Bool.{le-ltb, lt-ltb, cases_Bool}
+use Rattle.std.specs.Io.KnownBytes.{Consumes, IsAtEnd}
 use Rattle.suit_ports.specs.declared.transfer.ReadEnd.{ReadEnd}
 use Rattle.suit_ports.specs.declared.transfer.ReadEnd.TheVariants as Reading
 use Rattle.suit_ports.specs.Counts.{Rose}
@@ -10,25 +10,28 @@ use Rattle.suit_ports.specs.Reading.{Took}
 use Rattle.suit_ports.specs.Room.{KeepsRoom, IsFull}
 use Rattle.suit_game.specs.declared.question.Question.{Question}
 use Rattle.suit_game.specs.OneTrick.{one_trick_value}
-use Rattle.suit_game.proofs.OneTrickHalves.{one_trick-settled}
 use Rattle.suit_top.specs.declared.command.Command.{Command}
 use Rattle.suit_top.specs.declared.command.Command.TheVariants.{Solve}
 use Rattle.suit_top.specs.declared.reply.Reply.{Reply}
 use Rattle.suit_top.specs.declared.status.Status.{Status}
-use Rattle.suit_top.specs.declared.status.Status.TheVariants.{Done, Usage, WriteFault, Long}
-use Rattle.suit_top.specs.Answers.{Answers, Says}
+use Rattle.suit_top.specs.declared.status.Status.TheVariants.{Done, Usage, WriteFault, Long, NotBuilt}
+use Rattle.suit_top.specs.Answers.{Says, answer_text}
 use Rattle.suit_top.specs.Commands.{command_of, reads_input, limit_of}
-use Rattle.suit_top.specs.Dues.{Due, due_for, due_within, solved, silent}
-use Rattle.suit_top.specs.FourLines.{question_read}
+use Rattle.suit_top.specs.Dues.{Due, due_for, due_within, solved, silent, is_one_trick}
+use Rattle.suit_question.specs.Reading.{question_read}
+use Rattle.suit_question.specs.declared.faults.QuestionFault.{QuestionFault}
+use Rattle.suit_top.specs.Texts.{text_bytes}
 use Rattle.suit_top.specs.Owing.{Owes}
 use Rattle.suit_top.specs.Replies.{IsReply, Delivered, Stopped}
 use Rattle.suit_top.specs.Runs.{Ports, Runs}
-use Rattle.suit_top.proofs.AskedQuestions.{IsAsked, read_asked, one_trick, weighs}
 use Rattle.suit_top.proofs.Inputs.{is_input, long_input}
 
-solved_tells : (question : Option Question) → (solved question).status ≡ Usage → ⊥
-solved_tells None usage = cc
-solved_tells (Some question) usage = cc
+solved_tells : (found : Result Question QuestionFault) → (solved found).status ≡ Usage → ⊥
+solved_tells (Err fault) usage = cc
+solved_tells (Ok question) usage = elim (cases_Bool (is_one_trick question)) [
+  | inl one ↦ let told : Done ≡ Usage = ap (λ (b : Bool). (if b then record { status = Done; text = answer_text (one_trick_value question) } else silent NotBuilt).status) (sym one) ∙ usage in cc
+  | inr more ↦ let told : NotBuilt ≡ Usage = ap (λ (b : Bool). (if b then record { status = Done; text = answer_text (one_trick_value question) } else silent NotBuilt).status) (sym more) ∙ usage in cc
+]
 
 long_tells : (long : Bool) (due : Due) → (due.status ≡ Usage → ⊥) → (if long then silent Long else due).status ≡ Usage → ⊥
 long_tells true due tells usage = cc
@@ -44,33 +47,12 @@ long_is_not_done s long done = cc
 reads_all : (command : Command) → reads_input command ≡ true
 reads_all Solve = refl
 
-settled_answer : (input : List ℕ) (found : Option Question) → question_read input ≡ found → (solved found).status ≡ Done → Answers input (solved found).text
-settled_answer input None read done = absurd (let no = done in cc)
-settled_answer input (Some question) read done =
-    let asked : IsAsked question = subst (λ (f : Option Question). IfSome f IsAsked) read (read_asked input) in
-    record {
-      question = question;
-      asked = read;
-      value = one_trick_value question;
-      is_text = refl;
-      settled = one_trick-settled question (one_trick question asked) (weighs question asked);
-    }
-
-long_answer : (long : Bool) (input : List ℕ) → (if long then silent Long else solved (question_read input)).status ≡ Done
-    → Answers input (if long then silent Long else solved (question_read input)).text
-long_answer true input done = absurd (let no = done in cc)
-long_answer false input done = settled_answer input (question_read input) refl done
-
--- a text that is due with Done says what the command is for
-due_says : (command : Command) (input : List ℕ) → (due_for (Some command) input).status ≡ Done → Says (Some command) input (due_for (Some command) input).text
-due_says Solve input done = long_answer (nat_lt (limit_of Solve) (length input)) input done
-
 none_named : (words : List (List ℕ)) (command : Command) → command_of words ≡ Some command → IsNone (command_of words) → ⊥
 none_named words command named none = let other = subst IsNone named none in cc
 
 -- what a run owes for a reply
 owed : (words : List (List ℕ)) (command : Command) (before after : Option (List ℕ)) (reply : Reply) → command_of words ≡ Some command
-    → (made : IsReply command before after reply) → Owes words made.input reply.status reply.text.items
+    → (made : IsReply command before after reply) → Owes words made.input reply.status (text_bytes reply.text)
 owed words command before after reply named made = record {
   status_due = made.status_due ∙ sym (ap (λ (c : Option Command). (due_for c made.input).status) named);
   text_due = made.text_due ∙ sym (ap (λ (c : Option Command). (due_for c made.input).text) named);
@@ -87,12 +69,12 @@ pub run_replies : (words : List (List ℕ)) (command : Command) (before after : 
 run_replies words command before after reply status named made (inl delivered) room empty_puts = record {
   ending = inl (record {
     input = made.input;
-    text = reply.text.items;
+    text = (text_bytes reply.text);
     is_input = is_input words command before made.input named (reads_all command) made.is_input;
-    owed = subst (λ (s : Status). Owes words made.input s reply.text.items) (sym delivered.is_status) (owed words command before.left after.left reply named made);
+    owed = subst (λ (s : Status). Owes words made.input s (text_bytes reply.text)) (sym delivered.is_status) (owed words command before.left after.left reply named made);
     written = delivered.whole;
-    says = λ done. subst (λ (c : Option Command). Says c made.input reply.text.items) (sym named)
-        (subst (Says (Some command) made.input) (sym made.text_due) (due_says command made.input (sym made.status_due ∙ sym delivered.is_status ∙ done)));
+    says = λ done. subst (λ (c : Option Command). Says c made.input (text_bytes reply.text)) (sym named)
+        (made.says (sym delivered.is_status ∙ done));
     all_read = λ done reads. made.all_read (sym delivered.is_status ∙ done);
   });
   usage = (
@@ -107,7 +89,7 @@ run_replies words command before after reply status named made (inr stopped) roo
     is_write_fault = stopped.0.is_write_fault;
     rose = stopped.1;
     input = made.input;
-    text = reply.text.items;
+    text = (text_bytes reply.text);
     owed_status = reply.status;
     sent = stopped.0.sent;
     is_input = is_input words command before made.input named (reads_all command) made.is_input;
@@ -123,9 +105,35 @@ run_replies words command before after reply status named made (inr stopped) roo
   empty_puts = empty_puts;
 }
 
+whole_input : (before after : Option (List ℕ)) (taken : List ℕ) → Consumes before after taken → IsAtEnd after → IfSome before (λ bytes. taken ≡ bytes)
+whole_input None after taken consumed at_end = tt
+whole_input (Some bytes) None taken consumed at_end = absurd consumed
+whole_input (Some bytes) (Some rest) taken consumed at_end = sym (consumed ∙ ap (λ (l : List ℕ). taken ++ l) at_end ∙ append-nil taken)
+
+none_left : (before after : Option (List ℕ)) (taken : List ℕ) → Consumes before after taken → IsAtEnd after → IfSome before (λ _. after ≡ Some [])
+none_left None after taken consumed at_end = tt
+none_left (Some bytes) None taken consumed at_end = absurd consumed
+none_left (Some bytes) (Some rest) taken consumed at_end = ap Some at_end
+
+-- a reading to the end, within the limit, makes the reply to what was read
+pub short_replies : (command : Command) (before after : Option (List ℕ)) (reply : Reply) (input taken : List ℕ)
+    → input ≡ taken → length taken ≤ limit_of command → Consumes before after taken → IsAtEnd after
+    → reply.status ≡ (due_within command input).status → text_bytes reply.text ≡ (due_within command input).text
+    → (reply.status ≡ Done → Says (Some command) input (text_bytes reply.text)) → IsReply command before after reply
+short_replies command before after reply input taken is_taken fits consumed at_end status text says =
+    let within : nat_lt (limit_of command) (length input) ≡ false = le-ltb (limit_of command) (length input) (omega (arith, ap length is_taken)) in
+    record {
+      input = input;
+      is_input = subst (λ (l : List ℕ). IfSome before (λ bytes. l ≡ bytes)) (sym is_taken) (whole_input before after taken consumed at_end);
+      status_due = status ∙ sym (ap (λ (b : Bool). (if b then silent Long else due_within command input).status) within);
+      text_due = text ∙ sym (ap (λ (b : Bool). (if b then silent Long else due_within command input).text) within);
+      says = says;
+      all_read = λ done. none_left before after taken consumed at_end;
+    }
+
 -- a reading that took one byte more than the limit makes the reply Long
 pub long_replies : (A : Type 0) (command : Command) (before after : Option (List ℕ)) (reply : Reply) (end : ReadEnd) (limit : ℕ) (taken : List ℕ)
-    → end ≡ Reading.Long → limit ≡ limit_of command → reply.status ≡ Long → reply.text.items ≡ []
+    → end ≡ Reading.Long → limit ≡ limit_of command → reply.status ≡ Long → (text_bytes reply.text) ≡ []
     → Took {A = A} limit (Err end) taken → Consumes before after taken → IsReply command before after reply
 long_replies A command before after reply end limit taken is_long is_limit status text took consumed =
     let one_more : length taken ≡ limit_of command + 1 = subst (λ (e : ReadEnd). Took {A = A} limit (Err e) taken) is_long took ∙ ap (λ (n : ℕ). n + 1) is_limit in
@@ -136,5 +144,6 @@ long_replies A command before after reply end limit taken is_long is_limit statu
       is_input = given.1;
       status_due = status ∙ sym (ap (λ (b : Bool). (if b then silent Long else due_within command given.0).status) past);
       text_due = text ∙ sym (ap (λ (b : Bool). (if b then silent Long else due_within command given.0).text) past);
+      says = λ done. absurd (long_is_not_done reply.status status done);
       all_read = λ done. absurd (long_is_not_done reply.status status done);
     }

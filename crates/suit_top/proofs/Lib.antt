@@ -1,4 +1,4 @@
-pub mod AskedQuestions
 pub mod Endings
 pub mod Inputs
 pub mod Leads
+pub mod Solved

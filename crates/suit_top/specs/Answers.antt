@@ -1,11 +1,12 @@
 -- The answer to a question with at most one card in each declarer hand.
-use Rattle.std.specs.Prelude.{◌≡◌, ℕ, zero, suc, List, [], Option, None, Some, codes}
+use Rattle.std.specs.Prelude.{◌≡◌, ℕ, zero, suc, List, [], Option, None, Some, Ok, codes}
 use Rattle.suit_game.specs.declared.question.Question.{Question}
 use Rattle.suit_game.specs.Settled.{Settles}
 use Rattle.suit_game.specs.Strategies.{by_rows, by_defence_rows}
+use Rattle.suit_game.specs.Validity.{IsValid}
 use Rattle.suit_top.specs.declared.command.Command.{Command}
 use Rattle.suit_top.specs.declared.command.Command.TheVariants.{Solve}
-use Rattle.suit_top.specs.FourLines.{question_read}
+use Rattle.suit_question.specs.Reading.{question_read}
 
 -- an answer whose plan and defence have no rows, and whose value is 0 or 1
 abbrev pub answer_text : ℕ → List ℕ
@@ -15,7 +16,8 @@ answer_text (suc n) = codes "answer 1\nvalue 1/1\nplan 1 0\ndefence 1 0\nend\n"
 -- a text answers an input: it has the value of the question asked, its plan earns at least that against every defence, and its defence holds every plan to at most that
 pub record Answers (input text : List ℕ) : Type 0 where
   pub question : Question
-  pub asked : question_read input ≡ Some question
+  pub asked : question_read input ≡ Ok question
+  pub valid : IsValid question
   pub value : ℕ
   pub is_text : text ≡ answer_text value
   pub settled : Settles question (by_rows []) (by_defence_rows []) value 1

@@ -1,14 +1,16 @@
 -- What a run owes: the status that is due, and the bytes that go with it.
-use Rattle.std.specs.Prelude.{ℕ, nat_lt, List, [], length, Option, Some, None, if◌then◌else◌}
+use Rattle.std.specs.Prelude.{ℕ, nat_lt, nat_le, ◌&&◌, Bool, Result, Ok, Err, List, [], length, Option, Some, None, if◌then◌else◌}
 use Rattle.suit_game.specs.declared.question.Question.{Question}
 use Rattle.suit_top.specs.declared.command.Command.{Command}
 use Rattle.suit_top.specs.declared.command.Command.TheVariants.{Solve}
 use Rattle.suit_top.specs.declared.status.Status.{Status}
-use Rattle.suit_top.specs.declared.status.Status.TheVariants.{Done, Usage, Long, NotBuilt}
+use Rattle.suit_top.specs.declared.status.Status.TheVariants.{Done, Usage, Malformed, Long, NotBuilt}
 use Rattle.suit_game.specs.OneTrick.{one_trick_value}
 use Rattle.suit_top.specs.Answers.{answer_text}
 use Rattle.suit_top.specs.Commands.{command_of, limit_of}
-use Rattle.suit_top.specs.FourLines.{question_read}
+use Rattle.suit_question.specs.Reading.{question_read}
+use Rattle.suit_question.specs.declared.faults.QuestionFault.{QuestionFault}
+use Rattle.suit_top.specs.Refusals.{malformed_line}
 
 -- a status and the text that is written with it
 pub record Due : Type 0 where
@@ -19,10 +21,14 @@ pub record Due : Type 0 where
 abbrev pub silent : Status → Due
 silent status = record { status = status; text = [] }
 
--- the answer to the question that was read, if one was
-abbrev pub solved : Option Question → Due
-solved None = silent NotBuilt
-solved (Some question) = record { status = Done; text = answer_text (one_trick_value question) }
+-- whether no declarer hand has two cards
+abbrev pub is_one_trick : Question → Bool
+is_one_trick question = nat_le (length question.north) 1 && nat_le (length question.south) 1
+
+-- the answer to the question that was read, or its fault
+abbrev pub solved : Result Question QuestionFault → Due
+solved (Err fault) = record { status = Malformed; text = malformed_line fault }
+solved (Ok question) = if is_one_trick question then record { status = Done; text = answer_text (one_trick_value question) } else silent NotBuilt
 
 -- what a command owes for an input that is not too long
 abbrev pub due_within : Command → List ℕ → Due

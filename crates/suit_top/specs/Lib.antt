@@ -1,8 +1,9 @@
 pub mod Answers
 pub mod Commands
 pub mod Dues
-pub mod FourLines
 pub mod Owing
+pub mod Refusals
 pub mod Replies
 pub mod Runs
 pub mod Statuses
+pub mod Texts

@@ -5,15 +5,19 @@ use Rattle.suit_top.specs.declared.command.Command.{Command}
 use Rattle.suit_top.specs.declared.reply.Reply.{Reply}
 use Rattle.suit_top.specs.declared.status.Status.{Status}
 use Rattle.suit_top.specs.declared.status.Status.TheVariants.{Done, WriteFault}
+use Rattle.suit_top.specs.Answers.{Says}
 use Rattle.suit_top.specs.Commands.{limit_of}
 use Rattle.suit_top.specs.Dues.{due_for}
+use Rattle.suit_top.specs.Texts.{text_bytes}
 
 -- a reply to a command, from what its source had left, where it tells that, to what it has left
 pub record IsReply (command : Command) (before after : Option (List ℕ)) (reply : Reply) : Type 0 where
   pub input : List ℕ
   pub is_input : IfSome before (λ bytes. input ≡ bytes)
   pub status_due : reply.status ≡ (due_for (Some command) input).status
-  pub text_due : reply.text.items ≡ (due_for (Some command) input).text
+  pub text_due : text_bytes reply.text ≡ (due_for (Some command) input).text
+  -- with Done, the text says what the command is for
+  pub says : reply.status ≡ Done → Says (Some command) input (text_bytes reply.text)
   pub all_read : reply.status ≡ Done → IfSome before (λ _. after ≡ Some [])
 
 -- a source failed before it had given more than the command takes
@@ -25,11 +29,11 @@ pub record Failed (command : Command) (before after : Option (List ℕ)) : Type 
 -- the whole text was written, and the run ends with its status
 pub record Delivered (reply : Reply) (before after : Option (List ℕ)) (status : Status) : Type 0 where
   pub is_status : status ≡ reply.status
-  pub whole : Appends before after reply.text.items
+  pub whole : Appends before after (text_bytes reply.text)
 
 -- the sink stopped before it had the whole text
 pub record Stopped (reply : Reply) (before after : Option (List ℕ)) (status : Status) : Type 0 where
   pub is_write_fault : status ≡ WriteFault
   pub sent : ℕ
-  pub not_whole : sent < length reply.text.items
-  pub front : Appends before after (take sent reply.text.items)
+  pub not_whole : sent < length (text_bytes reply.text)
+  pub front : Appends before after (take sent (text_bytes reply.text))

@@ -3,7 +3,7 @@
 
 mod answer;
 mod command;
-mod four_lines;
+mod refusal;
 mod reply;
 mod status;
 #[cfg(test)]

@@ -9,6 +9,8 @@ pub enum Status {
     Done,
     /// The words form no command.
     Usage,
+    /// The question text has a fault.
+    Malformed,
     /// The source failed.
     ReadFault,
     /// The sink failed or took nothing, before the whole text was written.
@@ -17,7 +19,7 @@ pub enum Status {
     Memory,
     /// The input has more bytes than the command takes.
     Long,
-    /// The input is no question that is solved so far.
+    /// The question has two or more cards in one declarer hand, and such a question is not solved so far.
     NotBuilt,
 }
 
@@ -29,6 +31,7 @@ impl Status {
         match self {
             Status::Done => 0,
             Status::Usage => 2,
+            Status::Malformed => 3,
             Status::ReadFault => 7,
             Status::WriteFault => 8,
             Status::Memory => 9,

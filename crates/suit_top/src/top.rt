@@ -69,7 +69,7 @@ fn deliver<K: Sink>(sink: &mut K, reply: &Reply) -> Status
     ensures empty_puts { K.empties sink.old < K.empties sink.new
         → (result ≡ Status.WriteFault) × IsFull (K.written sink.new) (K.room sink.new) }
 {
-    match write_all_of(sink, &reply.text) {
+    match write_all_of(sink, reply.text.as_bytes()) {
         Ok(()) => reply.status,
         Err(_) => Status::WriteFault,
     }

@@ -1,0 +1,9 @@
+pub mod Columns
+pub mod Examples
+pub mod Lines
+pub mod Ranges
+pub mod Reading
+pub mod Results
+pub mod Values
+pub mod Words
+pub mod Writing

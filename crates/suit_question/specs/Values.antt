@@ -1,0 +1,60 @@
+-- The values that the words of a question text stand for.
+use Rattle.std.specs.Prelude.{ℕ, nat_lt, nat_le, ◌&&◌, Bool, List, length, map, codes, Option, Some, None, Result, Ok, Err, if◌then◌else◌}
+use Rattle.std.specs.Char.{to_ascii_lowercase}
+use Rattle.std.specs.Option.{option_map_or}
+use Rattle.std.specs.Str.{all_ascii_digits, bytes_eq}
+use Rattle.std.specs.Str.Parse.{digits_value}
+use Rattle.suit_cards.specs.Reading.{holding_read}
+use Rattle.suit_cards.specs.declared.holdings.CardFault.{CardFault}
+use Rattle.suit_cards.specs.declared.holdings.CardFault.TheVariants.{NotRank, Twice as TwiceAt}
+use Rattle.suit_game.specs.declared.question.LeadAt.{LeadAt}
+use Rattle.suit_game.specs.declared.question.LeadAt.TheVariants.{N, S, Either}
+use Rattle.suit_game.specs.declared.question.Entries.{Entries}
+use Rattle.suit_game.specs.declared.question.Entries.TheVariants.{Count, Free}
+use Rattle.suit_game.specs.declared.question.Goal.{Goal}
+use Rattle.suit_game.specs.declared.question.Goal.TheVariants.{AtLeast, Tricks}
+use Rattle.suit_question.specs.Results.{found_as, told_as}
+use Rattle.suit_question.specs.declared.faults.QuestionKind.{QuestionKind}
+use Rattle.suit_question.specs.declared.faults.QuestionKind.TheVariants.{Word, Rank, Twice, Number, Range}
+
+-- a text is a word, in capitals or not
+abbrev pub is_word : List ℕ → List ℕ → Bool
+is_word word text = bytes_eq (map to_ascii_lowercase text) (map to_ascii_lowercase word)
+
+-- a number is one to nine digits
+abbrev pub number_read : List ℕ → Option ℕ
+number_read text =
+    if nat_lt 0 (length text) && nat_le (length text) 9 && all_ascii_digits text then Some (digits_value 10 text) else None
+
+-- a number is to be in its range
+abbrev pub within : ℕ → ℕ → ℕ → Result ℕ QuestionKind
+within least most number = if nat_le least number && nat_le number most then Ok number else Err Range
+
+-- the number in a range that a word stands for
+abbrev pub number_within : ℕ → ℕ → List ℕ → Result ℕ QuestionKind
+number_within least most text = option_map_or (within least most) (number_read text) (Err Number)
+
+-- a holding is at fault at its first bad byte
+abbrev pub kind_of : CardFault → QuestionKind
+kind_of (NotRank place) = Rank
+kind_of (TwiceAt place) = Twice
+
+-- the holding that a word stands for
+abbrev pub holding_named : List ℕ → Result (List ℕ) QuestionKind
+holding_named text = told_as kind_of (holding_read text)
+
+-- where the lead stands
+abbrev pub lead_named : List ℕ → Result LeadAt QuestionKind
+lead_named text =
+    if is_word (codes "n") text then Ok N
+    else if is_word (codes "s") text then Ok S
+    else if is_word (codes "either") text then Ok Either
+    else Err Word
+
+-- free entries, or a count of them
+abbrev pub entries_named : List ℕ → Result Entries QuestionKind
+entries_named text = if is_word (codes "free") text then Ok Free else found_as Count (number_within 0 13 text)
+
+-- as many tricks as can be, or so many at least
+abbrev pub goal_named : List ℕ → Result Goal QuestionKind
+goal_named text = if is_word (codes "tricks") text then Ok Tricks else found_as AtLeast (number_within 0 13 text)

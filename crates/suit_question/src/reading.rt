@@ -1,0 +1,98 @@
+//! Reading a question text.
+ghost use Rattle.std.specs.Prelude.{◌≡◌, ◌≤◌, ◌+◌, length, IfOk};
+ghost use Rattle.suit_game.specs.Validity.{IsValid};
+ghost use Rattle.suit_question.specs.Columns.{AreInRange};
+ghost use Rattle.suit_question.specs.Lines.{lines_of};
+ghost use Rattle.suit_question.specs.Reading.{first_saying, ended, question_read, end_place};
+
+use crate::columns::Columns;
+use crate::faults::{QuestionFault, QuestionKind};
+use crate::keywords::put_line;
+use crate::words::{first_line, is_empty, is_last};
+use suit_game::Question;
+
+/// Reads the question that a text asks. The lines come in any order up to `end`, after which nothing may be said. A fault is
+/// that of the first line with one: for a line before the end Word where it has no keyword or a wrong number of words, then
+/// Repeated where the keyword stood before, then what is wrong with its first bad value; and Tail for a line after the end.
+/// Where no line has a fault it is the first of the whole, told of the line of `end`: NoLine, Shared, Empty, Range, Vacant
+/// or NoLayout. With no `end` it is NoLine, told of the line after the last. No memory is taken.
+#[tactic(auto, unfolding(crate::specs::Reading::asked_by))]
+pub fn read_question(bytes: &[u8]) -> Result<Question, QuestionFault>
+    requires { length bytes.now ≤ 16777216 }
+    ensures value { result ≡ question_read bytes.now }
+    ensures valid { IfOk result IsValid }
+{
+    let mut columns = Columns::new();
+    let mut rest = bytes;
+    let mut line = 1;
+    while let Some(cut) = first_line(rest) {
+        rest = cut.rest;
+        if !is_empty(cut.front) {
+            if is_last(cut.front) {
+                return end_at(columns, line, rest);
+            }
+            columns = match put_line(columns, cut.front) {
+                Ok(columns) => columns,
+                Err(kind) => return Err(QuestionFault { kind, line }),
+            };
+        }
+        line += 1;
+    }
+    Err(QuestionFault {
+        kind: QuestionKind::NoLine,
+        line,
+    })
+}
+
+/// The question at an end line, which nothing may be said after.
+fn end_at(columns: Columns, line: u32, rest: &[u8]) -> Result<Question, QuestionFault>
+    requires range { AreInRange columns }
+    requires short { line + length rest.now ≤ 16777217 }
+    ensures value { result ≡ ended columns line (lines_of rest.now) }
+    ensures valid { IfOk result IsValid }
+{
+    if let Some(line) = saying_line(line + 1, rest) {
+        return Err(QuestionFault {
+            kind: QuestionKind::Tail,
+            line,
+        });
+    }
+    match columns.finish() {
+        Ok(question) => Ok(question),
+        Err(kind) => Err(QuestionFault { kind, line }),
+    }
+}
+
+/// The first line of a text that says something, where the text begins with a line of this number.
+#[tactic(auto, unfolding(crate::specs::Reading::first_saying))]
+fn saying_line(first: u32, text: &[u8]) -> Option<u32>
+    requires { first + length text.now ≤ 16777218 }
+    ensures { result ≡ first_saying first (lines_of text.now) }
+{
+    let mut rest = text;
+    let mut number = first;
+    while let Some(cut) = first_line(rest) {
+        if !is_empty(cut.front) {
+            return Some(number);
+        }
+        rest = cut.rest;
+        number += 1;
+    }
+    None
+}
+
+/// The place just after the first line whose only word is `end`, with its line feed, or the length where there is none.
+#[tactic(auto, using(crate::proofs::LineCuts::end_here, crate::proofs::LineCuts::end_later, crate::proofs::LineCuts::no_end))]
+pub fn question_end(bytes: &[u8]) -> usize
+    ensures value { result ≡ end_place bytes.now }
+    ensures within { result ≤ length bytes.now }
+{
+    let mut rest = bytes;
+    while let Some(cut) = first_line(rest) {
+        rest = cut.rest;
+        if is_last(cut.front) {
+            return bytes.len() - rest.len();
+        }
+    }
+    bytes.len()
+}
