@@ -21,7 +21,7 @@ use Rattle.suit_question.specs.declared.faults.QuestionKind.TheVariants.{Word, R
 abbrev pub is_word : List ℕ → List ℕ → Bool
 is_word word text = bytes_eq (map to_ascii_lowercase text) (map to_ascii_lowercase word)
 
--- a number is one to nine digits
+-- up to nine digits, and at least one, are a number
 abbrev pub number_read : List ℕ → Option ℕ
 number_read text =
     if nat_lt 0 (length text) && nat_le (length text) 9 && all_ascii_digits text then Some (digits_value 10 text) else None

@@ -35,7 +35,7 @@ abbrev pub is_skipped : List (List ℕ) → Bool
 is_skipped [] = true
 is_skipped (word ∷ words) = begins_with_hash word
 
--- an end is a line whose only word is so
+-- the line that ends a question
 abbrev pub is_end : List (List ℕ) → Bool
 is_end [] = false
 is_end (word ∷ []) = is_word (codes "end") word

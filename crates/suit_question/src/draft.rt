@@ -8,7 +8,7 @@ use crate::faults::QuestionFault;
 use std::marker::Model;
 use suit_game::Question;
 
-/// A question in the making, which contracts see as thirteen columns that each have a value or none: 1 and 2 are the
+/// A question in the making, in contracts a record of thirteen columns, some of them filled: 1 and 2 are the
 /// hands of North and South, 3 and 4 where the lead stands first and after a lost trick, 5 and 6 the entries to North and
 /// South, 7 and 8 the vacant places of West and East, 9 and 10 the least and the most cards with West, 11 the goal, 12 and 13
 /// the budgets of nodes and pivots.
@@ -62,8 +62,8 @@ impl Draft {
     /// The question of the values put, and of the defaults of the others: either hand, free entries, 13 vacant places with
     /// each defender, 0 to 13 cards with West, 200,000 nodes and 100,000 pivots. A fault is told of the given line, the first
     /// of these: NoLine where a hand or the goal was not put, Shared where a card is in both hands, Empty where no card is in
-    /// either, Range where the least length with West is above the most, Vacant where the missing cards are more than the
-    /// vacant places, and NoLayout where no layout has a weight.
+    /// either, Range where West's least length is larger than the most, Vacant where there are fewer vacant places than
+    /// missing cards, and NoLayout where no layout has a weight.
     pub fn finish(self, line: u32) -> Result<Question, QuestionFault>
         ensures value { result ≡ told_at line (finished self) }
         ensures valid { IfOk result IsValid }

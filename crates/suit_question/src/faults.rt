@@ -9,9 +9,9 @@ pub enum QuestionKind {
     Word,
     /// A line of this keyword stood before.
     Repeated,
-    /// A holding has a byte that is no rank.
+    /// Something in a hand is not the name of a card.
     Rank,
-    /// A holding names a rank again.
+    /// A hand has the same card twice.
     Twice,
     /// North and South hold the same card.
     Shared,
@@ -19,7 +19,7 @@ pub enum QuestionKind {
     Empty,
     /// A number was due, and the word is none.
     Number,
-    /// A number is outside the range that is allowed, or the least length with West is above the most.
+    /// A number is too small or too large for its line, or West's least length is larger than the most.
     Range,
     /// The missing cards do not fit into the vacant places.
     Vacant,

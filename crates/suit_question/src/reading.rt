@@ -81,7 +81,7 @@ fn saying_line(first: u32, text: &[u8]) -> Option<u32>
     None
 }
 
-/// The place just after the first line whose only word is `end`, with its line feed, or the length where there is none.
+/// How many bytes the question takes: all up to and with its first line of the one word `end`, or all that there are.
 #[tactic(auto, using(crate::proofs::LineCuts::end_here, crate::proofs::LineCuts::end_later, crate::proofs::LineCuts::no_end))]
 pub fn question_end(bytes: &[u8]) -> usize
     ensures value { result ≡ end_place bytes.now }

@@ -12,8 +12,8 @@ use std::alloc::Global;
 use suit_game::{Entries, Goal, LeadAt, Question};
 
 /// Writes a question: eleven lines in their fixed order, each a keyword and its values, one space apart, and a line feed
-/// after each. Holdings fall, or are `-`, and numbers have no leading zeros. What is written for a valid question reads back
-/// as it.
+/// after each. Hands go from the highest card down, a void is `-`, and no number begins with a zero that it can do without.
+/// What is written for a valid question reads back as it.
 pub fn question_text(alloc: Global, question: &Question) -> Result<Vec<u8>, Memory>
     ensures text { IfOk result (λ text. text.items ≡ text_written question.now) }
     ensures reads_back { IsValid question.now → IfOk result (λ text. question_read text.items ≡ Ok question.now) }
