@@ -18,6 +18,7 @@ pub mod OwnCards
 pub mod PayDenominators
 pub mod ReachedPlaces
 pub mod Room
+pub mod SeenPlaces
 pub mod TrickStates
 pub mod TricksReached
 pub mod TurnsTaken

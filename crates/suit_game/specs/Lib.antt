@@ -7,6 +7,7 @@ pub mod Layouts
 pub mod Lengths
 pub mod OneTrick
 pub mod Places
+pub mod PlaceViews
 pub mod PlayLaws
 pub mod Question
 pub mod Reached

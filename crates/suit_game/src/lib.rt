@@ -1,19 +1,27 @@
 //! The question that a player asks, the game of single cards that it is about, and the laws of that game.
 #![tactic(auto)]
 
+mod entries;
 pub mod examples;
 mod gate;
 pub mod laws;
 mod moves;
+mod place;
+#[cfg(test)]
+mod place_tests;
 mod question;
 mod sharing;
 #[cfg(test)]
 mod tests;
+mod trick;
+mod turn;
 mod validity;
 pub mod weight_laws;
 mod weights;
 
 pub use gate::{Gate, OpenGate};
 pub use moves::Move;
+pub use place::Place;
 pub use question::{Entries, Goal, LeadAt, Question};
+pub use turn::Turn;
 pub use weights::{total, weight};

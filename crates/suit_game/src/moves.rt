@@ -19,3 +19,10 @@ pub enum Move {
     /// The hand on turn has no card of the suit.
     ShowOut,
 }
+
+impl Default for Move {
+    /// Showing out, for lists of fixed length that want some value.
+    fn default() -> Move {
+        Move::ShowOut
+    }
+}

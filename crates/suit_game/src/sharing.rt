@@ -1,10 +1,10 @@
 //! What tasks on several threads share and hand over.
-use super::{Entries, Goal, LeadAt, Move, OpenGate, Question};
+use super::{Entries, Goal, LeadAt, Move, OpenGate, Place, Question, Turn};
 use suit_cards::{Holding, Rank, Seat};
 
 fn shared<T: Send + Sync>() {}
 
-/// A question and its parts may be sent to another thread and be shared with it.
+/// A question, its parts and a place of its play may be sent to another thread and be shared with it.
 pub fn questions_are_shared() {
     shared::<Question>();
     shared::<Holding>();
@@ -14,5 +14,7 @@ pub fn questions_are_shared() {
     shared::<Entries>();
     shared::<Goal>();
     shared::<Move>();
+    shared::<Turn>();
+    shared::<Place>();
     shared::<OpenGate>();
 }
