@@ -1,0 +1,145 @@
+-- Combined rows place by place.
+use Rattle.std.proofs.Common.{◌≡◌, ◌≢◌, ℕ, zero, suc, ◌+◌, ◌<◌, ◌≤◌, set, inl, inr, Bool, true, false, ◌&&◌, List, [], ◌∷◌, ◌++◌, length, refl, sym, ap, ◌∙◌, arith, IsTrue, Option, Some, None}
+use Rattle.std.proofs.lemmas.Bool.{cases_eq}
+use Rattle.std.proofs.lemmas.Bool.Decides.{nat_tests}
+use Rattle.std.proofs.lemmas.List.{get_or-set_same, get_or-set_other}
+use Rattle.suit_num.specs.Narrow.{IsNarrow}
+use Rattle.std.specs.Prelude.{ℤ, pos, ◌*ℤ◌, ◌-ℤ◌, SomeIff}
+use Rattle.std.specs.List.{list_all}
+use Rattle.suit_simplex.specs.Points.{number_at}
+use Rattle.suit_simplex.specs.Pivots.{combined, combining, combining_at, is_narrow}
+
+-- the numbers that one place makes are narrow
+abbrev pub Combines : ℤ → ℤ → ℤ → ℤ → Type 0
+Combines own x other y = IsTrue (list_all is_narrow (combining_at own x other y))
+
+pub narrow_test : (z : ℤ) → IsNarrow z → is_narrow z ≡ true
+narrow_test z h = grind (arith, nat_tests)
+
+narrow_from_test : (z : ℤ) → is_narrow z ≡ true → IsNarrow z
+narrow_from_test z h = grind (arith, nat_tests)
+
+pub both_true : (a b : Bool) → a ≡ true → b ≡ true → a && b ≡ true
+both_true true true p q = refl
+both_true true false p q = q
+both_true false b p q = p
+
+pub first_true : (a b : Bool) → a && b ≡ true → a ≡ true
+first_true true b p = refl
+first_true false b p = p
+
+pub second_true : (a b : Bool) → a && b ≡ true → b ≡ true
+second_true true b p = p
+second_true false true p = refl
+second_true false false p = p
+
+three_true : (a b c : Bool) → a ≡ true → b ≡ true → c ≡ true → a && (b && (c && true)) ≡ true
+three_true true true true p q r = refl
+three_true true true false p q r = r
+three_true true false c p q r = q
+three_true false b c p q r = p
+
+third_true : (a b c : Bool) → a && (b && (c && true)) ≡ true → c ≡ true
+third_true true true true p = refl
+third_true true true false p = p
+third_true true false c p = absurd (cc)
+third_true false b c p = absurd (cc)
+
+combines : (own x other y : ℤ) → IsNarrow (own *ℤ x) → IsNarrow (other *ℤ y) → IsNarrow (own *ℤ x -ℤ other *ℤ y) → Combines own x other y
+combines own x other y p q r =
+    three_true (is_narrow (own *ℤ x)) (is_narrow (other *ℤ y)) (is_narrow (own *ℤ x -ℤ other *ℤ y)) (narrow_test (own *ℤ x) p) (narrow_test (other *ℤ y) q) (narrow_test (own *ℤ x -ℤ other *ℤ y) r)
+
+pub difference_narrow : (own x other y : ℤ) → Combines own x other y → IsNarrow (own *ℤ x -ℤ other *ℤ y)
+difference_narrow own x other y h =
+    narrow_from_test (own *ℤ x -ℤ other *ℤ y) (third_true (is_narrow (own *ℤ x)) (is_narrow (other *ℤ y)) (is_narrow (own *ℤ x -ℤ other *ℤ y)) h)
+
+-- what `combine_numbers` makes of two products that fit
+pub combine_is : (own x other y p q : ℤ) (answer : Option ℤ) → IsNarrow (own *ℤ x) × (p ≡ own *ℤ x) → IsNarrow (other *ℤ y) × (q ≡ other *ℤ y) → SomeIff answer (IsNarrow (p -ℤ q)) (p -ℤ q) → SomeIff answer (Combines own x other y) (own *ℤ x -ℤ other *ℤ y)
+combine_is own x other y p q answer first second h = by_answer answer (rw (first.1, second.1) at h)
+  where
+    by_answer : (answer : Option ℤ) → SomeIff answer (IsNarrow (own *ℤ x -ℤ other *ℤ y)) (own *ℤ x -ℤ other *ℤ y) → SomeIff answer (Combines own x other y) (own *ℤ x -ℤ other *ℤ y)
+    by_answer None h = λ all. h (difference_narrow own x other y all)
+    by_answer (Some v) h = (combines own x other y first.0 second.0 h.0, h.1)
+
+-- ---- from places to lists
+
+pub combined_by_places : (own : ℤ) (xs : List ℤ) (other : ℤ) (ys zs : List ℤ) → length xs ≡ length ys → length zs ≡ length xs → ((k : ℕ) → k < length xs → number_at zs k ≡ own *ℤ number_at xs k -ℤ other *ℤ number_at ys k) → zs ≡ combined own xs other ys
+unfolding combined
+combined_by_places own [] other [] [] e f h = refl
+combined_by_places own [] other [] (z ∷ zs) e f h = absurd (omega (arith, f))
+combined_by_places own [] other (y ∷ ys) zs e f h = absurd (omega (arith, e))
+combined_by_places own (x ∷ xs) other [] zs e f h = absurd (omega (arith, e))
+combined_by_places own (x ∷ xs) other (y ∷ ys) [] e f h = absurd (omega (arith, f))
+combined_by_places own (x ∷ xs) other (y ∷ ys) (z ∷ zs) e f h =
+    let rest : zs ≡ combined own xs other ys = combined_by_places own xs other ys zs (omega (arith, e)) (omega (arith, f)) (λ k p. h (suc k) (omega arith)) in
+    let here : z ≡ own *ℤ x -ℤ other *ℤ y = h 0 (omega arith) in
+    cc
+
+pub test_append : (xs ys : List ℤ) → list_all is_narrow (xs ++ ys) ≡ list_all is_narrow xs && list_all is_narrow ys
+test_append [] ys = refl
+test_append (x ∷ xs) ys = ap (λ (b : Bool). is_narrow x && b) (test_append xs ys) ∙ regroup (is_narrow x) (list_all is_narrow xs) (list_all is_narrow ys)
+  where
+    regroup : (a b c : Bool) → a && (b && c) ≡ a && b && c
+    regroup true b c = refl
+    regroup false b c = refl
+
+pub combining_by_places : (own : ℤ) (xs : List ℤ) (other : ℤ) (ys : List ℤ) → length xs ≡ length ys → ((k : ℕ) → k < length xs → Combines own (number_at xs k) other (number_at ys k)) → IsTrue (list_all is_narrow (combining own xs other ys))
+unfolding combining
+combining_by_places own [] other [] e h = refl
+combining_by_places own [] other (y ∷ ys) e h = absurd (omega (arith, e))
+combining_by_places own (x ∷ xs) other [] e h = absurd (omega (arith, e))
+combining_by_places own (x ∷ xs) other (y ∷ ys) e h =
+    test_append (combining_at own x other y) (combining own xs other ys)
+    ∙ both_true _ _ (h 0 (omega arith)) (combining_by_places own xs other ys (omega (arith, e)) (λ k p. h (suc k) (omega arith)))
+
+pub place_combines : (own : ℤ) (xs : List ℤ) (other : ℤ) (ys : List ℤ) (k : ℕ) → length xs ≡ length ys → k < length xs → IsTrue (list_all is_narrow (combining own xs other ys)) → Combines own (number_at xs k) other (number_at ys k)
+unfolding combining
+place_combines own [] other ys k e less h = absurd (omega arith)
+place_combines own (x ∷ xs) other [] k e less h = absurd (omega (arith, e))
+place_combines own (x ∷ xs) other (y ∷ ys) zero e less h =
+    first_true _ _ (sym (test_append (combining_at own x other y) (combining own xs other ys)) ∙ h)
+place_combines own (x ∷ xs) other (y ∷ ys) (suc k) e less h =
+    place_combines own xs other ys k (omega (arith, e)) (omega arith)
+    (second_true (list_all is_narrow (combining_at own x other y)) _ (sym (test_append (combining_at own x other y) (combining own xs other ys)) ∙ h))
+
+-- ---- one more place of a row
+
+by_eq : {P : Type 0} (a b : ℕ) → (a ≡ b → P) → (a ≢ b → P) → P
+by_eq a b same other = elim (cases_eq a b) [ inl e ↦ same e | inr ne ↦ other ne ]
+
+-- the row `now` is combined from the row `was` below a place, and is as it was from there on
+pub record IsCombinedBelow (own : ℤ) (was : List ℤ) (other : ℤ) (leaver now : List ℤ) (place : ℕ) : Type 0 where
+  pub done : (k : ℕ) → k < place → number_at now k ≡ own *ℤ number_at was k -ℤ other *ℤ number_at leaver k
+  pub kept : (k : ℕ) → place ≤ k → number_at now k ≡ number_at was k
+  pub fits : (k : ℕ) → k < place → Combines own (number_at was k) other (number_at leaver k)
+
+pub none_combined : (own : ℤ) (was : List ℤ) (other : ℤ) (leaver : List ℤ) → IsCombinedBelow own was other leaver was 0
+none_combined own was other leaver = record {
+  done = λ k less. absurd (omega arith);
+  kept = λ k low. refl;
+  fits = λ k less. absurd (omega arith);
+}
+
+pub one_combined : (own : ℤ) (was : List ℤ) (other : ℤ) (leaver now : List ℤ) (place : ℕ) (number x y : ℤ) → place < length now → IsCombinedBelow own was other leaver now place → x ≡ number_at now place → y ≡ number_at leaver place → Combines own x other y × (number ≡ own *ℤ x -ℤ other *ℤ y) → IsCombinedBelow own was other leaver (set now place number) (place + 1)
+one_combined own was other leaver now place number x y less before is_x is_y h =
+    let same : number_at now place ≡ number_at was place = before.kept place (omega arith) in
+    let is_was : x ≡ number_at was place = is_x ∙ same in
+    record {
+      done = λ k p. by_eq k place
+          (λ e. rw e (get_or-set_same now place number (pos 0) less ∙ (rw (is_was, is_y) at h).1))
+          (λ ne. get_or-set_other now place k number (pos 0) ne ∙ before.done k (omega arith));
+      kept = λ k p. get_or-set_other now place k number (pos 0) (omega arith) ∙ before.kept k (omega arith);
+      fits = λ k p. by_eq k place (λ e. rw e (rw (is_was, is_y) at h).0) (λ ne. before.fits k (omega arith));
+    }
+
+-- what `combine` says after the last place, and where a place does not fit
+pub all_combined : (own : ℤ) (was : List ℤ) (other : ℤ) (leaver now : List ℤ) (place : ℕ) → length was ≡ length leaver → length now ≡ length was → length was ≤ place → IsCombinedBelow own was other leaver now place → (now ≡ combined own was other leaver) × IsTrue (list_all is_narrow (combining own was other leaver))
+all_combined own was other leaver now place e f past h = (
+  combined_by_places own was other leaver now e f (λ k p. h.done k (omega arith)),
+  combining_by_places own was other leaver e (λ k p. h.fits k (omega arith)),
+)
+
+pub not_combining : (own : ℤ) (was : List ℤ) (other : ℤ) (leaver now : List ℤ) (place : ℕ) (x y : ℤ) → length was ≡ length leaver → place < length was → IsCombinedBelow own was other leaver now place → x ≡ number_at now place → y ≡ number_at leaver place → ¬ Combines own x other y → ¬ IsTrue (list_all is_narrow (combining own was other leaver))
+not_combining own was other leaver now place x y e less before is_x is_y refused h =
+    let is_was : x ≡ number_at was place = is_x ∙ before.kept place (omega arith) in
+    refused (rw (is_was, is_y) (place_combines own was other leaver place e less h))

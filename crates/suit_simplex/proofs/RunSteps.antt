@@ -1,0 +1,205 @@
+-- One step of a run, and runs from a step on.
+use Rattle.std.proofs.Common.{◌≡◌, ℕ, suc, ◌+◌, ◌-◌, ◌<◌, ◌≤◌, Bool, true, false, length, refl, sym, ap, ◌∙◌, cond, Some, None, Option, inl, inr, arith, IsTrue, is_some}
+use Rattle.std.specs.List.{list_all}
+use Rattle.suit_simplex.specs.declared.program.Program.{Program}
+use Rattle.suit_simplex.specs.Programs.{IsWellFormed, IsBounded}
+use Rattle.suit_simplex.specs.Tableaus.{TableauRow, Tableau, first_tableau}
+use Rattle.suit_simplex.specs.Pivots.{entering, leaving, ratio_products, changing, pivoting, pivoted, is_narrow}
+use Rattle.suit_simplex.specs.Runs.{Next, Last, Wide, To, next_by_column, next_by_row, next, AtOptimum, AtBudget, AtWide, run_on, run_within, run_end}
+use Rattle.suit_simplex.specs.Dense.{seen, IsKept, CanAdvance}
+use Rattle.suit_simplex.specs.declared.dense.Dense.{Dense}
+use Rattle.suit_simplex.specs.declared.ends.Optimum.{Optimum}
+use Rattle.suit_simplex.specs.declared.ends.SimplexEnd.{SimplexEnd}
+use Rattle.suit_simplex.specs.declared.ends.SimplexEnd.TheVariants as ends
+use Rattle.suit_simplex.specs.Ends.{IsOptimumOf, Tells}
+use Rattle.suit_simplex.specs.Optima.{IsPrimalOptimum, IsDualOptimum}
+use Rattle.std.specs.Prelude.{Result, Ok, Err, MatchResult, IfOk}
+use Rattle.suit_simplex.proofs.OptimalPoints.{optimum_is_primal}
+use Rattle.suit_simplex.proofs.OptimalPrices.{optimum_is_dual}
+use Rattle.suit_simplex.proofs.CombinedRows.{test_append, both_true, first_true, second_true}
+use Rattle.suit_simplex.proofs.SoundTableaus.{IsSound}
+use Rattle.suit_simplex.proofs.SoundRows.{cases_option}
+use Rattle.suit_simplex.proofs.EnteringColumns.{entering_is_column}
+use Rattle.suit_simplex.proofs.RatioTest.{leaving_is_row}
+use Rattle.suit_simplex.proofs.PivotedTableaus.{row_content, objective_content, pivoted_is_sound}
+use Rattle.suit_simplex.proofs.Rays.{no_ray}
+
+-- ---- one step
+
+pub next_last : (tableau : Tableau) → entering tableau ≡ None → next tableau ≡ Last
+unfolding next
+next_last tableau e = ap (next_by_column tableau) e
+
+next_at : (tableau : Tableau) (column : ℕ) (leaver : TableauRow) → entering tableau ≡ Some column → leaving tableau column ≡ Some leaver → next tableau ≡ cond (list_all is_narrow (pivoting tableau column leaver)) (To (pivoted tableau column leaver)) Wide
+unfolding next
+next_at tableau column leaver e l = ap (next_by_column tableau) e ∙ ap (next_by_row tableau column) l
+
+not_true : (b : Bool) → (b ≡ true → ⊥) → b ≡ false
+not_true true h = absurd (h refl)
+not_true false h = refl
+
+next_wide : (tableau : Tableau) (column : ℕ) (leaver : TableauRow) → entering tableau ≡ Some column → leaving tableau column ≡ Some leaver → ¬ IsTrue (list_all is_narrow (pivoting tableau column leaver)) → next tableau ≡ Wide
+next_wide tableau column leaver e l refused =
+    next_at tableau column leaver e l ∙ ap (λ (b : Bool). cond b (To (pivoted tableau column leaver)) Wide) (not_true (list_all is_narrow (pivoting tableau column leaver)) refused)
+
+pub next_wide_ratio : (dense : Dense) (column : ℕ) → CanAdvance dense → entering (seen dense) ≡ Some column → ¬ IsTrue (list_all is_narrow (ratio_products column None (seen dense).rows)) → next (seen dense) ≡ Wide
+next_wide_ratio dense column can e refused =
+    elim (cases_option (leaving (seen dense) column)) [
+      | inl none ↦ absurd (can.row column e none)
+      | inr some ↦
+          next_wide (seen dense) column some.0 e some.1 (λ all.
+          refused (first_true (list_all is_narrow (ratio_products column None (seen dense).rows)) (list_all is_narrow (changing (seen dense) column some.0)) (sym (test_append (ratio_products column None (seen dense).rows) (changing (seen dense) column some.0)) ∙ all)))
+    ]
+
+pub next_wide_change : (tableau : Tableau) (column : ℕ) (leaver : TableauRow) → entering tableau ≡ Some column → leaving tableau column ≡ Some leaver → ¬ IsTrue (list_all is_narrow (changing tableau column leaver)) → next tableau ≡ Wide
+next_wide_change tableau column leaver e l refused =
+    next_wide tableau column leaver e l (λ all.
+    refused (second_true (list_all is_narrow (ratio_products column None tableau.rows)) (list_all is_narrow (changing tableau column leaver)) (sym (test_append (ratio_products column None tableau.rows) (changing tableau column leaver)) ∙ all)))
+
+pub next_to : (tableau : Tableau) (column : ℕ) (leaver : TableauRow) → entering tableau ≡ Some column → leaving tableau column ≡ Some leaver → IsTrue (list_all is_narrow (ratio_products column None tableau.rows)) → IsTrue (list_all is_narrow (changing tableau column leaver)) → next tableau ≡ To (pivoted tableau column leaver)
+next_to tableau column leaver e l ratio change =
+    next_at tableau column leaver e l
+    ∙ ap (λ (b : Bool). cond b (To (pivoted tableau column leaver)) Wide) (test_append (ratio_products column None tableau.rows) (changing tableau column leaver) ∙ both_true (list_all is_narrow (ratio_products column None tableau.rows)) (list_all is_narrow (changing tableau column leaver)) ratio change)
+
+to_same : (a b : Tableau) → To a ≡ To b → a ≡ b
+to_same a b e = cc
+
+-- a step keeps a tableau sound
+pub next_is_sound : (program : Program) (tableau later : Tableau) → IsSound program tableau → next tableau ≡ To later → IsSound program later
+unfolding next
+next_is_sound program tableau later sound h =
+    elim (cases_option (entering tableau)) [
+      | inl none ↦ absurd (cc (ap (next_by_column tableau) none, h))
+      | inr some ↦ by_column some.0 some.1
+    ]
+  where
+    by_fit : (column : ℕ) (leaver : TableauRow) (b : Bool) → entering tableau ≡ Some column → leaving tableau column ≡ Some leaver → cond b (To (pivoted tableau column leaver)) Wide ≡ To later → IsSound program later
+    by_fit column leaver true e l is = rw (← to_same _ _ is) (pivoted_is_sound program tableau column leaver sound e l)
+    by_fit column leaver false e l is = absurd (cc)
+
+    by_column : (column : ℕ) → entering tableau ≡ Some column → IsSound program later
+    by_column column e =
+        elim (cases_option (leaving tableau column)) [
+          | inl none ↦ absurd (cc (ap (next_by_column tableau) e, ap (next_by_row tableau column) none, h))
+          | inr some ↦ by_fit column some.0 (list_all is_narrow (pivoting tableau column some.0)) e some.1 (sym (next_at tableau column some.0 e some.1) ∙ h)
+        ]
+
+-- a sound tableau of a bounded program can go on
+pub sound_advances : (program : Program) (dense : Dense) → IsBounded program → IsSound program (seen dense) → dense.width ≡ suc (length program.costs + length program.rows) → CanAdvance dense
+sound_advances program dense bounded sound width = record {
+  column = λ column e. omega (arith, (entering_is_column program (seen dense) column sound e).0, width);
+  row = λ column e none. no_ray program (seen dense) column sound bounded e none;
+  pivot = λ column leaver e l. record {
+    positive = (leaving_is_row (seen dense) column leaver l).1;
+    rows = λ row inside apart. row_content program (seen dense) column leaver row sound l inside apart;
+    objective = objective_content program (seen dense) column leaver sound l;
+  };
+}
+
+-- ---- runs
+
+-- the run goes on from a tableau with so many pivots made
+pub record IsRunning (program : Program) (budget : ℕ) (dense : Dense) (made : ℕ) : Type 0 where
+  pub kept : IsKept dense
+  pub width : dense.width ≡ suc (length program.costs + length program.rows)
+  pub sound : IsSound program (seen dense)
+  pub run : run_within (budget - made) made (seen dense) ≡ run_end program budget
+
+pub first_running : (program : Program) (budget : ℕ) (dense : Dense) → IsSound program (first_tableau program) → IsKept dense → dense.width ≡ suc (length program.costs + length program.rows) → seen dense ≡ first_tableau program → IsRunning program budget dense 0
+first_running program budget dense sound kept width first = record {
+  kept = kept;
+  width = width;
+  sound = rw first sound;
+  run = rw first (ap (λ (left : ℕ). run_within left 0 (first_tableau program)) (omega arith));
+}
+
+next_number : (made : ℕ) → made + 1 ≡ suc made
+next_number made = omega arith
+
+step_left : (budget made : ℕ) → made < budget → budget - made ≡ suc (budget - (made + 1))
+step_left budget made less = omega arith
+
+run_to : (left made : ℕ) (tableau later : Tableau) → next tableau ≡ To later → run_within (suc left) made tableau ≡ run_within left (suc made) later
+unfolding run_within
+run_to left made tableau later e = ap (λ (n : Next). run_on n tableau (suc made) (run_within left (suc made))) e
+
+run_last : (left made : ℕ) (tableau : Tableau) → next tableau ≡ Last → run_within (suc left) made tableau ≡ AtOptimum tableau
+unfolding run_within
+run_last left made tableau e = ap (λ (n : Next). run_on n tableau (suc made) (run_within left (suc made))) e
+
+run_wide : (left made : ℕ) (tableau : Tableau) → next tableau ≡ Wide → run_within (suc left) made tableau ≡ AtWide (suc made)
+unfolding run_within
+run_wide left made tableau e = ap (λ (n : Next). run_on n tableau (suc made) (run_within left (suc made))) e
+
+pub next_running : (program : Program) (budget : ℕ) (dense later : Dense) (made : ℕ) → made < budget → IsRunning program budget dense made → (next (seen dense) ≡ To (seen later)) × IsKept later × (later.width ≡ dense.width) → IsRunning program budget later (made + 1)
+next_running program budget dense later made less before step = record {
+  kept = step.1;
+  width = step.2 ∙ before.width;
+  sound = next_is_sound program (seen dense) (seen later) before.sound step.0;
+  run =
+      let left : ℕ = budget - (made + 1) in
+      ap (λ (n : ℕ). run_within left n (seen later)) (next_number made)
+      ∙ sym (run_to left made (seen dense) (seen later) step.0)
+      ∙ ap (λ (n : ℕ). run_within n made (seen dense)) (sym (step_left budget made less))
+      ∙ before.run;
+}
+
+pub ends_last : (program : Program) (budget : ℕ) (dense : Dense) (made : ℕ) → made < budget → IsRunning program budget dense made → next (seen dense) ≡ Last → run_end program budget ≡ AtOptimum (seen dense)
+ends_last program budget dense made less before e =
+    sym before.run ∙ ap (λ (left : ℕ). run_within left made (seen dense)) (step_left budget made less) ∙ run_last (budget - (made + 1)) made (seen dense) e
+
+pub ends_wide : (program : Program) (budget : ℕ) (dense : Dense) (made : ℕ) → made < budget → IsRunning program budget dense made → next (seen dense) ≡ Wide → run_end program budget ≡ AtWide (suc made)
+ends_wide program budget dense made less before e =
+    sym before.run ∙ ap (λ (left : ℕ). run_within left made (seen dense)) (step_left budget made less) ∙ run_wide (budget - (made + 1)) made (seen dense) e
+
+none_left : (budget made : ℕ) (tableau : Tableau) → budget ≤ made → run_within (budget - made) made tableau ≡ cond (is_some (entering tableau)) AtBudget (AtOptimum tableau)
+unfolding run_within
+none_left budget made tableau past = let none : budget - made ≡ 0 = omega arith in rw none refl
+
+pub ends_budget : (program : Program) (budget : ℕ) (dense : Dense) (made : ℕ) → budget ≤ made → IsRunning program budget dense made → is_some (entering (seen dense)) ≡ true → run_end program budget ≡ AtBudget
+ends_budget program budget dense made past before e =
+    sym before.run ∙ none_left budget made (seen dense) past ∙ ap (λ (b : Bool). cond b AtBudget (AtOptimum (seen dense))) e
+
+pub ends_done : (program : Program) (budget : ℕ) (dense : Dense) (made : ℕ) → budget ≤ made → IsRunning program budget dense made → is_some (entering (seen dense)) ≡ false → run_end program budget ≡ AtOptimum (seen dense)
+ends_done program budget dense made past before e =
+    sym before.run ∙ none_left budget made (seen dense) past ∙ ap (λ (b : Bool). cond b AtBudget (AtOptimum (seen dense))) e
+
+-- a last tableau has no entering column
+pub last_enters_none : (tableau : Tableau) → next tableau ≡ Last → entering tableau ≡ None
+unfolding next
+last_enters_none tableau h =
+    elim (cases_option (entering tableau)) [
+      | inl none ↦ none
+      | inr some ↦ absurd (not_last some.0 (leaving tableau some.0) (sym (ap (next_by_column tableau) some.1) ∙ h))
+    ]
+  where
+    not_last : (column : ℕ) (leaver : Option TableauRow) → next_by_row tableau column leaver ≡ Last → ⊥
+    not_last column None e = absurd (cc)
+    not_last column (Some leaver) e = by_fit leaver (list_all is_narrow (pivoting tableau column leaver)) e
+      where
+        by_fit : (leaver : TableauRow) (b : Bool) → cond b (To (pivoted tableau column leaver)) Wide ≡ Last → ⊥
+        by_fit leaver true e = absurd (cc)
+        by_fit leaver false e = absurd (cc)
+
+pub none_from_test : (o : Option ℕ) → is_some o ≡ false → o ≡ None
+none_from_test None e = refl
+none_from_test (Some x) e = absurd (cc)
+
+-- ---- what an answer tells
+
+pub tells_read : (program : Program) (budget : ℕ) (tableau : Tableau) (answer : Result Optimum SimplexEnd) → run_end program budget ≡ AtOptimum tableau → MatchResult answer (IsOptimumOf program tableau) (λ end. end ≡ ends.Memory) → Tells program (run_end program budget) answer
+tells_read program budget tableau answer e read = rw e (by_answer answer read)
+  where
+    by_answer : (answer : Result Optimum SimplexEnd) → MatchResult answer (IsOptimumOf program tableau) (λ end. end ≡ ends.Memory) → Tells program (AtOptimum tableau) answer
+    by_answer (Ok optimum) is = is
+    by_answer (Err ends.Memory) is = tt
+    by_answer (Err ends.Pivots) is = absurd (cc)
+    by_answer (Err (ends.Wide pivot)) is = absurd (cc)
+
+pub proves_primal : (program : Program) (tableau : Tableau) (answer : Result Optimum SimplexEnd) → IsWellFormed program → IsSound program tableau → entering tableau ≡ None → MatchResult answer (IsOptimumOf program tableau) (λ end. end ≡ ends.Memory) → IfOk answer (IsPrimalOptimum program)
+proves_primal program tableau (Ok optimum) formed sound none is = optimum_is_primal program tableau optimum formed sound none is
+proves_primal program tableau (Err end) formed sound none is = tt
+
+pub proves_dual : (program : Program) (tableau : Tableau) (answer : Result Optimum SimplexEnd) → IsWellFormed program → IsSound program tableau → entering tableau ≡ None → MatchResult answer (IsOptimumOf program tableau) (λ end. end ≡ ends.Memory) → IfOk answer (IsDualOptimum program)
+proves_dual program tableau (Ok optimum) formed sound none is = optimum_is_dual program tableau optimum formed sound none is
+proves_dual program tableau (Err end) formed sound none is = tt

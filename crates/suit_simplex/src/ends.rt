@@ -1,0 +1,29 @@
+//! How a run of the simplex ends.
+use super::{Fracs, Numbers};
+
+/// A point with the largest objective, and the prices of the rows that prove it.
+#[derive(Debug, Drop)]
+pub struct Optimum {
+    /// The value of each column.
+    pub point: Fracs,
+    /// The prices of the rows, in order: that of row `i` is `duals[i] / scale`.
+    pub duals: Numbers,
+    /// What the prices and the objective are divided by. It is positive.
+    pub scale: i128,
+    /// The objective is `value / scale`.
+    pub value: i128,
+}
+
+/// Why a run ended without an optimum.
+#[derive(Clone, Copy, PartialEq, Eq, Debug)]
+pub enum SimplexEnd {
+    /// A column would still enter after as many pivots as the budget.
+    Pivots,
+    /// The pivot of this number, counted from 1, makes a number past 127 bits and a sign.
+    Wide {
+        /// The pivot.
+        pivot: u32,
+    },
+    /// There was no memory for the tableau or for the answer.
+    Memory,
+}
