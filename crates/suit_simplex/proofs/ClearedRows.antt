@@ -11,8 +11,8 @@ use Rattle.suit_num.proofs.DivisorLaws.{IsGcd-gcd_of}
 use Rattle.suit_num.proofs.IntegerLaws.{mul_assoc, mul_right_comm, mul-sub_left, mul-sub_right, div-mul, positive_from_mul, mul_positive, mul_not_negative, le_from_mul, same_from_mul}
 use Rattle.suit_simplex.specs.Points.{number_at, dot}
 use Rattle.suit_simplex.specs.Pivots.{combined, content, share, cleared}
-use Rattle.suit_simplex.proofs.Contents.{length-combined, number_at-combined, lowered_is}
-use Rattle.suit_simplex.proofs.DotProducts.{dot-combined, dot-lowered}
+use Rattle.suit_simplex.proofs.Contents.{length-combined, number_at-combined, primitive_is}
+use Rattle.suit_simplex.proofs.DotProducts.{dot-combined, dot-primitive}
 use Rattle.suit_simplex.proofs.Signs.{nothing_combined, nothing_taken, positive_low}
 
 -- ---- shares
@@ -100,8 +100,8 @@ cleared_is p t before leaver some same h =
       divisor_positive = positive (content mixed) h;
       balance = shares_balance p t some;
       width = length-map mixed (λ x. int_div x (pos (content mixed))) ∙ length-combined (share p t) before (share t p) leaver same;
-      numbers = λ place. lowered_is mixed place h ∙ number_at-combined (share p t) before (share t p) leaver place same;
-      dots = λ given. dot-lowered mixed given h ∙ dot-combined (share p t) before (share t p) leaver given same;
+      numbers = λ place. primitive_is mixed place h ∙ number_at-combined (share p t) before (share t p) leaver place same;
+      dots = λ given. dot-primitive mixed given h ∙ dot-combined (share p t) before (share t p) leaver given same;
     }
   where
     positive : (n : ℕ) → 0 < n → pos 0 <ℤ pos n

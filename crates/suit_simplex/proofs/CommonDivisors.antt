@@ -13,10 +13,10 @@ use Rattle.suit_num.proofs.DivisorLaws.{IsGcd-gcd_of}
 use Rattle.suit_num.proofs.IntegerLaws.{div_is, mul-one}
 use Rattle.std.proofs.lemmas.List.{get_or-set_same, get_or-set_other}
 use Rattle.suit_simplex.specs.Points.{number_at}
-use Rattle.suit_simplex.specs.Pivots.{content, lowered, share}
+use Rattle.suit_simplex.specs.Pivots.{content, primitive, share}
 use Rattle.std.proofs.lemmas.List.{length-map}
 use Rattle.suit_num.proofs.SignedDivisors.{IsNarrow_from_mul}
-use Rattle.suit_simplex.proofs.Contents.{content_divides, content_greatest, lowered_is}
+use Rattle.suit_simplex.proofs.Contents.{content_divides, content_greatest, primitive_is}
 
 -- a magnitude divides the numbers below a place, and each divisor of all numbers divides it
 pub record IsDivisorBelow (numbers : List ℤ) (divisor : ℤ) (place : ℕ) : Type 0 where
@@ -100,7 +100,7 @@ divided_by_places (x ∷ xs) (y ∷ ys) divisor e h =
     let here : y ≡ int_div x divisor = h 0 (omega arith) in
     ap₂ (λ (z : ℤ) (zs : List ℤ). z ∷ zs) here rest
 
-pub all_divided : (was : List ℤ) (divisor : ℤ) (now : List ℤ) (place : ℕ) → length now ≡ length was → length was ≤ place → IsDividedBelow was divisor now place → divisor ≡ pos (content was) → now ≡ lowered was
+pub all_divided : (was : List ℤ) (divisor : ℤ) (now : List ℤ) (place : ℕ) → length now ≡ length was → length was ≤ place → IsDividedBelow was divisor now place → divisor ≡ pos (content was) → now ≡ primitive was
 all_divided was divisor now place e past h is =
     divided_by_places was now divisor e (λ k p. h.done k (omega arith)) ∙ ap (λ (d : ℤ). map (λ x. int_div x d) was) is
 
@@ -112,8 +112,8 @@ map_one [] = refl
 map_one (x ∷ xs) = ap₂ (λ (z : ℤ) (zs : List ℤ). z ∷ zs) (sym (div_one x)) (map_one xs)
 
 -- numbers that share no divisor stay as they are
-pub lowered_same : (numbers : List ℤ) (divisor : ℤ) → divisor ≡ pos 1 → divisor ≡ pos (content numbers) → numbers ≡ lowered numbers
-lowered_same numbers divisor e is = map_one numbers ∙ ap (λ (d : ℤ). map (λ x. int_div x d) numbers) (sym e ∙ is)
+pub primitive_same : (numbers : List ℤ) (divisor : ℤ) → divisor ≡ pos 1 → divisor ≡ pos (content numbers) → numbers ≡ primitive numbers
+primitive_same numbers divisor e is = map_one numbers ∙ ap (λ (d : ℤ). map (λ x. int_div x d) numbers) (sym e ∙ is)
 
 -- ---- tests of the bits
 
@@ -123,15 +123,15 @@ zero_bits z fits e = sym (to_z-of_z w128 z fits) ∙ ap (cast_signed w128) e
 pub one_bits : (z : ℤ) → FitsSigned w128 z → cast_unsigned w128 z ≡ 1 → z ≡ pos 1
 one_bits z fits e = sym (to_z-of_z w128 z fits) ∙ ap (cast_signed w128) e
 
-length-lowered : (numbers : List ℤ) → length (lowered numbers) ≡ length numbers
-length-lowered numbers = length-map numbers (λ x. int_div x (pos (content numbers)))
+length-primitive : (numbers : List ℤ) → length (primitive numbers) ≡ length numbers
+length-primitive numbers = length-map numbers (λ x. int_div x (pos (content numbers)))
 
 -- a division makes no number wider
-pub narrow_lowered : (numbers : List ℤ) → 0 < content numbers → All IsNarrow numbers → All IsNarrow (lowered numbers)
-narrow_lowered numbers some narrow =
-    All-from_get_or IsNarrow (lowered numbers) (pos 0) (λ k p.
-    IsNarrow_from_mul _ (pos (content numbers)) _ (omega (arith, ints, some)) (lowered_is numbers k some)
-    (narrow k (pos 0) (omega (arith, length-lowered numbers))))
+pub narrow_primitive : (numbers : List ℤ) → 0 < content numbers → All IsNarrow numbers → All IsNarrow (primitive numbers)
+narrow_primitive numbers some narrow =
+    All-from_get_or IsNarrow (primitive numbers) (pos 0) (λ k p.
+    IsNarrow_from_mul _ (pos (content numbers)) _ (omega (arith, ints, some)) (primitive_is numbers k some)
+    (narrow k (pos 0) (omega (arith, length-primitive numbers))))
 
 -- ---- two numbers by their greatest common divisor
 

@@ -10,7 +10,7 @@ use Rattle.suit_num.specs.Divisors.{gcd_of}
 use Rattle.suit_num.proofs.DivisorLaws.{IsGcd-gcd_of}
 use Rattle.suit_num.proofs.IntegerLaws.{div-mul}
 use Rattle.suit_simplex.specs.Points.{number_at}
-use Rattle.suit_simplex.specs.Pivots.{combined, content, lowered}
+use Rattle.suit_simplex.specs.Pivots.{combined, content, primitive}
 use Rattle.suit_simplex.proofs.Signs.{nothing_combined}
 
 -- ---- the greatest common divisor
@@ -51,9 +51,9 @@ divided_is [] d place h = zero-*ℤ (pos d)
 divided_is (x ∷ xs) d zero h = div-mul x (pos d) (All-head (λ (z : ℤ). d ∣ unsigned_abs z) x xs h)
 divided_is (x ∷ xs) d (suc place) h = divided_is xs d place (All-tail (λ (z : ℤ). d ∣ unsigned_abs z) x xs h)
 
--- each number of the lowered list is an exact quotient
-pub lowered_is : (numbers : List ℤ) (place : ℕ) → 0 < content numbers → number_at (lowered numbers) place *ℤ pos (content numbers) ≡ number_at numbers place
-lowered_is numbers place h = divided_is numbers (content numbers) place (content_divides numbers)
+-- each number of the primitive list is an exact quotient
+pub primitive_is : (numbers : List ℤ) (place : ℕ) → 0 < content numbers → number_at (primitive numbers) place *ℤ pos (content numbers) ≡ number_at numbers place
+primitive_is numbers place h = divided_is numbers (content numbers) place (content_divides numbers)
 
 -- ---- a combination
 

@@ -9,7 +9,7 @@ use Rattle.std.proofs.Math.Nat.{suc-add}
 use Rattle.std.proofs.lemmas.Bool.{cond-true, cond-false, eq-eqb, ne_eqb}
 use Rattle.suit_num.proofs.IntegerLaws.{mul_assoc, mul_left_comm, mul_right_comm, mul-add_left, mul-add_right, mul-sub_right, mul-neg_left, mul-neg_right, div-mul, mul_not_negative, mul-one}
 use Rattle.suit_simplex.specs.Points.{number_at, dot}
-use Rattle.suit_simplex.specs.Pivots.{combined, content, lowered}
+use Rattle.suit_simplex.specs.Pivots.{combined, content, primitive}
 use Rattle.suit_simplex.proofs.Contents.{content_divides}
 use Rattle.suit_simplex.proofs.Signs.{nothing_combined, times_zero, sum_not_negative}
 
@@ -48,9 +48,9 @@ dot-divided (x ∷ xs) d given h =
     divided_step x (int_div x (pos d)) (given 0) (pos d) _ _ (div-mul x (pos d) (All-head P x xs h))
     (dot-divided xs d (λ place. given (suc place)) (All-tail P x xs h))
 
--- a lowered list gives the sum divided by the content
-pub dot-lowered : (numbers : List ℤ) (given : ℕ → ℤ) → 0 < content numbers → dot (lowered numbers) given *ℤ pos (content numbers) ≡ dot numbers given
-dot-lowered numbers given h = dot-divided numbers (content numbers) given (content_divides numbers)
+-- a primitive list gives the sum divided by the content
+pub dot-primitive : (numbers : List ℤ) (given : ℕ → ℤ) → 0 < content numbers → dot (primitive numbers) given *ℤ pos (content numbers) ≡ dot numbers given
+dot-primitive numbers given h = dot-divided numbers (content numbers) given (content_divides numbers)
 
 -- ---- the first place and the others
 

@@ -1,6 +1,8 @@
 pub mod BasicRows
+pub mod BoundedExamples
 pub mod ClearedRows
 pub mod CombinedRows
+pub mod CommonDenominators
 pub mod CommonDivisors
 pub mod Contents
 pub mod Corners

@@ -1,11 +1,11 @@
 -- One step of a run, and runs from a step on.
-use Rattle.std.proofs.Common.{◌≡◌, ℕ, suc, ◌+◌, ◌-◌, ◌<◌, ◌≤◌, Bool, true, false, length, refl, sym, ap, ◌∙◌, cond, Some, None, Option, inl, inr, arith, IsTrue, is_some}
+use Rattle.std.proofs.Common.{◌≡◌, ◌≢◌, ◌⊎◌, ℕ, zero, suc, ◌+◌, ◌-◌, ◌<◌, ◌≤◌, Bool, true, false, length, refl, sym, ap, ◌∙◌, cond, Some, None, Option, inl, inr, arith, IsTrue, is_some}
 use Rattle.std.specs.List.{list_all}
 use Rattle.suit_simplex.specs.declared.program.Program.{Program}
 use Rattle.suit_simplex.specs.Programs.{IsWellFormed, IsBounded}
 use Rattle.suit_simplex.specs.Tableaus.{TableauRow, Tableau, first_tableau}
 use Rattle.suit_simplex.specs.Pivots.{entering, leaving, ratio_products, changing, pivoting, pivoted, is_narrow}
-use Rattle.suit_simplex.specs.Runs.{Next, Last, Wide, To, next_by_column, next_by_row, next, AtOptimum, AtBudget, AtWide, run_on, run_within, run_end}
+use Rattle.suit_simplex.specs.Runs.{Next, Last, Ray, Wide, To, next_by_column, next_by_row, next, RunEnd, AtOptimum, AtBudget, AtWide, AtRay, run_on, run_within, run_end}
 use Rattle.suit_simplex.specs.Dense.{seen, IsKept, CanAdvance}
 use Rattle.suit_simplex.specs.declared.dense.Dense.{Dense}
 use Rattle.suit_simplex.specs.declared.ends.Optimum.{Optimum}
@@ -23,6 +23,7 @@ use Rattle.suit_simplex.proofs.EnteringColumns.{entering_is_column}
 use Rattle.suit_simplex.proofs.RatioTest.{leaving_is_row}
 use Rattle.suit_simplex.proofs.PivotedTableaus.{row_content, objective_content, pivoted_is_sound}
 use Rattle.suit_simplex.proofs.Rays.{no_ray}
+use Rattle.suit_simplex.proofs.FirstTableaus.{first_is_sound}
 
 -- ---- one step
 
@@ -203,3 +204,42 @@ proves_primal program tableau (Err end) formed sound none is = tt
 pub proves_dual : (program : Program) (tableau : Tableau) (answer : Result Optimum SimplexEnd) → IsWellFormed program → IsSound program tableau → entering tableau ≡ None → MatchResult answer (IsOptimumOf program tableau) (λ end. end ≡ ends.Memory) → IfOk answer (IsDualOptimum program)
 proves_dual program tableau (Ok optimum) formed sound none is = optimum_is_dual program tableau optimum formed sound none is
 proves_dual program tableau (Err end) formed sound none is = tt
+
+-- a sound tableau of a bounded program has no ray
+next_not_ray : (program : Program) (tableau : Tableau) → IsBounded program → IsSound program tableau → next tableau ≢ Ray
+next_not_ray program tableau bounded sound h =
+    elim (cases_option (entering tableau)) [
+      | inl none ↦ last_not_ray (sym (next_last tableau none) ∙ h)
+      | inr some ↦ by_row some.0 some.1 (cases_option (leaving tableau some.0))
+    ]
+  where
+    last_not_ray : Last ≡ Ray → ⊥
+    last_not_ray e = absurd (cc)
+
+    by_fit : (column : ℕ) (leaver : TableauRow) (b : Bool) → cond b (To (pivoted tableau column leaver)) Wide ≡ Ray → ⊥
+    by_fit column leaver true e = absurd (cc)
+    by_fit column leaver false e = absurd (cc)
+
+    by_row : (column : ℕ) → entering tableau ≡ Some column → (leaving tableau column ≡ None) ⊎ ((leaver : TableauRow) × (leaving tableau column ≡ Some leaver)) → ⊥
+    by_row column e (inl none) = no_ray program tableau column sound bounded e none
+    by_row column e (inr some) = by_fit column some.0 (list_all is_narrow (pivoting tableau column some.0)) (sym (next_at tableau column some.0 e some.1) ∙ h)
+
+not_ray_on : (after : Next) (tableau : Tableau) (pivot : ℕ) (more : Tableau → RunEnd) → after ≢ Ray → ((later : Tableau) → after ≡ To later → more later ≢ AtRay) → run_on after tableau pivot more ≢ AtRay
+not_ray_on Last tableau pivot more h k = λ e. absurd (cc)
+not_ray_on Ray tableau pivot more h k = λ e. h refl
+not_ray_on Wide tableau pivot more h k = λ e. absurd (cc)
+not_ray_on (To later) tableau pivot more h k = k later refl
+
+-- nor has a run of it from there
+no_ray_within : (program : Program) (left made : ℕ) (tableau : Tableau) → IsBounded program → IsSound program tableau → run_within left made tableau ≢ AtRay
+unfolding run_within
+no_ray_within program zero made tableau bounded sound = at_end (is_some (entering tableau))
+  where
+    at_end : (b : Bool) → cond b AtBudget (AtOptimum tableau) ≢ AtRay
+    at_end true = λ e. absurd (cc)
+    at_end false = λ e. absurd (cc)
+no_ray_within program (suc left) made tableau bounded sound =
+    not_ray_on (next tableau) tableau (suc made) (run_within left (suc made)) (next_not_ray program tableau bounded sound) (λ later e. no_ray_within program left (suc made) later bounded (next_is_sound program tableau later sound e))
+
+pub bounded_run_meets_no_ray : (program : Program) (budget : ℕ) → IsWellFormed program → IsBounded program → run_end program budget ≢ AtRay
+bounded_run_meets_no_ray program budget formed bounded = no_ray_within program budget 0 (first_tableau program) bounded (first_is_sound program formed)

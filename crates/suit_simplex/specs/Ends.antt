@@ -18,7 +18,7 @@ pub record IsOptimumOf (program : Program) (tableau : Tableau) (optimum : Optimu
   pub columns : length optimum.point ≡ length program.costs
   pub point : (column : ℕ) (part : Frac) → slice_get optimum.point column ≡ Some part
       → IsBasicValue column (find (λ row. row.basic == column) tableau.rows) part
-  -- the dual of a row is the objective row's entry in its slack column
+  -- the prices stand in the slack columns of the objective row
   pub duals : optimum.duals ≡ drop (2 + length program.costs) tableau.objective
   pub scale : optimum.scale ≡ scale tableau
   pub value : optimum.value ≡ value tableau

@@ -11,7 +11,7 @@ row_of entries bound = record { entries = entries; bound = bound }
 abbrev pub tableau_row : ℕ → List ℤ → TableauRow
 tableau_row basic numbers = record { basic = basic; numbers = numbers }
 
--- 3x + 2y is largest where x + y is at most 4 and 3x + y at most 6
+-- 3x + 2y is to be largest where x + y is at most 4 and 3x + y at most 6
 abbrev pub two_columns : Program
 two_columns = record {
   costs = pos 3 ∷ pos 2 ∷ [];
@@ -72,20 +72,20 @@ nothing_gained = record { costs = pos 0 ∷ negsuc 0 ∷ []; rows = row_of (pos 
 abbrev pub NothingGained : Type 0
 NothingGained = run_end nothing_gained 0 ≡ AtOptimum (first_tableau nothing_gained)
 
--- of two rows with the same ratio that of the lower basic column leaves
+-- of two rows with the same ratio that of the lower basic column leaves, though it comes last; and the objective row is divided by 2
 abbrev pub tied : Program
 tied = record {
-  costs = pos 1 ∷ [];
-  rows = row_of (pos 2 ∷ []) (pos 2) ∷ row_of (pos 1 ∷ []) (pos 1) ∷ [];
+  costs = pos 1 ∷ pos 1 ∷ [];
+  rows = row_of (pos 0 ∷ pos 1 ∷ []) (pos 0) ∷ row_of (pos 2 ∷ pos 1 ∷ []) (pos 0) ∷ [];
 }
 
 abbrev pub TieBroken : Type 0
-TieBroken = run_end tied 1 ≡ AtOptimum (record {
-  rows = tableau_row 0 (pos 2 ∷ pos 2 ∷ pos 1 ∷ pos 0 ∷ []) ∷ tableau_row 2 (pos 0 ∷ pos 0 ∷ negsuc 0 ∷ pos 2 ∷ []) ∷ [];
-  objective = pos 2 ∷ pos 2 ∷ pos 0 ∷ pos 1 ∷ pos 0 ∷ [];
+TieBroken = run_end tied 2 ≡ AtOptimum (record {
+  rows = tableau_row 2 (pos 0 ∷ negsuc 1 ∷ pos 0 ∷ pos 1 ∷ negsuc 0 ∷ []) ∷ tableau_row 1 (pos 0 ∷ pos 2 ∷ pos 1 ∷ pos 0 ∷ pos 1 ∷ []) ∷ [];
+  objective = pos 1 ∷ pos 0 ∷ pos 1 ∷ pos 0 ∷ pos 0 ∷ pos 1 ∷ [];
 })
 
--- where a column has no positive entry, the objective has no limit
+-- where the entering column has no positive entry, the objective has no limit
 abbrev pub unlimited : Program
 unlimited = record { costs = pos 1 ∷ []; rows = row_of (negsuc 0 ∷ []) (pos 1) ∷ [] }
 

@@ -1,6 +1,7 @@
 pub mod Dense
 pub mod Ends
 pub mod Examples
+pub mod Laws
 pub mod Optima
 pub mod Pivots
 pub mod Points

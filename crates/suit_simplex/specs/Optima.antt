@@ -6,7 +6,7 @@ use Rattle.suit_simplex.specs.declared.ends.Optimum.{Optimum}
 use Rattle.suit_simplex.specs.Points.{number_at, dot}
 use Rattle.suit_simplex.specs.Programs.{IsFeasible, IsDualFeasible}
 
--- whole numbers over a denominator are these fractions
+-- a point over a denominator has these fractions as its columns
 pub record IsCommon (parts : List Frac) (point : ℕ → ℤ) (den : ℤ) : Type 0 where
   pub over : pos 0 <ℤ den
   pub same : (column : ℕ) (part : Frac) → slice_get parts column ≡ Some part → point column *ℤ part.den ≡ part.num *ℤ den
@@ -16,7 +16,7 @@ abbrev pub IsPrimalOptimum : Program → Optimum → Type 0
 IsPrimalOptimum program optimum = (point : ℕ → ℤ) (den : ℤ) → IsCommon optimum.point point den
     → IsFeasible program point den × (dot program.costs point *ℤ optimum.scale ≡ optimum.value *ℤ den)
 
--- the duals over the scale are feasible prices, and what the rows cost at them is value / scale
+-- the prices are feasible, and all bounds at these prices are worth value / scale
 abbrev pub IsDualOptimum : Program → Optimum → Type 0
 IsDualOptimum program optimum =
     IsDualFeasible program optimum.duals optimum.scale

@@ -5,7 +5,7 @@ use Rattle.std.specs.List.{flat_map}
 use Rattle.suit_num.specs.Divisors.{gcd_of}
 use Rattle.suit_simplex.specs.Tableaus.{TableauRow, Tableau, bound, entry, reduced_cost}
 
--- ---- the entering column: the lowest-numbered with a negative entry in the objective row
+-- ---- the entering column, by Bland's rule: the first whose entry in the objective row is negative
 
 abbrev pub entering : Tableau → Option ℕ
 entering tableau = position (λ cost. int_lt cost (pos 0)) (drop 2 tableau.objective)
@@ -27,11 +27,11 @@ kept column (Some best) row = if int_lt (pos 0) (entry row column) && is_better 
 abbrev pub leaving : Tableau → ℕ → Option TableauRow
 leaving tableau column = fold (kept column) None tableau.rows
 
--- the two products by which a row is compared with the best row so far
+-- the two products that compare the ratio of a row with that of the best row so far
 abbrev pub compared_pair : ℕ → TableauRow → TableauRow → List ℤ
 compared_pair column best row = (bound row *ℤ entry best column) ∷ (bound best *ℤ entry row column) ∷ []
 
--- they are made for a row with a positive entry behind another such row
+-- a row with a positive entry is compared where another such row came before
 unfoldable pub compared : ℕ → Option TableauRow → TableauRow → List ℤ
 compared column None row = []
 compared column (Some best) row = if int_lt (pos 0) (entry row column) then compared_pair column best row else []
@@ -49,7 +49,7 @@ combined own (x ∷ xs) other (y ∷ ys) = (own *ℤ x -ℤ other *ℤ y) ∷ co
 combined own (x ∷ xs) other [] = []
 combined own [] other ys = []
 
--- the numbers that this makes at one place: the two products and their difference
+-- the numbers on the way to it at one place: the two products and their difference
 abbrev pub combining_at : ℤ → ℤ → ℤ → ℤ → List ℤ
 combining_at own x other y = (own *ℤ x) ∷ (other *ℤ y) ∷ (own *ℤ x -ℤ other *ℤ y) ∷ []
 
@@ -64,9 +64,9 @@ unfoldable pub content : List ℤ → ℕ
 content [] = 0
 content (x ∷ xs) = gcd_of (unsigned_abs x) (content xs)
 
--- numbers divided by their greatest common divisor
-abbrev pub lowered : List ℤ → List ℤ
-lowered numbers = map (λ x. int_div x (pos (content numbers))) numbers
+-- the primitive numbers behind numbers: each divided by their greatest common divisor
+abbrev pub primitive : List ℤ → List ℤ
+primitive numbers = map (λ x. int_div x (pos (content numbers))) numbers
 
 -- the quotient of one number by its greatest common divisor with another
 abbrev pub share : ℤ → ℤ → ℤ
@@ -74,7 +74,7 @@ share x y = int_div x (pos (gcd_of (unsigned_abs x) (unsigned_abs y)))
 
 -- numbers with the entry t, cleared by those of the leaving row with the entry p
 abbrev pub cleared : ℤ → ℤ → List ℤ → List ℤ → List ℤ
-cleared p t numbers leaver = lowered (combined (share p t) numbers (share t p) leaver)
+cleared p t numbers leaver = primitive (combined (share p t) numbers (share t p) leaver)
 
 abbrev pub clearing : ℤ → ℤ → List ℤ → List ℤ → List ℤ
 clearing p t numbers leaver = combining (share p t) numbers (share t p) leaver
@@ -94,7 +94,7 @@ pivoting_row column leaver row =
     then []
     else clearing (entry leaver column) (entry row column) row.numbers leaver.numbers
 
--- the tableau after the pivot; the leaving row has no part in the scale, so that the scale is only multiplied
+-- the tableau after the pivot; the leaving row has no part in the scale, so that a 0 stands before its numbers
 unfoldable pub pivoted : Tableau → ℕ → TableauRow → Tableau
 pivoted tableau column leaver = record {
   rows = map (pivoted_row column leaver) tableau.rows;

@@ -13,13 +13,13 @@ pub record IsWellFormed (program : Program) : Type 0 where
   pub narrow_entries : All (λ row. All IsNarrow row.entries) program.rows
   pub narrow_bounds : All (λ row. IsNarrow row.bound) program.rows
 
--- a point in whole numbers over a denominator: no column is below 0, and each row is at most its bound
+-- a point, as whole numbers over a denominator, with no negative column and every row within its bound
 pub record IsFeasible (program : Program) (point : ℕ → ℤ) (den : ℤ) : Type 0 where
   pub over : pos 0 <ℤ den
   pub columns : (column : ℕ) → column < length program.costs → pos 0 ≤ℤ point column
   pub rows : All (λ row. dot row.entries point ≤ℤ (row.bound *ℤ den)) program.rows
 
--- there is a number that no point's objective exceeds
+-- the objective has an upper limit over all feasible points
 abbrev pub IsBounded : Program → Type 0
 IsBounded program = (limit : ℤ) × ((point : ℕ → ℤ) (den : ℤ) → IsFeasible program point den → dot program.costs point ≤ℤ (limit *ℤ den))
 
@@ -27,7 +27,7 @@ IsBounded program = (limit : ℤ) × ((point : ℕ → ℤ) (den : ℤ) → IsFe
 abbrev pub column_entries : List ProgramRow → ℕ → List ℤ
 column_entries rows column = map (λ row. number_at row.entries column) rows
 
--- prices of the rows in whole numbers over a scale: none is negative, and at them each column costs at least what it adds to the objective
+-- prices of the rows, as whole numbers over a scale: none is negative, and what a unit of a column takes from the rows is worth at least what it adds to the objective
 pub record IsDualFeasible (program : Program) (prices : List ℤ) (scale : ℤ) : Type 0 where
   pub over : pos 0 <ℤ scale
   pub count : length prices ≡ length program.rows

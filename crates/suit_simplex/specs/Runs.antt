@@ -1,4 +1,4 @@
--- A run: pivot after pivot, until no column enters, the budget is used up, or a number is too wide.
+-- A run: pivot after pivot, until no column enters, the budget is used up, or a number gets too wide.
 use Rattle.std.specs.Prelude.{ℕ, zero, suc, Option, Some, None, is_some, if◌then◌else◌}
 use Rattle.std.specs.List.{list_all}
 use Rattle.suit_simplex.specs.declared.program.Program.{Program}
@@ -30,7 +30,7 @@ next tableau = next_by_column tableau (entering tableau)
 pub data RunEnd : Type 0 where
   -- with the last tableau, from which the optimum is read
   AtOptimum : Tableau → RunEnd
-  -- a column still enters after as many pivots as the budget
+  -- the budget is used up, and a column would enter
   AtBudget : RunEnd
   -- the pivot of this number is too wide
   AtWide : (pivot : ℕ) → RunEnd

@@ -27,7 +27,7 @@ scale tableau = number_at tableau.objective 0
 abbrev pub value : Tableau → ℤ
 value tableau = number_at tableau.objective 1
 
--- the objective row's entry in a column
+-- the scale times what the column's unit in the point would cost the objective: a column with a negative number improves it
 abbrev pub reduced_cost : Tableau → ℕ → ℤ
 reduced_cost tableau column = number_at tableau.objective (suc (suc column))
 
@@ -35,14 +35,14 @@ reduced_cost tableau column = number_at tableau.objective (suc (suc column))
 unfoldable pub unit_numbers : ℕ → ℕ → List ℤ
 unit_numbers count place = map (λ other. if other == place then pos 1 else pos 0) (range_with_len 0 count)
 
--- row number i of `rows` begins with its bound, its entries, and 1 in its slack column, which is basic
+-- one of so many rows at the start: its bound, its entries, and 1 in its slack column, which is basic
 abbrev pub first_row : ℕ → ℕ → ℕ × ProgramRow → TableauRow
 first_row columns rows (place, row) = record {
   basic = columns + place;
   numbers = row.bound ∷ row.entries ++ unit_numbers rows place;
 }
 
--- the first tableau: no column is in the point, and the objective is 0 over 1
+-- the first tableau: the slack columns are basic, so that every column of the program is 0, and so is the objective
 unfoldable pub first_tableau : Program → Tableau
 first_tableau program = record {
   rows = map (first_row (length program.costs) (length program.rows)) (enumerate_from 0 program.rows);

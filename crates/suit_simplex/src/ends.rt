@@ -6,7 +6,7 @@ use super::{Fracs, Numbers};
 pub struct Optimum {
     /// The value of each column.
     pub point: Fracs,
-    /// The prices of the rows, in order: that of row `i` is `duals[i] / scale`.
+    /// The prices of the rows in order, each to be divided by `scale`.
     pub duals: Numbers,
     /// What the prices and the objective are divided by. It is positive.
     pub scale: i128,
@@ -17,7 +17,7 @@ pub struct Optimum {
 /// Why a run ended without an optimum.
 #[derive(Clone, Copy, PartialEq, Eq, Debug)]
 pub enum SimplexEnd {
-    /// A column would still enter after as many pivots as the budget.
+    /// The budget of pivots is used up, and another one would follow.
     Pivots,
     /// The pivot of this number, counted from 1, makes a number past 127 bits and a sign.
     Wide {

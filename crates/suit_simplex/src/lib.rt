@@ -4,7 +4,9 @@
 
 mod dense;
 mod ends;
+pub mod examples;
 mod first;
+pub mod laws;
 mod lists;
 mod program;
 mod reading;
@@ -15,3 +17,4 @@ pub use ends::{Optimum, SimplexEnd};
 pub use lists::{Fracs, Numbers, ProgramRows};
 pub use program::{Program, ProgramRow};
 pub use solving::optimum;
+

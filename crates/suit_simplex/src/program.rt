@@ -1,8 +1,9 @@
 //! Linear programs.
 use super::{Numbers, ProgramRows};
 
-/// A linear program in standard form: it asks for the largest `costs * z` over the points `z` with
-/// `entries * z <= bound` for each row, and no column of `z` below 0.
+/// A linear program in standard form. Its points give each column a number that is not negative,
+/// and keep every row within its bound; wanted is a point where the objective, the sum of the
+/// columns times their costs, is largest.
 #[derive(Debug, Drop)]
 pub struct Program {
     /// What one unit of each column adds to the objective.

@@ -4,7 +4,7 @@ ghost use Rattle.std.specs.Bool.{OnTrue};
 ghost use Rattle.std.specs.List.{list_all};
 ghost use Rattle.suit_num.specs.Divisors.{gcd_of};
 ghost use Rattle.suit_num.specs.Narrow.{IsNarrow};
-ghost use Rattle.suit_simplex.specs.Pivots.{combined, combining, combining_at, content, is_narrow, lowered, share, cleared, clearing};
+ghost use Rattle.suit_simplex.specs.Pivots.{combined, combining, combining_at, content, is_narrow, primitive, share, cleared, clearing};
 
 use suit_num::{gcd, mul, sub};
 
@@ -69,11 +69,11 @@ fn divisor_with(divisor: i128, number: i128) -> i128
 }
 
 // The numbers divided by their greatest common divisor, in place.
-fn lower(numbers: &mut [i128], likely: usize)
+fn make_primitive(numbers: &mut [i128], likely: usize)
     requires narrow { All IsNarrow numbers.old }
     requires within { likely < length numbers.old }
     requires some { 0 < content numbers.old }
-    ensures value { numbers.new ≡ lowered numbers.old }
+    ensures value { numbers.new ≡ primitive numbers.old }
     ensures narrow { All IsNarrow numbers.new }
 {
     let divisor = common_divisor(numbers, likely);
@@ -109,7 +109,7 @@ pub(crate) fn clear(
     if !combine(numbers, own, leaver, other) {
         return false;
     }
-    lower(numbers, likely);
+    make_primitive(numbers, likely);
     true
 }
 

@@ -5,8 +5,8 @@ use Rattle.std.proofs.lemmas.Int.{to_z-of_z}
 use Rattle.suit_simplex.specs.Pivots.{combined, share}
 use Rattle.suit_simplex.proofs.row.clear.Goals as goal
 
-pub lower-requires-clause-some : goal.lower-requires-clause-some
-lower-requires-clause-some c =
+pub make_primitive-requires-clause-some : goal.make_primitive-requires-clause-some
+make_primitive-requires-clause-some c =
     let pivot_fits : FitsSigned w128 c.args.pivot = c.ranges.pivot in
     let entry_fits : FitsSigned w128 c.args.entry = c.ranges.entry in
     let own_fits : FitsSigned w128 c.shares-own.result.0 = search rules in

@@ -1,5 +1,5 @@
 use Rattle.suit_simplex.proofs.CommonDivisors.{IsDividedBelow}
-use Rattle.suit_simplex.proofs.row.lower.Given as goal
+use Rattle.suit_simplex.proofs.row.make_primitive.Given as goal
 
 abbrev pub invariant-loop-number : goal.invariant-loop-number
 invariant-loop-number l = IsDividedBelow l.fn.numbers l.divisor l.numbers l.number-index

@@ -3,14 +3,14 @@ use Rattle.std.specs.Prelude.{FitsSigned, pos, int_div, ◌<ℤ◌}
 use Rattle.std.specs.Int.{w128}
 use Rattle.std.proofs.lemmas.Int.{ints, to_z-of_z, quot_fits}
 use Rattle.suit_simplex.specs.Points.{number_at}
-use Rattle.suit_simplex.proofs.CommonDivisors.{lowered_same, one_divided, all_divided, narrow_lowered, one_bits}
-use Rattle.suit_simplex.specs.Pivots.{lowered}
-use Rattle.suit_simplex.proofs.row.lower.Goals as goal
+use Rattle.suit_simplex.proofs.CommonDivisors.{primitive_same, one_divided, all_divided, narrow_primitive, one_bits}
+use Rattle.suit_simplex.specs.Pivots.{primitive}
+use Rattle.suit_simplex.proofs.row.make_primitive.Goals as goal
 
 pub returns-then-divisor-eq1-clause-value : goal.returns-then-divisor-eq1-clause-value
 returns-then-divisor-eq1-clause-value c =
     let fits : FitsSigned w128 c.common_divisor-divisor.result = search rules in
-    lowered_same c.args.numbers.now c.common_divisor-divisor.result (one_bits _ fits c.if-divisor-eq1.true) c.common_divisor-divisor.ensures
+    primitive_same c.args.numbers.now c.common_divisor-divisor.result (one_bits _ fits c.if-divisor-eq1.true) c.common_divisor-divisor.ensures
 
 pub loop-number-preserved : goal.loop-number-preserved
 loop-number-preserved c =
@@ -28,6 +28,6 @@ returns-clause-value c =
 pub returns-clause-narrow : goal.returns-clause-narrow
 returns-clause-narrow c =
     let divisor_fits : FitsSigned w128 c.common_divisor-divisor.result = search rules in
-    let value : c.loop-number.numbers ≡ lowered c.args.numbers.now =
+    let value : c.loop-number.numbers ≡ primitive c.args.numbers.now =
     all_divided c.args.numbers.now c.common_divisor-divisor.result c.loop-number.numbers c.loop-number.number-index c.loop-number.auto.numbers (omega arith) (simp to_z-of_z at c.loop-number.invariant) c.common_divisor-divisor.ensures in
-    rw value (narrow_lowered c.args.numbers.now c.requires.some c.requires.narrow)
+    rw value (narrow_primitive c.args.numbers.now c.requires.some c.requires.narrow)

@@ -1,0 +1,5 @@
+use Rattle.suit_simplex.proofs.WorkedRuns.{nothing_gained}
+use Rattle.suit_simplex.proofs.examples.nothing_gained.Goals as goal
+
+pub returns : goal.returns
+returns c = nothing_gained

@@ -1,0 +1,5 @@
+use Rattle.suit_simplex.proofs.WorkedRuns.{two_wide_rows}
+use Rattle.suit_simplex.proofs.examples.two_wide_rows.Goals as goal
+
+pub returns : goal.returns
+returns c = two_wide_rows
