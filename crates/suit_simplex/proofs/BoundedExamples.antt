@@ -1,13 +1,11 @@
 -- The programs of the tests are well formed and bounded.
-use Rattle.std.proofs.Common.{◌≡◌, ℕ, ◌<◌, ◌^◌, ◌+◌, List, [], ◌∷◌, All, arith, lit<}
-use Rattle.std.specs.Prelude.{ℤ, pos, ◌*ℤ◌, ◌+ℤ◌, ◌≤ℤ◌}
+use Rattle.std.proofs.Common.{◌^◌, [], arith, lit<}
+use Rattle.std.specs.Prelude.{pos, negsuc, ◌*ℤ◌, ◌+ℤ◌, ◌≤ℤ◌}
 use Rattle.std.proofs.lemmas.Int.{ints}
 use borrow.Author.Differences.{product_is}
-use Rattle.suit_num.proofs.IntegerLaws.{le-mul_right, mul_assoc}
 use Rattle.suit_simplex.specs.Points.{dot}
-use Rattle.suit_simplex.specs.Programs.{IsBounded, IsFeasible}
-use Rattle.suit_simplex.specs.Examples.{two_columns, two_wide_rows}
-use Rattle.suit_simplex.specs.declared.program.ProgramRow.{ProgramRow}
+use Rattle.suit_simplex.specs.Programs.{IsBounded}
+use Rattle.suit_simplex.specs.Examples.{two_columns, one_wide_row, two_wide_rows, nothing_gained, tied}
 
 pub two_columns_bounded : IsBounded two_columns
 unfolding dot
@@ -28,4 +26,34 @@ two_wide_rows_bounded = (
       let first : (pos (2 ^ 100) *ℤ point 0 +ℤ pos 0) ≤ℤ (pos (2 ^ 100) *ℤ den) = feasible.rows 0 (record { entries = []; bound = pos 0 }) (lit< tt) in
       let x : pos 0 ≤ℤ point 0 = feasible.columns 0 (lit< tt) in
       omega (arith, ints, product_is (pos 1) (point 0), product_is (pos (2 ^ 100)) (point 0), product_is (pos (2 ^ 100)) den),
+)
+
+pub one_wide_row_bounded : IsBounded one_wide_row
+unfolding dot
+one_wide_row_bounded = (
+  pos (2 ^ 100),
+  λ point den feasible.
+      let first : (pos (2 ^ 100) *ℤ point 0 +ℤ pos 0) ≤ℤ (pos (2 ^ 100) *ℤ den) = feasible.rows 0 (record { entries = []; bound = pos 0 }) (lit< tt) in
+      let x : pos 0 ≤ℤ point 0 = feasible.columns 0 (lit< tt) in
+      omega (arith, ints, product_is (pos 1) (point 0), product_is (pos (2 ^ 100)) (point 0), product_is (pos (2 ^ 100)) den),
+)
+
+pub nothing_gained_bounded : IsBounded nothing_gained
+unfolding dot
+nothing_gained_bounded = (
+  pos 0,
+  λ point den feasible.
+      let y : pos 0 ≤ℤ point 1 = feasible.columns 1 (lit< tt) in
+      omega (arith, ints, product_is (pos 0) (point 0), product_is (negsuc 0) (point 1), product_is (pos 0) den),
+)
+
+pub tied_bounded : IsBounded tied
+unfolding dot
+tied_bounded = (
+  pos 0,
+  λ point den feasible.
+      let second : (pos 2 *ℤ point 0 +ℤ (pos 1 *ℤ point 1 +ℤ pos 0)) ≤ℤ (pos 0 *ℤ den) = feasible.rows 1 (record { entries = []; bound = pos 0 }) (lit< tt) in
+      let x : pos 0 ≤ℤ point 0 = feasible.columns 0 (lit< tt) in
+      let y : pos 0 ≤ℤ point 1 = feasible.columns 1 (lit< tt) in
+      omega (arith, ints, product_is (pos 1) (point 0), product_is (pos 1) (point 1), product_is (pos 2) (point 0), product_is (pos 0) den),
 )

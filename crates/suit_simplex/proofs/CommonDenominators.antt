@@ -1,10 +1,9 @@
 -- A denominator that fractions have in common: the product of theirs.
-use Rattle.std.proofs.Common.{◌≡◌, ℕ, zero, suc, List, [], ◌∷◌, refl, sym, ap, ◌∙◌, Some, None, arith}
-use Rattle.std.specs.Prelude.{ℤ, pos, ◌*ℤ◌, ◌<ℤ◌, slice_get}
+use Rattle.std.proofs.Common.{◌≡◌, ℕ, zero, suc, List, [], ◌∷◌, sym, ap, ◌∙◌, Some, arith}
+use Rattle.std.specs.Prelude.{ℤ, pos, ◌*ℤ◌, slice_get}
 use Rattle.std.proofs.lemmas.Int.{ints}
 use Rattle.suit_num.specs.declared.fraction.Frac.{Frac}
 use Rattle.suit_num.proofs.IntegerLaws.{mul_assoc, mul_right_comm, mul_positive}
-use Rattle.std.proofs.Math.IntN.{*ℤ_comm}
 use Rattle.suit_simplex.specs.Optima.{IsCommon}
 
 some_same : (x y : Frac) → Some x ≡ Some y → x ≡ y

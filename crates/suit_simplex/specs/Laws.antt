@@ -1,5 +1,5 @@
 -- Laws of runs and of points.
-use Rattle.std.specs.Prelude.{◌≡◌, ◌≢◌, ℕ, ℤ, List}
+use Rattle.std.specs.Prelude.{◌≢◌, ℕ, ℤ, List}
 use Rattle.suit_num.specs.declared.fraction.Frac.{Frac}
 use Rattle.suit_simplex.specs.declared.program.Program.{Program}
 use Rattle.suit_simplex.specs.Programs.{IsWellFormed, IsBounded}

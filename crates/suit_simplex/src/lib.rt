@@ -18,3 +18,5 @@ pub use lists::{Fracs, Numbers, ProgramRows};
 pub use program::{Program, ProgramRow};
 pub use solving::optimum;
 
+#[cfg(test)]
+mod tests;

@@ -1,0 +1,11 @@
+use Rattle.suit_simplex.proofs.BoundedExamples.{one_wide_row_bounded, nothing_gained_bounded, tied_bounded}
+use Rattle.suit_simplex.proofs.tests.corners.Goals as goal
+
+pub optimum-requires-clause-bounded : goal.optimum-requires-clause-bounded
+optimum-requires-clause-bounded g c = rw c.in_ok-wide.ensures one_wide_row_bounded
+
+pub optimum-requires-2-clause-bounded : goal.optimum-requires-2-clause-bounded
+optimum-requires-2-clause-bounded g c = rw c.in_ok-idle.ensures nothing_gained_bounded
+
+pub optimum-requires-3-clause-bounded : goal.optimum-requires-3-clause-bounded
+optimum-requires-3-clause-bounded g c = rw c.in_ok-even.ensures tied_bounded
