@@ -54,7 +54,7 @@ term_elsewhere : (here test : Bool) (ways value : ℕ) → here ≡ false → wa
 term_elsewhere here test ways value is = rw is (omega arith)
 
 -- among all counts, those asked for alone
-selected : (g : List ℕ → ℕ) (sizes counts : List ℕ)
+pub selected : (g : List ℕ → ℕ) (sizes counts : List ℕ)
     → sum_by (λ other. ways_of sizes other * (if bytes_eq other counts then g other else 0)) (counts_up_to sizes) ≡ ways_of sizes counts * g counts
 unfolding counts_up_to ways_of
 selected g [] [] = omega arith
@@ -91,7 +91,7 @@ selected g (size ∷ sizes) (count ∷ counts) =
     ]
 
 -- two conditions in either order
-both_tests : (length_fits asked : Bool) (deals : ℕ)
+pub both_tests : (length_fits asked : Bool) (deals : ℕ)
     → (if length_fits then (if asked then deals else 0) else 0) ≡ (if asked then (if length_fits then deals else 0) else 0)
 both_tests true true deals = refl
 both_tests true false deals = refl

@@ -2,6 +2,7 @@ pub mod BlockCounts
 pub mod ClassWeights
 pub mod FewCounts
 pub mod GroupedSums
+pub mod HeldCounts
 pub mod JoinedChoices
 pub mod ListedCounts
 pub mod PlacedCounts

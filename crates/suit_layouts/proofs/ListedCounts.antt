@@ -39,7 +39,7 @@ Contains-kept test x xs false is y passes found others = elim (Contains-cons_cas
   | inr there ↦ others there
 ]
 
-Contains-filter : {X : Type 0} (test : X → Bool) (xs : List X) (y : X) → Contains xs y → test y ≡ true → Contains (filter test xs) y
+pub Contains-filter : {X : Type 0} (test : X → Bool) (xs : List X) (y : X) → Contains xs y → test y ≡ true → Contains (filter test xs) y
 Contains-filter test [] y found passes = found
 Contains-filter test (x ∷ xs) y found passes =
     Contains-kept test x xs (test x) refl y passes found (λ there. Contains-filter test xs y there passes)

@@ -3,6 +3,7 @@ use Rattle.std.proofs.Common.{◌≡◌, ℕ, zero, suc, ◌+◌, ◌*◌, ◌/�
 use Rattle.std.specs.List.{AllByRecursion, flat_map, range_with_len, sum}
 use Rattle.std.proofs.lemmas.Bool.{le-ltb, lt-ltb}
 use Rattle.std.proofs.lemmas.List.{append-nil, append_assoc, drop_more, length-append, get_or_append_left, get_or-append-add, get_or-map, length-map}
+use Rattle.std.proofs.lemmas.List.Elements.{recursion_from_All}
 use Rattle.std.proofs.lemmas.Nat.{div-add-mod'}
 use Rattle.std.proofs.Math.ListN.{drop_of_length-le}
 use Rattle.std.proofs.Math.Nat.{div-lt_iff_lt-mul, mod-lt, mul-div_cancel_left, mul-le-mul_left}
@@ -167,7 +168,7 @@ each_some [] some = omega arith
 each_some (size ∷ sizes) some = omega (arith, some.0, sum-cons size sizes, each_some sizes some.1)
 
 pub blocks_few : (question : Question) (sizes : List ℕ) → AreSizes question sizes → length sizes ≤ 7
-blocks_few question sizes are = omega (arith, each_some sizes are.some, are.filled, are.few)
+blocks_few question sizes are = omega (arith, each_some sizes (recursion_from_All (λ size. 1 ≤ size) sizes are.some), are.filled, are.few)
 
 -- where a walk stands, and what it found there
 pub record StandsAt (question : Question) (sizes : List ℕ) (place all : ℕ) (left : List (List ℕ × ℕ)) (counts : List ℕ) (deals : ℕ) : Type 0 where

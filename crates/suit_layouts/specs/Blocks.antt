@@ -1,6 +1,5 @@
 -- The missing cards in blocks, and how many cards of each West holds.
-use Rattle.std.specs.Prelude.{◌≡◌, ℕ, ◌+◌, ◌≤◌, List, [], ◌∷◌, length, map, take, drop, sum, count_by}
-use Rattle.std.specs.List.{AllByRecursion}
+use Rattle.std.specs.Prelude.{◌≡◌, ℕ, ◌+◌, ◌≤◌, List, [], ◌∷◌, length, map, take, drop, sum, count_by, All}
 use Rattle.suit_cards.specs.Holdings.{holds}
 use Rattle.suit_game.specs.declared.question.Question.{Question}
 use Rattle.suit_game.specs.Question.{missing}
@@ -18,8 +17,9 @@ counts_in blocks west = map (λ block. count_by (λ card. holds block card) west
 abbrev pub counts_of : Question → List ℕ → List ℕ → List ℕ
 counts_of question sizes west = counts_in (blocks_of (missing question) sizes) west
 
--- blocks of these sizes have a card each and take up the missing cards, and a gap or more lies between any two in the suit
+-- blocks of these sizes have a card each and take up the missing cards, and a card of declarer's lies between any two:
+-- so the missing cards and the blocks are at most 14 together
 pub record AreSizes (question : Question) (sizes : List ℕ) : Type 0 where
-  pub some : AllByRecursion (λ size. 1 ≤ size) sizes
+  pub some : All (λ size. 1 ≤ size) sizes
   pub filled : sum sizes ≡ length (missing question)
   pub few : length (missing question) + length sizes ≤ 14

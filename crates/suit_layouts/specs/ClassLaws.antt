@@ -1,10 +1,10 @@
 -- What holds of the class layouts of every question.
-use Rattle.std.specs.Prelude.{◌≡◌, ℕ, ◌*◌, ◌<◌, ◌≤◌, ◌↔◌, List, length, sum, sum_by, Contains, AllPairs}
+use Rattle.std.specs.Prelude.{◌≡◌, ℕ, ◌*◌, ◌<◌, ◌≤◌, ◌↔◌, List, length, filter, sum, sum_by, bytes_eq, Contains, AllPairs, IsTrue}
 use Rattle.std.specs.Ordering.{nat_cmp}
 use Rattle.std.specs.Cmp.Lexicographic.{slice_cmp}
 use Rattle.std.specs.declared.cmp.Ordering.TheVariants.{Less}
 use Rattle.suit_game.specs.declared.question.Question.{Question}
-use Rattle.suit_game.specs.Layouts.{layouts, weight, total}
+use Rattle.suit_game.specs.Layouts.{is_west_length, layouts, weight, total}
 use Rattle.suit_game.specs.Question.{missing}
 use Rattle.suit_game.specs.Weights.{weight_in_range}
 use Rattle.suit_layouts.specs.Blocks.{AreSizes, counts_of}
@@ -38,6 +38,30 @@ LayoutsGrouped =
     (worth : List ℕ → ℕ) (question : Question) (sizes : List ℕ) → sum sizes ≡ length (missing question)
     → sum_by (λ west. weight question (length west) * worth (counts_of question sizes west)) (layouts question)
     ≡ sum_by (λ layout. layout.1 * worth layout.0) (class_layouts question sizes)
+
+-- as many layouts have given counts as the ways of the blocks, where West may have so many cards
+abbrev pub LayoutsCounted : Type 0
+LayoutsCounted =
+    (question : Question) (sizes counts : List ℕ) → sum sizes ≡ length (missing question) → IsTrue (is_west_length question (sum counts))
+    → length (filter (λ west. bytes_eq (counts_of question sizes west) counts) (layouts question)) ≡ ways_of sizes counts
+
+-- West's counts in a layout add up to the number of West's cards
+abbrev pub CountsAddUp : Type 0
+CountsAddUp =
+    (question : Question) (sizes west : List ℕ) → sum sizes ≡ length (missing question) → Contains (layouts question) west
+    → sum (counts_of question sizes west) ≡ length west
+
+-- the counts of a layout that has a weight are a class layout that has one
+abbrev pub LayoutsListed : Type 0
+LayoutsListed =
+    (question : Question) (sizes west : List ℕ) → Contains (layouts question) west → 0 < weight question (length west)
+    → 0 < class_weight question sizes (counts_of question sizes west)
+
+-- a class layout that has a weight is the counts of some layout that has one
+abbrev pub ClassLayoutsHeld : Type 0
+ClassLayoutsHeld =
+    (question : Question) (sizes counts : List ℕ) → 0 < class_weight question sizes counts
+    → (west : List ℕ) × Contains (layouts question) west × (counts_of question sizes west ≡ counts) × (0 < weight question (length west))
 
 -- the weights of the class layouts add up to the total
 abbrev pub ClassWeightsAddUp : Type 0

@@ -6,7 +6,7 @@ use std::marker::Model;
 
 /// How many cards of each block of missing cards West holds, in the order of the blocks. Contracts
 /// see it as the list of these counts.
-#[derive(Debug, Drop, PartialEq, Eq, PartialOrd, Ord)]
+#[derive(Clone, Debug, Drop, PartialEq, Eq, PartialOrd, Ord)]
 pub struct ClassLayout {
     counts: ArrayVec<u8, 7>,
 }

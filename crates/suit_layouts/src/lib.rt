@@ -8,9 +8,11 @@ mod class_weights;
 pub mod examples;
 pub mod laws;
 mod sharing;
+#[cfg(test)]
+mod tests;
 mod walks;
 
 pub use class_layout::ClassLayout;
 pub use class_list::{Memory, class_layouts};
 pub use class_weights::class_weight;
-pub use walks::ClassWalk;
+pub use walks::{ClassWalk, class_place};

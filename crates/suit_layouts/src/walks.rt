@@ -1,5 +1,5 @@
 //! Walks over the class layouts, which take no memory.
-ghost use Rattle.std.specs.Prelude.{◌≡◌, ◌<◌, ◌≤◌, [], length, slice_index_or};
+ghost use Rattle.std.specs.Prelude.{◌≡◌, ◌<◌, ◌≤◌, [], length, IfSome, position, bytes_eq, slice_index_or};
 ghost use Rattle.suit_game.specs.Validity.{IsValid};
 ghost use Rattle.suit_layouts.specs.Blocks.{AreSizes};
 ghost use Rattle.suit_layouts.specs.ClassLayouts.{class_layouts, counts_up_to};
@@ -36,7 +36,8 @@ impl<'a> ClassWalk<'a> {
     pub fn new(question: &'a Question, sizes: &'a [u8]) -> ClassWalk<'a>
         requires valid { IsValid question.now }
         requires blocks { AreSizes question.now sizes.now }
-        ensures { result ≡ class_layouts question.now sizes.now }
+        ensures value { result ≡ class_layouts question.now sizes.now }
+        ensures few { length result ≤ 162 }
     {
         ClassWalk {
             question,
@@ -67,6 +68,17 @@ impl<'a> Iterator for ClassWalk<'a> {
         }
         None
     }
+}
+
+/// The place of these counts in the list of the class layouts of positive weight, from 0 on. It is
+/// None exactly where they are not in it.
+pub fn class_place(question: &Question, sizes: &[u8], counts: &[u8]) -> Option<usize>
+    requires valid { IsValid question.now }
+    requires blocks { AreSizes question.now sizes.now }
+    ensures place { result ≡ position (λ layout. bytes_eq layout.0 counts.now) (class_layouts question.now sizes.now) }
+    ensures few { IfSome result (λ place. place < 162) }
+{
+    ClassWalk::new(question, sizes).position(|(layout, _)| layout.counts() == counts)
 }
 
 // How many ways there are to count from none to all of each block.
