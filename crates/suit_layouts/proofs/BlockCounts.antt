@@ -10,10 +10,12 @@ use Rattle.suit_game.proofs.EachElement.{each_gives}
 use Rattle.suit_layouts.specs.Blocks.{blocks_of, counts_in}
 use Rattle.suit_layouts.proofs.JoinedChoices.{AreHeld, count_all, count_none}
 
+-- what the second of two lists holds, both hold together
 holds-append : (xs ys : List ℕ) (card : ℕ) → holds ys card ≡ true → holds (xs ++ ys) card ≡ true
 holds-append [] ys card held = held
 holds-append (x ∷ xs) ys card held = or_right (nat_eq card x) (holds (xs ++ ys) card) (holds-append xs ys card held)
 
+-- what two lists together do not hold, neither does
 holds-append_none : (xs ys : List ℕ) (card : ℕ) → holds (xs ++ ys) card ≡ false → (holds xs card ≡ false) × (holds ys card ≡ false)
 holds-append_none [] ys card none = (refl, none)
 holds-append_none (x ∷ xs) ys card none =
@@ -39,10 +41,12 @@ apart_before top xs ys card falls held = elim (cases_Bool (holds xs card)) [
   | inr none ↦ none
 ]
 
+-- the second of two lists that fall together falls
 falls_later : (top : ℕ) (xs ys : List ℕ) → FallsBelow top (xs ++ ys) → (lower : ℕ) × FallsBelow lower ys
 falls_later top [] ys falls = (top, falls)
 falls_later top (x ∷ xs) ys falls = falls_later x xs ys falls.2
 
+-- cards that fall do so as a block and the cards after it
 falls_split : (top size : ℕ) (cards : List ℕ) → FallsBelow top cards → FallsBelow top (take size cards ++ drop size cards)
 falls_split top size cards falls = subst (FallsBelow top) (sym (take-append-drop size cards)) falls
 
@@ -50,6 +54,7 @@ falls_split top size cards falls = subst (FallsBelow top) (sym (take-append-drop
 pub falls_after : (top size : ℕ) (cards : List ℕ) → FallsBelow top cards → (lower : ℕ) × FallsBelow lower (drop size cards)
 falls_after top size cards falls = falls_later top (take size cards) (drop size cards) (falls_split top size cards falls)
 
+-- cards that stand in no block add nothing to the counts
 counts_apart : (sizes cards taken more : List ℕ) → AllByRecursion (λ card. holds cards card ≡ false) taken
     → counts_in (blocks_of cards sizes) (taken ++ more) ≡ counts_in (blocks_of cards sizes) more
 unfolding blocks_of

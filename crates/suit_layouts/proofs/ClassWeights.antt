@@ -17,7 +17,7 @@ use Rattle.suit_layouts.specs.ClassLayouts.{class_layouts, class_weight, counts_
 use Rattle.suit_layouts.proofs.GroupedSums.{grouped, up_to-sum}
 use Rattle.suit_layouts.proofs.JoinedChoices.{sum_by_map, sum_by-mul}
 
--- the one number of a run that is asked for
+-- the one number of a run that is asked for: none where the run begins after it
 pick_none : (f : ℕ → ℕ) (count a n : ℕ) → count < a → sum_by (λ k. if k == count then f k else 0) (range_with_len a n) ≡ 0
 pick_none f count a zero before = refl
 pick_none f count a (suc n) before =
@@ -25,6 +25,7 @@ pick_none f count a (suc n) before =
     let other : nat_eq a count ≡ false = ne_eqb a count (λ e. omega arith) in
     omega (arith, sum_by-cons term a (range_with_len (a + 1) n), ap {B = ℕ} (λ (b : Bool). cond b (f a) 0) other, pick_none f count (a + 1) n (omega arith))
 
+-- where the run has it
 pick_one : (f : ℕ → ℕ) (count a n : ℕ) → a ≤ count → count < a + n → sum_by (λ k. if k == count then f k else 0) (range_with_len a n) ≡ f count
 pick_one f count a zero from below = absurd (omega arith)
 pick_one f count a (suc n) from below =
@@ -39,6 +40,7 @@ pick_one f count a (suc n) from below =
           omega (arith, split, ap {B = ℕ} (λ (b : Bool). cond b (f a) 0) here, pick_one f count (a + 1) n (omega arith) (omega arith))
     ]
 
+-- where the run ends before it
 pick_past : (f : ℕ → ℕ) (count a n : ℕ) → a + n ≤ count → sum_by (λ k. if k == count then f k else 0) (range_with_len a n) ≡ 0
 pick_past f count a zero past = refl
 pick_past f count a (suc n) past =
@@ -46,10 +48,12 @@ pick_past f count a (suc n) past =
     let other : nat_eq a count ≡ false = ne_eqb a count (λ e. omega arith) in
     omega (arith, sum_by-cons term a (range_with_len (a + 1) n), ap {B = ℕ} (λ (b : Bool). cond b (f a) 0) other, pick_past f count (a + 1) n (omega arith))
 
+-- a term whose first count is asked for
 term_here : (here test : Bool) (ways others value : ℕ) → here ≡ true
     → ways * others * (if here && test then value else 0) ≡ ways * (others * (if test then value else 0))
 term_here here test ways others value is = rw is (omega arith)
 
+-- a term whose first count is not
 term_elsewhere : (here test : Bool) (ways value : ℕ) → here ≡ false → ways * (if here && test then value else 0) ≡ 0
 term_elsewhere here test ways value is = rw is (omega arith)
 
@@ -115,10 +119,12 @@ class_weight_counted question sizes counts filled =
     (IsHolding-others_of question.north question.south) filled
     ∙ selected (λ other. weight_in_range question (sum other)) sizes counts
 
+-- a factor of what a condition leaves
 factor_out : (fits : Bool) (deals worth : ℕ) → (if fits then deals * worth else 0) ≡ (if fits then deals else 0) * worth
 factor_out true deals worth = refl
 factor_out false deals worth = omega arith
 
+-- to drop what weighs nothing drops nothing of a sum
 none_dropped : (deals worth : ℕ) → (if nat_lt 0 deals then deals * worth else 0) ≡ deals * worth
 none_dropped zero worth = omega arith
 none_dropped (suc deals) worth = let some : nat_lt 0 (suc deals) ≡ true = lt-ltb 0 (suc deals) (omega arith) in rw some refl

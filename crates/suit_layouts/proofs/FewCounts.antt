@@ -13,6 +13,7 @@ use Rattle.suit_layouts.specs.Blocks.{AreSizes}
 use Rattle.suit_layouts.specs.ClassLayouts.{class_layouts, class_weight, counts_up_to, weighed}
 use Rattle.suit_layouts.proofs.GroupedSums.{sum-cons}
 
+-- equal terms
 sum_by_each : {X : Type 0} (k : ℕ) (f : X → ℕ) (xs : List X) → ((x : X) → f x ≡ k) → sum_by f xs ≡ length xs * k
 sum_by_each k f [] each = omega arith
 sum_by_each k f (x ∷ xs) each = omega (arith, sum_by-cons f x xs, each x, sum_by_each k f xs each)
@@ -34,24 +35,29 @@ best sum_of = get_or (1 ∷ 1 ∷ 2 ∷ 3 ∷ 4 ∷ 6 ∷ 9 ∷ 12 ∷ 18 ∷ 27
 abbrev fits_at : ℕ → Bool
 fits_at factor = agree_below (λ others. nat_le (factor * best others) (best (factor + others))) (λ others. true) (15 - factor)
 
+-- it is so for each factor
 all_fit : agree_below fits_at (λ factor. true) 15 ≡ true
 unfolding best
 all_fit = refl
 
+-- one factor more keeps below the greatest product
 best_more : (factor others : ℕ) → factor + others ≤ 14 → factor * best others ≤ best (factor + others)
 best_more factor others few =
     let fits : fits_at factor ≡ true = agree_below_at fits_at (λ n. true) 15 factor all_fit (omega arith) in
     leb-true (factor * best others) (best (factor + others))
     (agree_below_at (λ n. nat_le (factor * best n) (best (factor + n))) (λ n. true) (15 - factor) others fits (omega arith))
 
+-- the greatest products are at most 162
 whole_fits : agree_below (λ n. nat_le (best n) 162) (λ n. true) 15 ≡ true
 unfolding best
 whole_fits = refl
 
+-- no factors make 1
 none_left : 1 ≤ best 0
 unfolding best
 none_left = omega arith
 
+-- there are no more counts than the greatest product
 up_to_best : (sizes : List ℕ) → sum sizes + length sizes ≤ 14 → length (counts_up_to sizes) ≤ best (sum sizes + length sizes)
 unfolding counts_up_to
 up_to_best [] few = none_left
@@ -68,6 +74,7 @@ up_to_few sizes few =
     let fits = leb-true (best (sum sizes + length sizes)) 162 (agree_below_at (λ n. nat_le (best n) 162) (λ n. true) 15 (sum sizes + length sizes) whole_fits (omega arith)) in
     omega (arith, up_to_best sizes few, fits)
 
+-- nor class layouts
 pub class_layouts_few : (question : Question) (sizes : List ℕ) → AreSizes question sizes → length (class_layouts question sizes) ≤ 162
 unfolding class_layouts weighed
 class_layouts_few question sizes are =

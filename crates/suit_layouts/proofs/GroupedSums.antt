@@ -13,6 +13,7 @@ use Rattle.suit_layouts.specs.ClassLayouts.{counts_up_to, ways_of}
 use Rattle.suit_layouts.proofs.BlockCounts.{counts_joined, falls_after}
 use Rattle.suit_layouts.proofs.JoinedChoices.{AreHeld, choices_held, choices_joined, sum_by_alike, sum_by_flat_map, sum_by_map, sum_by-mul}
 
+-- a sum by its first number
 pub sum-cons : (x : ℕ) (xs : List ℕ) → sum (x ∷ xs) ≡ x + sum xs
 sum-cons x xs = sum_by-cons (λ (n : ℕ). n) x xs
 

@@ -9,12 +9,14 @@ use Rattle.suit_cards.specs.Holdings.{holds}
 use Rattle.suit_game.specs.Layouts.{choices_of}
 use Rattle.suit_game.proofs.EachElement.{each_append, each_gives, each_map}
 
+-- a sum over what a function makes of a list
 pub sum_by_map : {X Y : Type 0} (f : Y → ℕ) (h : X → Y) (xs : List X) → sum_by f (map h xs) ≡ sum_by (λ x. f (h x)) xs
 sum_by_map f h [] = refl
 sum_by_map {X} f h (x ∷ xs) =
     let at_item : X → ℕ = λ y. f (h y) in
     omega (arith, sum_by-cons f (h x) (map h xs), sum_by-cons at_item x xs, sum_by_map f h xs)
 
+-- a sum over lists joined end to end
 pub sum_by_flat_map : {X Y : Type 0} (f : Y → ℕ) (h : X → List Y) (xs : List X) → sum_by f (flat_map h xs) ≡ sum_by (λ x. sum_by f (h x)) xs
 sum_by_flat_map f h [] = refl
 sum_by_flat_map {X} f h (x ∷ xs) =
@@ -55,6 +57,7 @@ choices_joined f (x ∷ xs) ys =
 abbrev pub AreHeld : List ℕ → List ℕ → Type 0
 AreHeld cards taken = AllByRecursion (λ card. holds cards card ≡ true) taken
 
+-- one card more holds no fewer
 held_more : (first : ℕ) (cards taken : List ℕ) → AreHeld cards taken → AreHeld (first ∷ cards) taken
 held_more first cards taken held =
     each_gives (λ card. holds cards card ≡ true) (λ card. holds (first ∷ cards) card ≡ true) taken
@@ -71,13 +74,14 @@ choices_held (first ∷ cards) =
     (λ taken held. (or_left (nat_eq first first) (holds cards first) (eq-eqb first first refl), held_more first cards taken held)) (choices_held cards)))
     (each_gives (AreHeld cards) (AreHeld (first ∷ cards)) (choices_of cards) (held_more first cards) (choices_held cards))
 
--- a count of what all pass, and of what none passes
+-- a count of what all pass
 pub count_all : {X : Type 0} (test : X → Bool) (xs : List X) → AllByRecursion (λ x. test x ≡ true) xs → count_by test xs ≡ length xs
 count_all test [] each = refl
 count_all {X} test (x ∷ xs) each =
     let counted : X → ℕ = λ y. cond (test y) 1 0 in
     omega (arith, sum_by-cons counted x xs, ap {B = ℕ} (λ (b : Bool). cond b 1 0) each.0, count_all test xs each.1)
 
+-- a count of what none passes
 pub count_none : {X : Type 0} (test : X → Bool) (xs : List X) → AllByRecursion (λ x. test x ≡ false) xs → count_by test xs ≡ 0
 count_none test [] each = refl
 count_none {X} test (x ∷ xs) each =

@@ -7,4 +7,5 @@ pub mod JoinedChoices
 pub mod ListedCounts
 pub mod PlacedCounts
 pub mod RisingCounts
+pub mod WalkSteps
 pub mod WeightSteps

@@ -14,6 +14,7 @@ use Rattle.suit_layouts.specs.ClassLayouts.{class_layouts, class_weight, counts_
 use Rattle.suit_layouts.proofs.ClassWeights.{class_weight_counted}
 use Rattle.suit_layouts.proofs.GroupedSums.{sum-cons}
 
+-- what a function makes of an element is among what it makes of the list
 Contains-map : {X Y : Type 0} (f : X → Y) (xs : List X) (x : X) → Contains xs x → Contains (map f xs) (f x)
 Contains-map f [] x found = absurd (Contains-nil x found)
 Contains-map {Y = Y} f (y ∷ ys) x found = elim (Contains-cons_cases y ys x found) [
@@ -21,6 +22,7 @@ Contains-map {Y = Y} f (y ∷ ys) x found = elim (Contains-cons_cases y ys x fou
   | inr there ↦ Contains-later (f y) (map f ys) (f x) (Contains-map f ys x there)
 ]
 
+-- what stands in a piece stands in all pieces joined
 Contains-flat_map : {X Y : Type 0} (f : X → List Y) (xs : List X) (x : X) (y : Y) → Contains xs x → Contains (f x) y → Contains (flat_map f xs) y
 Contains-flat_map f [] x y found within = absurd (Contains-nil x found)
 Contains-flat_map {X} f (first ∷ others) x y found within = elim (Contains-cons_cases first others x found) [
@@ -28,6 +30,7 @@ Contains-flat_map {X} f (first ∷ others) x y found within = elim (Contains-con
   | inr there ↦ Contains-append_right (f first) (flat_map f others) y (Contains-flat_map f others x y there within)
 ]
 
+-- an element that passes is kept, whatever becomes of the one before it
 Contains-kept : {X : Type 0} (test : X → Bool) (x : X) (xs : List X) (passes : Bool) → test x ≡ passes → (y : X) → test y ≡ true
     → Contains (x ∷ xs) y → (Contains xs y → Contains (filter test xs) y) → Contains (cond passes (x ∷ filter test xs) (filter test xs)) y
 Contains-kept test x xs true is y passes found others = elim (Contains-cons_cases x xs y found) [
@@ -39,11 +42,13 @@ Contains-kept test x xs false is y passes found others = elim (Contains-cons_cas
   | inr there ↦ others there
 ]
 
+-- an element that passes is kept by a filter
 pub Contains-filter : {X : Type 0} (test : X → Bool) (xs : List X) (y : X) → Contains xs y → test y ≡ true → Contains (filter test xs) y
 Contains-filter test [] y found passes = found
 Contains-filter test (x ∷ xs) y found passes =
     Contains-kept test x xs (test x) refl y passes found (λ there. Contains-filter test xs y there passes)
 
+-- a number of a run is in it
 Contains-range : (a n count : ℕ) → a ≤ count → count < a + n → Contains (range_with_len a n) count
 Contains-range a zero count from below = absurd (omega arith)
 Contains-range a (suc n) count from below = elim (cases_eq a count) [
@@ -51,6 +56,7 @@ Contains-range a (suc n) count from below = elim (cases_eq a count) [
   | inr other ↦ Contains-later a (range_with_len (a + 1) n) count (Contains-range (a + 1) n count (omega arith) (omega arith))
 ]
 
+-- a product that is something has no factor 0
 both_positive : (m n : ℕ) → 0 < m * n → (0 < m) × (0 < n)
 both_positive zero n some = absurd (omega arith)
 both_positive (suc m) zero some = absurd (omega arith)

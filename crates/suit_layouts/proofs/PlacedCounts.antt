@@ -1,18 +1,12 @@
--- The counts at a place among all, and the class layouts from a place on.
-use Rattle.std.proofs.Common.{◌≡◌, ℕ, zero, suc, ◌+◌, ◌*◌, ◌/◌, ◌%◌, ◌≤◌, ◌<◌, true, false, cond, nat_lt, List, [], ◌∷◌, ◌++◌, map, length, drop, get_or, refl, sym, ap, ◌∙◌, arith}
-use Rattle.std.specs.List.{AllByRecursion, flat_map, range_with_len, sum}
-use Rattle.std.proofs.lemmas.Bool.{le-ltb, lt-ltb}
+-- The counts at a place among all, as they are counted off block by block.
+use Rattle.std.proofs.Common.{◌≡◌, ℕ, zero, suc, ◌+◌, ◌*◌, ◌/◌, ◌%◌, ◌≤◌, ◌<◌, List, [], ◌∷◌, ◌++◌, map, length, drop, get_or, sym, ap, ◌∙◌, arith}
+use Rattle.std.specs.List.{flat_map, range_with_len}
 use Rattle.std.proofs.lemmas.List.{append-nil, append_assoc, drop_more, length-append, get_or_append_left, get_or-append-add, get_or-map, length-map}
-use Rattle.std.proofs.lemmas.List.Elements.{recursion_from_All}
 use Rattle.std.proofs.lemmas.Nat.{div-add-mod'}
 use Rattle.std.proofs.Math.ListN.{drop_of_length-le}
 use Rattle.std.proofs.Math.Nat.{div-lt_iff_lt-mul, mod-lt, mul-div_cancel_left, mul-le-mul_left}
-use Rattle.suit_game.specs.declared.question.Question.{Question}
-use Rattle.suit_layouts.specs.Blocks.{AreSizes}
-use Rattle.suit_layouts.specs.ClassLayouts.{class_layouts, class_weight, counts_up_to, weighed}
-use Rattle.suit_layouts.specs.Walks.{IsWalk, weighed_from}
+use Rattle.suit_layouts.specs.ClassLayouts.{counts_up_to}
 use Rattle.suit_layouts.proofs.FewCounts.{length-up_to}
-use Rattle.suit_layouts.proofs.GroupedSums.{sum-cons}
 
 -- each count of a first block goes with all others in turn
 pieces_at : (all : List (List ℕ)) (a n count rest : ℕ) → count < n → rest < length all
@@ -61,6 +55,7 @@ pub record CountedOff (sizes counts : List ℕ) (index place all wanted : ℕ) :
   pub within : place < all
   pub placed : counts ++ get_or (counts_up_to (drop index sizes)) place [] ≡ get_or (counts_up_to sizes) wanted []
 
+-- after a block, the counts of the blocks that are left
 pub left_at : (sizes : List ℕ) (index all : ℕ) → index < length sizes → all ≡ length (counts_up_to (drop index sizes))
     → all / (get_or sizes index 0 + 1) ≡ length (counts_up_to (drop (index + 1) sizes))
 left_at sizes index all within is =
@@ -68,6 +63,7 @@ left_at sizes index all within is =
     let product : all ≡ (get_or sizes index 0 + 1) * length (counts_up_to (drop (index + 1) sizes)) = is ∙ rw split (length-up_to (get_or sizes index 0) (drop (index + 1) sizes)) in
     rw product (mul-div_cancel_left (length (counts_up_to (drop (index + 1) sizes))) (omega arith))
 
+-- one block more
 pub counted_more : (sizes counts : List ℕ) (index place all wanted left : ℕ) → index < length sizes → CountedOff sizes counts index place all wanted
     → left ≡ all / (get_or sizes index 0 + 1) → CountedOff sizes (counts ++ (place / left) ∷ []) (index + 1) (place % left) left wanted
 counted_more sizes counts index place all wanted left within so_far is =
@@ -88,6 +84,7 @@ counted_more sizes counts index place all wanted left within so_far is =
           ∙ rw split at so_far.placed;
     }
 
+-- with no block left, the counts are those at the place
 pub counted_all : (sizes counts : List ℕ) (index place all wanted : ℕ) → length sizes ≤ index → CountedOff sizes counts index place all wanted
     → counts ≡ get_or (counts_up_to sizes) wanted []
 unfolding counts_up_to
@@ -96,26 +93,6 @@ counted_all sizes counts index place all wanted over done =
     let one : all ≡ 1 = rw none at done.left in
     let first : place ≡ 0 = omega (arith, done.within) in
     sym (append-nil counts) ∙ rw (none, first) at done.placed
-
--- the class layouts from a place on: the one there if it has a weight, and those after it
-pub weighed_more : (question : Question) (sizes counts : List ℕ) (place deals : ℕ) → place < length (counts_up_to sizes)
-    → counts ≡ get_or (counts_up_to sizes) place [] → deals ≡ class_weight question sizes counts
-    → weighed_from question sizes place
-    ≡ cond (nat_lt 0 deals) ((counts, deals) ∷ weighed_from question sizes (place + 1)) (weighed_from question sizes (place + 1))
-unfolding weighed_from weighed
-weighed_more question sizes counts place deals within is weighs =
-    let split : drop place (counts_up_to sizes) ≡ counts ∷ drop (place + 1) (counts_up_to sizes) = rw is (drop_more (counts_up_to sizes) place [] within) in
-    rw (split, weighs) refl
-
-pub weighed_none : (question : Question) (sizes : List ℕ) (place : ℕ) → length (counts_up_to sizes) ≤ place → weighed_from question sizes place ≡ []
-unfolding weighed_from weighed
-weighed_none question sizes place over =
-    let none = drop_of_length-le (counts_up_to sizes) over in
-    rw none refl
-
-pub weighed_all : (question : Question) (sizes : List ℕ) → weighed_from question sizes 0 ≡ class_layouts question sizes
-unfolding weighed_from class_layouts
-weighed_all question sizes = refl
 
 -- a block has fewer cards than there are counts from it on
 pub size_small : (sizes : List ℕ) (index : ℕ) → index < length sizes → get_or sizes index 0 + 1 ≤ length (counts_up_to (drop index sizes))
@@ -141,6 +118,7 @@ factor_small sizes index all number is =
     let product = mul-le-mul_left all some in
     omega (arith, product)
 
+-- the whole product
 pub product_all : (sizes : List ℕ) (index all : ℕ) → length sizes ≤ index → all * length (counts_up_to (drop index sizes)) ≡ length (counts_up_to sizes)
     → all ≡ length (counts_up_to sizes)
 unfolding counts_up_to
@@ -161,48 +139,3 @@ block_small sizes index zero number within is some = absurd (omega arith)
 block_small sizes index (suc all) number within is some =
     let small = size_small sizes index within in
     omega (arith, small, is)
-
--- no suit has more than seven blocks
-each_some : (sizes : List ℕ) → AllByRecursion (λ size. 1 ≤ size) sizes → length sizes ≤ sum sizes
-each_some [] some = omega arith
-each_some (size ∷ sizes) some = omega (arith, some.0, sum-cons size sizes, each_some sizes some.1)
-
-pub blocks_few : (question : Question) (sizes : List ℕ) → AreSizes question sizes → length sizes ≤ 7
-blocks_few question sizes are = omega (arith, each_some sizes (recursion_from_All (λ size. 1 ≤ size) sizes are.some), are.filled, are.few)
-
--- where a walk stands, and what it found there
-pub record StandsAt (question : Question) (sizes : List ℕ) (place all : ℕ) (left : List (List ℕ × ℕ)) (counts : List ℕ) (deals : ℕ) : Type 0 where
-  pub walk : IsWalk question sizes place all
-  pub further : place < all
-  pub left_is : weighed_from question sizes place ≡ left
-  pub counts_are : counts ≡ get_or (counts_up_to sizes) place []
-  pub deals_are : deals ≡ class_weight question sizes counts
-
-stands_more : (question : Question) (sizes : List ℕ) (place all : ℕ) (left : List (List ℕ × ℕ)) (counts : List ℕ) (deals : ℕ)
-    → StandsAt question sizes place all left counts deals
-    → left ≡ cond (nat_lt 0 deals) ((counts, deals) ∷ weighed_from question sizes (place + 1)) (weighed_from question sizes (place + 1))
-stands_more question sizes place all left counts deals stands =
-    sym stands.left_is ∙ weighed_more question sizes counts place deals (omega (arith, stands.further, stands.walk.all_of)) stands.counts_are stands.deals_are
-
--- it yields what has a weight
-pub weighed_yields : (question : Question) (sizes : List ℕ) (place all : ℕ) (left : List (List ℕ × ℕ)) (counts : List ℕ) (deals : ℕ)
-    → StandsAt question sizes place all left counts deals → 0 < deals → left ≡ (counts, deals) ∷ weighed_from question sizes (place + 1)
-weighed_yields question sizes place all left counts deals stands some =
-    let passes : nat_lt 0 deals ≡ true = lt-ltb 0 deals some in
-    rw passes at (stands_more question sizes place all left counts deals stands)
-
--- and passes over what has none
-pub weighed_skips : (question : Question) (sizes : List ℕ) (place all : ℕ) (left : List (List ℕ × ℕ)) (counts : List ℕ) (deals : ℕ)
-    → StandsAt question sizes place all left counts deals → deals ≤ 0 → weighed_from question sizes (place + 1) ≡ left
-weighed_skips question sizes place all left counts deals stands none =
-    let fails : nat_lt 0 deals ≡ false = le-ltb 0 deals none in
-    sym (rw fails at (stands_more question sizes place all left counts deals stands))
-
--- the next place is one too
-pub walk_on : (question : Question) (sizes : List ℕ) (place all : ℕ) → IsWalk question sizes place all → place < all → IsWalk question sizes (place + 1) all
-walk_on question sizes place all walk further = record {
-  valid = walk.valid;
-  blocks = walk.blocks;
-  all_of = walk.all_of;
-  within = omega arith;
-}

@@ -21,23 +21,27 @@ abbrev AreRising : List (List ℕ) → Type 0
 AreRising [] = Unit {0}
 AreRising (counts ∷ all) = AllByRecursion (IsBefore counts) all × AreRising all
 
+-- a lower first number stands before
 before_by_first : (first other : ℕ) (counts later : List ℕ) → first < other → IsBefore (first ∷ counts) (other ∷ later)
 before_by_first first other counts later less =
     let below : nat_lt first other ≡ true = lt-ltb first other less in
     rw below refl
 
+-- after an equal first number the others decide
 before_by_others : (first : ℕ) (counts later : List ℕ) → IsBefore counts later → IsBefore (first ∷ counts) (first ∷ later)
 before_by_others first counts later before =
     let not_below : nat_lt first first ≡ false = le-ltb first first (omega arith) in
     let same : nat_eq first first ≡ true = eq-eqb first first refl in
     rw (not_below, same) before
 
+-- two lists that rise, each element of the first before all of the second
 rising_append : (some others : List (List ℕ)) → AreRising some → AreRising others
     → AllByRecursion (λ counts. AllByRecursion (IsBefore counts) others) some → AreRising (some ++ others)
 rising_append [] others rise rise_others before = rise_others
 rising_append (counts ∷ some) others rise rise_others before =
     (each_append (IsBefore counts) some others rise.0 before.0, rising_append some others rise.1 rise_others before.1)
 
+-- an equal first number changes no order
 rising_with_first : (first : ℕ) (all : List (List ℕ)) → AreRising all → AreRising (map (λ counts. first ∷ counts) all)
 rising_with_first first [] rise = tt
 rising_with_first first (counts ∷ all) rise = (
@@ -53,6 +57,7 @@ record StartsFrom (least : ℕ) (counts : List ℕ) : Type 0 where
   is : counts ≡ first ∷ others
   above : least ≤ first
 
+-- the pieces from a first count on start from it
 pieces_start : (all : List (List ℕ)) (a n : ℕ) → AllByRecursion (StartsFrom a) (flat_map (λ count. map (λ counts. count ∷ counts) all) (range_with_len a n))
 pieces_start all a zero = tt
 pieces_start all a (suc n) =
@@ -62,11 +67,13 @@ pieces_start all a (suc n) =
     (each_gives (StartsFrom (a + 1)) (StartsFrom a) (flat_map (λ count. map (λ counts. count ∷ counts) all) (range_with_len (a + 1) n))
     (λ counts starts. record { first = starts.first; others = starts.others; is = starts.is; above = omega (arith, starts.above) }) (pieces_start all (a + 1) n))
 
+-- a first number stands before all that start above it
 before_starting : (first : ℕ) (counts later : List ℕ) → StartsFrom (first + 1) later → IsBefore (first ∷ counts) later
 before_starting first counts later starts =
     ap (λ (other : List ℕ). slice_cmp nat_cmp (first ∷ counts) other) starts.is
     ∙ before_by_first first starts.first counts starts.others (omega (arith, starts.above))
 
+-- the pieces rise together
 pieces_rise : (all : List (List ℕ)) (a n : ℕ) → AreRising all → AreRising (flat_map (λ count. map (λ counts. count ∷ counts) all) (range_with_len a n))
 pieces_rise all a zero rise = tt
 pieces_rise all a (suc n) rise =
@@ -76,11 +83,13 @@ pieces_rise all a (suc n) rise =
     (each_of (λ counts. AllByRecursion (IsBefore (a ∷ counts)) later) all
     (λ counts. each_gives (StartsFrom (a + 1)) (IsBefore (a ∷ counts)) later (before_starting a counts) (pieces_start all (a + 1) n))))
 
+-- all counts rise
 up_to-rise : (sizes : List ℕ) → AreRising (counts_up_to sizes)
 unfolding counts_up_to
 up_to-rise [] = (tt, tt)
 up_to-rise (size ∷ sizes) = pieces_rise (counts_up_to sizes) 0 (size + 1) (up_to-rise sizes)
 
+-- and so they do with their weights
 weighed-pairs : (question : Question) (sizes : List ℕ) (all : List (List ℕ)) → AreRising all
     → AllPairs (λ (before later : List ℕ × ℕ). IsBefore before.0 later.0) (map (λ counts. (counts, class_weight question sizes counts)) all)
 weighed-pairs question sizes [] rise = λ i j d less within. absurd (omega arith)

@@ -26,6 +26,7 @@ ways_small size count sum_of here others is small =
     let product : here * others ≤ 2 ^ size * 2 ^ sum_of = mul-le-mul low small in
     omega (arith, product, pow-add 2 size sum_of)
 
+-- the ways of thirteen cards are at most 2 ^ 13
 pub small_fits : (sum_of ways : ℕ) → sum_of ≤ 13 → ways ≤ 2 ^ sum_of → ways ≤ 2 ^ 13
 small_fits sum_of ways few small =
     let most : 2 ^ sum_of ≤ 2 ^ 13 = pow-le-pow_right (omega arith) few in
@@ -72,6 +73,7 @@ weighs question sizes counts ways count deals are is_ways is_count is_deals =
 rest_of : (first : ℕ) (others : List ℕ) → take (length (first ∷ others) - 1) (drop 1 (first ∷ others)) ≡ others
 rest_of first others = let long : length (first ∷ others) - 1 ≡ length others = omega arith in rw long (take_all (length others) others (omega arith))
 
+-- with no block and no count there is one way
 pub ways-none : (sizes counts : List ℕ) → length sizes ≡ 0 → length counts ≡ 0 → 1 ≡ ways_of sizes counts
 unfolding ways_of
 ways-none [] [] no_size no_count = refl
@@ -93,6 +95,7 @@ pub record FirstWays (sizes counts others_sizes others_counts : List ℕ) (size 
   pub ways : ways_of sizes counts ≡ binomial size count * ways_of others_sizes others_counts
   pub sum_of : sum sizes ≡ size + sum others_sizes
 
+-- a slice that has a first element, by it and the others
 pub first_ways : (sizes counts : List ℕ) → 1 ≤ length sizes → 1 ≤ length counts
     → FirstWays sizes counts (take (length sizes - 1) (drop 1 sizes)) (take (length counts - 1) (drop 1 counts)) (get_or sizes 0 0) (get_or counts 0 0)
 unfolding ways_of
