@@ -12,7 +12,7 @@ west_len-requires c =
 
 pub overflow_mul-result : goal.overflow_mul-result
 overflow_mul-result c =
-    let small = deals_fit c.args.question.now c.args.sizes.now c.west_len.result c.ways-ways.result c.weight.result c.requires.valid c.requires.blocks c.ways-ways.ensures.small c.weight.ensures in
+    let small = deals_fit c.args.question.now c.args.sizes.now _ c.ways-ways.result c.weight.result c.requires.valid c.requires.blocks c.ways-ways.ensures.small c.weight.ensures in
     record { fits = omega (arith, small) }
 
 pub returns : goal.returns
