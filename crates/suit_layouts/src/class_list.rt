@@ -26,19 +26,5 @@ pub fn class_layouts(
     ensures few { IfOk result (λ list. vec_len list ≤ 162) }
     ensures total { IfOk result (λ list. sum_by (λ layout. layout.1) list.items ≡ total question.now) }
 {
-    let layouts = walked(alloc, question, sizes)?;
-    Ok(layouts)
-}
-
-// All that a walk comes to.
-fn walked(
-    alloc: Global,
-    question: &Question,
-    sizes: &[u8],
-) -> Result<Vec<(ClassLayout, u64)>, Memory>
-    requires valid { IsValid question.now }
-    requires blocks { AreSizes question.now sizes.now }
-    ensures { IfOk result (λ list. list.items ≡ class_layouts question.now sizes.now) }
-{
     ClassWalk::new(question, sizes).collect(alloc)
 }
