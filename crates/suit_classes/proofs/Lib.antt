@@ -1,0 +1,4 @@
+pub mod ClassNumbers
+pub mod DefenceClasses
+pub mod RankBlocks
+pub mod DefenceSizes
