@@ -1,2 +1,3 @@
+pub mod ClassMoves
 pub mod Classes
 pub mod Numbering

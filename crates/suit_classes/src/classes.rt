@@ -1,15 +1,21 @@
 //! Classes: touching cards that one side holds at the start.
-ghost use Rattle.std.specs.Prelude.{◌≡◌, ◌+◌, ◌<◌, ◌≤◌, ◌==◌, ◌-◌, ℕ, not, Some, All, count_by, sum, length};
+ghost use Rattle.std.specs.Prelude.{◌≡◌, ◌+◌, ◌<◌, ◌≤◌, ◌==◌, ◌-◌, ℕ, not, Some, IfOk, All, count_by, sum, length};
 ghost use Rattle.std.specs.List.{flat_map};
 ghost use Rattle.suit_classes.specs.declared.classes.Owner.{Owner};
 ghost use Rattle.suit_cards.specs.Holdings.{others_of};
 ghost use Rattle.suit_cards.specs.Ranks.{IsRank};
+ghost use Rattle.suit_classes.specs.ClassMoves.{merge, merged};
 ghost use Rattle.suit_classes.specs.Classes.{Hands, hands_of, holder, class_below, class_count, class_of, class_owner, class_ranks, class_size, class_top, defence_classes, defence_sizes, same_owner};
 
+use super::{ClassMove, History};
 use arrayvec::ArrayVec;
+use std::alloc::{AllocError, Global};
 use std::marker::Model;
 use suit_cards::{Holding, Rank};
-use suit_game::Question;
+use suit_game::{Move, Question};
+
+/// Want of memory.
+pub type Memory = AllocError;
 
 /// Who held a class at the start.
 #[derive(Clone, Copy, Debug, PartialEq, Eq)]
@@ -142,6 +148,33 @@ impl Classes {
             sizes.push(self.size(*class));
         }
         sizes
+    }
+
+    /// The history of class moves that a history of single cards merges to.
+    pub fn merge(&self, alloc: Global, history: &[Move]) -> Result<History, Memory>
+        ensures { IfOk result (λ moves. moves ≡ merged self.now history.now) }
+    {
+        let mut moves = Vec::new(alloc);
+        for mv in history {
+            moves.push(self.merged(*mv))?;
+        }
+        Ok(History::of(moves))
+    }
+
+    // A move with its card replaced by the card's class.
+    fn merged(&self, mv: Move) -> ClassMove
+        ensures { result ≡ merge self.now mv }
+    {
+        match mv {
+            Move::Lead { seat, rank } => ClassMove::Lead {
+                seat,
+                class: self.class_of(rank),
+            },
+            Move::Follow { rank } => ClassMove::Follow {
+                class: self.class_of(rank),
+            },
+            Move::ShowOut => ClassMove::ShowOut,
+        }
     }
 
     /// The class of a rank.

@@ -1,0 +1,12 @@
+//! What tasks on several threads share and hand over.
+use super::{ClassMove, Classes, History, Owner};
+
+fn shared<T: Send + Sync>() {}
+
+/// Classes, class moves and histories of them may be sent to another thread and be shared with it.
+pub fn classes_are_shared() {
+    shared::<Owner>();
+    shared::<Classes>();
+    shared::<ClassMove>();
+    shared::<History>();
+}
