@@ -2,3 +2,5 @@ pub mod ClassNumbers
 pub mod DefenceClasses
 pub mod RankBlocks
 pub mod DefenceSizes
+pub mod CountedLists
+pub mod SmallCounts

@@ -1,3 +1,5 @@
+pub mod ClassGame
 pub mod ClassMoves
+pub mod ClassPlaces
 pub mod Classes
 pub mod Numbering

@@ -40,7 +40,7 @@ pub struct Classes {
 
 impl Owner {
     // Whether it is the other one.
-    fn is(self, other: Owner) -> bool
+    pub(crate) fn is(self, other: Owner) -> bool
         ensures { result ≡ same_owner self other }
     {
         self == other
