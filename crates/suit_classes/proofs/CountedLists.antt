@@ -38,6 +38,10 @@ zeros_at k = elim (cases_lt k 13) [
 pub none_played-at : (k : ℕ) → get_or none_played k 0 ≡ 0
 none_played-at k = zeros_at k
 
+pub length-none_played : length none_played ≡ 13
+unfolding none_played class_numbers
+length-none_played = refl
+
 pub none_played_is : none_played ≡ 0 ∷ 0 ∷ 0 ∷ 0 ∷ 0 ∷ 0 ∷ 0 ∷ 0 ∷ 0 ∷ 0 ∷ 0 ∷ 0 ∷ 0 ∷ []
 unfolding none_played class_numbers
 none_played_is = refl

@@ -4,3 +4,8 @@ pub mod RankBlocks
 pub mod DefenceSizes
 pub mod CountedLists
 pub mod SmallCounts
+pub mod DealtClasses
+pub mod StartCounts
+pub mod MergedPlaces
+pub mod MovesOnce
+pub mod AgreedPlaces

@@ -6,6 +6,7 @@ use Rattle.std.proofs.lemmas.Bool.{cases_eq, eqb-true, eq-eqb, ne_eqb}
 use Rattle.suit_cards.specs.Holdings.{FallsBelow, IsHolding, suit, others_of}
 use Rattle.suit_cards.proofs.HeldSuits.{IsHolding-others_of}
 use Rattle.suit_cards.proofs.SuitRuns.{filter-filter, filter_suit-agree}
+use Rattle.suit_classes.specs.declared.classes.Owner.{Owner}
 use Rattle.suit_classes.specs.declared.classes.Owner.TheVariants as owners
 use Rattle.suit_classes.specs.Classes.{Hands, holder, same_owner, class_of, class_count, class_owner, class_ranks, defence_classes}
 use Rattle.suit_classes.proofs.ClassNumbers.{class_below-rises}
@@ -123,19 +124,25 @@ chosen_or_none : (b : Bool) (p : ℕ → Bool) (xs : List ℕ) → filter (λ x.
 chosen_or_none true p xs = refl
 chosen_or_none false p xs = filter-neither p xs
 
+-- the ranks of a class that a side held are all its ranks, or none
+pub held_of_class : (hands : Hands) (owner : Owner) (class : ℕ)
+    → with_number (class_of hands) (filter (λ rank. same_owner (holder hands rank) owner) suit) class
+    ≡ (if same_owner (class_owner hands class) owner then class_ranks hands class else [])
+held_of_class hands owner class =
+    filter-filter (λ rank. same_owner (holder hands rank) owner) (λ rank. class_of hands rank == class) suit
+    ∙ filter_suit-agree (λ rank. same_owner (holder hands rank) owner && (class_of hands rank == class))
+    (λ rank. same_owner (class_owner hands class) owner && (class_of hands rank == class))
+    (λ rank least most.
+    both_tests (same_owner (holder hands rank) owner) (class_of hands rank == class) (same_owner (class_owner hands class) owner)
+    (λ here. ap (λ o. same_owner o owner) (ap (class_owner hands) (sym (eqb-true (class_of hands rank) class here)) ∙ class_owner-class_of hands rank (least, omega arith))))
+    ∙ chosen_or_none (same_owner (class_owner hands class) owner) (λ rank. class_of hands rank == class) suit
+
 -- the missing cards of a class are all its ranks, or none
 missing_of_class : (hands : Hands) (class : ℕ)
     → with_number (class_of hands) (others_of hands.north hands.south) class
     ≡ (if same_owner (class_owner hands class) owners.Defence then class_ranks hands class else [])
 missing_of_class hands class =
-    ap (λ (l : List ℕ). with_number (class_of hands) l class) (sym (missing_are hands))
-    ∙ filter-filter (λ rank. same_owner (holder hands rank) owners.Defence) (λ rank. class_of hands rank == class) suit
-    ∙ filter_suit-agree (λ rank. same_owner (holder hands rank) owners.Defence && (class_of hands rank == class))
-    (λ rank. same_owner (class_owner hands class) owners.Defence && (class_of hands rank == class))
-    (λ rank least most.
-    both_tests (same_owner (holder hands rank) owners.Defence) (class_of hands rank == class) (same_owner (class_owner hands class) owners.Defence)
-    (λ here. ap (λ o. same_owner o owners.Defence) (ap (class_owner hands) (sym (eqb-true (class_of hands rank) class here)) ∙ class_owner-class_of hands rank (least, omega arith))))
-    ∙ chosen_or_none (same_owner (class_owner hands class) owners.Defence) (λ rank. class_of hands rank == class) suit
+    ap (λ (l : List ℕ). with_number (class_of hands) l class) (sym (missing_are hands)) ∙ held_of_class hands owners.Defence class
 
 -- the missing cards, falling, are the defenders' classes, one after another
 pub missing_in_blocks : (hands : Hands) → flat_map (class_ranks hands) (defence_classes hands) ≡ others_of hands.north hands.south

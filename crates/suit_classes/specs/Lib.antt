@@ -1,3 +1,4 @@
+pub mod Agreement
 pub mod ClassGame
 pub mod ClassMoves
 pub mod ClassPlaces

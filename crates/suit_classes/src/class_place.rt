@@ -1,14 +1,18 @@
 //! Class places: positions of the class game, told by counts of cards.
-ghost use Rattle.std.specs.Prelude.{◌≡◌, ℕ, ◌+◌, ◌<◌, ◌≤◌, ◌++◌, ◌∷◌, [], List, length, max, slice_index};
+ghost use Rattle.std.specs.Prelude.{◌≡◌, ℕ, ◌+◌, ◌<◌, ◌≤◌, ◌↔◌, ◌++◌, ◌∷◌, [], List, length, max, slice_index, true};
 ghost use Rattle.suit_cards.specs.declared.seats.Seat.{Seat};
 ghost use Rattle.suit_game.specs.declared.question.Question.{Question};
 ghost use Rattle.suit_game.specs.declared.moves.Move.{Move};
+ghost use Rattle.suit_game.specs.Places.{after, payoff};
+ghost use Rattle.suit_game.specs.PlaceViews.{IsPlay};
 ghost use Rattle.suit_game.specs.Validity.{IsValid};
 ghost use Rattle.suit_classes.specs.declared.classes.Owner.TheVariants as owners;
 ghost use Rattle.suit_classes.specs.declared.class_moves.ClassMove.{ClassMove};
 ghost use Rattle.suit_classes.specs.declared.class_moves.ClassMove.TheVariants.{Lead, Follow};
 ghost use Rattle.suit_classes.specs.Classes.{hands_of};
-ghost use Rattle.suit_classes.specs.ClassGame.{is_goal_settled};
+ghost use Rattle.suit_classes.specs.declared.class_turn.ClassTurn.TheVariants.{Decided};
+ghost use Rattle.suit_classes.specs.ClassGame.{class_turn_at, counts_of, is_decided, is_goal_settled, merged_moves};
+ghost use Rattle.suit_classes.specs.ClassMoves.{merged};
 ghost use Rattle.suit_classes.specs.ClassPlaces.{IsSmall, class_after, class_decided, class_ended, class_followed, class_leads, class_led, class_moves, class_passed, class_payoff, class_played, class_start, class_step, class_turn, has_class_lead, left, side, trick_seen, turn_of};
 
 use super::class_counts::{Counts, add_leads, dealt_to, follows_of, one_less, one_more};
@@ -86,37 +90,27 @@ impl ClassPlace {
     /// Who is on turn. It is `ClassTurn::Decided` exactly where the position is decided.
     pub fn turn(&self) -> ClassTurn
         ensures value { result ≡ class_turn self.now }
+        ensures over { result ≡ Decided ↔ (class_decided self.now ≡ true) }
+        ensures cards { (question : Question) (west : List ℕ) (history : List Move) → IsPlay question west history → self.now ≡ class_after question (merged (hands_of question) history) → result ≡ class_turn_at question (after question history) }
     {
-        if self.decided() {
-            return ClassTurn::Decided;
-        }
-        turn_of(self.trick)
+        self.turn_now()
     }
 
     /// Whether nothing that may still come changes what the play is worth: no trick is in progress,
     /// and no lead is legal, or the goal is met or out of reach.
     pub fn decided(&self) -> bool
         ensures value { result ≡ class_decided self.now }
+        ensures cards { (question : Question) (west : List ℕ) (history : List Move) → IsPlay question west history → self.now ≡ class_after question (merged (hands_of question) history) → result ≡ is_decided question (after question history) }
     {
-        match self.trick {
-            Some(_) => false,
-            None => !self.has_lead() || self.is_goal_settled(),
-        }
+        self.is_decided()
     }
 
     /// The moves, in their order, where West was dealt these counts of the defenders' classes.
     pub fn moves(&self, west: &[u8]) -> ArrayVec<ClassMove, 13>
         ensures value { result.items ≡ class_moves self.now west.now }
+        ensures cards { (question : Question) (layout : List ℕ) (history : List Move) → IsPlay question layout history → self.now ≡ class_after question (merged (hands_of question) history) → west.now ≡ counts_of (hands_of question) layout → result.items ≡ merged_moves question layout history }
     {
-        match self.trick {
-            None => self.leads(),
-            Some(trick) => match trick.turn {
-                Seat::N => follows_of(&self.north),
-                Seat::S => follows_of(&self.south),
-                Seat::W => follows_of(&self.left_to_west(west)),
-                Seat::E => follows_of(&self.left_to_east(west)),
-            },
-        }
+        self.moves_for(west)
     }
 
     /// The position after a move.
@@ -129,15 +123,59 @@ impl ClassPlace {
     /// What the tricks won are worth.
     pub fn payoff(&self) -> u64
         ensures value { result ≡ class_payoff self.now }
+        ensures cards { (question : Question) (west : List ℕ) (history : List Move) → IsPlay question west history → self.now ≡ class_after question (merged (hands_of question) history) → result ≡ payoff question.goal (after question history).won }
+    {
+        self.worth()
+    }
+}
+
+impl ClassPlace {
+    // Who is on turn.
+    fn turn_now(&self) -> ClassTurn
+        ensures value { result ≡ class_turn self.now }
+        ensures over { result ≡ Decided ↔ (class_decided self.now ≡ true) }
+    {
+        if self.is_decided() {
+            return ClassTurn::Decided;
+        }
+        turn_of(self.trick)
+    }
+
+    // Whether the position is decided.
+    fn is_decided(&self) -> bool
+        ensures { result ≡ class_decided self.now }
+    {
+        match self.trick {
+            Some(_) => false,
+            None => !self.has_lead() || self.is_goal_settled(),
+        }
+    }
+
+    // The moves, where West was dealt these counts.
+    fn moves_for(&self, west: &[u8]) -> ArrayVec<ClassMove, 13>
+        ensures { result.items ≡ class_moves self.now west.now }
+    {
+        match self.trick {
+            None => self.leads(),
+            Some(trick) => match trick.turn {
+                Seat::N => follows_of(&self.north),
+                Seat::S => follows_of(&self.south),
+                Seat::W => follows_of(&self.left_to_west(west)),
+                Seat::E => follows_of(&self.left_to_east(west)),
+            },
+        }
+    }
+
+    // What the tricks won are worth.
+    fn worth(&self) -> u64
+        ensures { result ≡ class_payoff self.now }
     {
         match self.goal {
             Goal::AtLeast(least) => { if self.won >= least { 1 } else { 0 } }
             Goal::Tricks => self.won as u64,
         }
     }
-}
 
-impl ClassPlace {
     // Whether some lead is legal where no trick is in progress.
     fn has_lead(&self) -> bool
         ensures { result ≡ has_class_lead self.now }
