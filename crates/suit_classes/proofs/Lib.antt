@@ -9,3 +9,5 @@ pub mod StartCounts
 pub mod MergedPlaces
 pub mod MovesOnce
 pub mod AgreedPlaces
+pub mod DecidedPlays
+pub mod AllowedHistories

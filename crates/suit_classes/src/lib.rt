@@ -11,6 +11,8 @@ mod entries;
 mod history;
 pub mod laws;
 mod sharing;
+#[cfg(test)]
+mod tests;
 
 pub use class_moves::ClassMove;
 pub use class_place::ClassPlace;
