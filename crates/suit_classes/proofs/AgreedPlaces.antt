@@ -4,7 +4,7 @@ use Rattle.std.specs.Prelude.{map, filter, nat_lt, ◌&&◌, if◌then◌else◌
 use Rattle.std.proofs.lemmas.Bool.{lt-ltb}
 use Rattle.std.proofs.lemmas.List.{map-append}
 use Rattle.suit_cards.specs.declared.seats.Seat.{Seat}
-use Rattle.suit_cards.specs.declared.seats.Seat.TheVariants.{N, S}
+use Rattle.suit_cards.specs.declared.seats.Seat.TheVariants.{N, E, S, W}
 use Rattle.suit_cards.specs.Holdings.{IsHolding}
 use Rattle.suit_cards.proofs.HeldSuits.{IsHolding-filter}
 use Rattle.suit_game.specs.declared.question.Question.{Question}
@@ -13,18 +13,18 @@ use Rattle.suit_game.specs.declared.question.LeadAt.{LeadAt}
 use Rattle.suit_game.specs.declared.question.Entries.{Entries}
 use Rattle.suit_game.specs.declared.moves.Move.{Move}
 use Rattle.suit_game.specs.declared.moves.Move.TheVariants as cards
-use Rattle.suit_game.specs.Places.{Place, Trick, dealt, hand, without, follows_of, is_empty, leads_at, after, legal_in, legal_at, may_lead_n, may_lead_s, payoff}
+use Rattle.suit_game.specs.declared.turn.Turn.TheVariants as games
+use Rattle.suit_game.specs.Places.{Place, Trick, dealt, hand, without, ended_in, follows_of, is_empty, leads_at, after, legal_in, legal_at, may_lead_n, may_lead_s, payoff}
 use Rattle.suit_game.specs.Places.{Closed as NoTrick, Open as InTrick}
-use Rattle.suit_game.specs.PlaceViews.{IsPlay}
+use Rattle.suit_game.specs.PlaceViews.{IsPlay, turn_on}
 use Rattle.suit_classes.specs.declared.class_moves.ClassMove.{ClassMove}
 use Rattle.suit_classes.specs.declared.class_moves.ClassMove.TheVariants.{Lead, Follow}
-use Rattle.suit_classes.specs.declared.class_turn.ClassTurn.{ClassTurn}
 use Rattle.suit_classes.specs.declared.class_turn.ClassTurn.TheVariants as turns
 use Rattle.suit_classes.specs.Agreement.{AgreesAt}
 use Rattle.suit_classes.specs.Classes.{Hands, hands_of, class_of}
-use Rattle.suit_classes.specs.ClassGame.{cards_in, class_turn_on, counts_of, decided_in, each_once, is_decided, is_goal_settled}
+use Rattle.suit_classes.specs.ClassGame.{cards_in, class_turn_for, counts_of, decided_in, each_once, is_decided, is_goal_settled}
 use Rattle.suit_classes.specs.ClassMoves.{merge, merged}
-use Rattle.suit_classes.specs.ClassPlaces.{ClassView, Closed, class_after, class_decided, class_decided_in, class_leads, class_moves, class_moves_in, class_numbers, classes_left, counted_classes, left, may_lead, or_show_out, turn_of}
+use Rattle.suit_classes.specs.ClassPlaces.{ClassTrick, ClassView, Closed, class_after, class_decided, class_decided_in, class_leads, class_moves, class_moves_in, class_numbers, classes_left, counted_classes, left, may_lead, or_show_out, turn_of}
 use Rattle.suit_classes.proofs.DealtClasses.{IsDealt, IsHolding-dealt}
 use Rattle.suit_classes.proofs.MergedPlaces.{HasCounts, IsMerged, merged_trick, after_merged, play_dealt}
 use Rattle.suit_classes.proofs.MovesOnce.{leads_once, merged_once}
@@ -171,9 +171,19 @@ decided_trick view question west place (InTrick turn after winner highest) count
 decided_agrees : (question : Question) (west : List ℕ) (place : Place) (view : ClassView) → IsMerged question west place view → class_decided view ≡ is_decided question place
 decided_agrees question west place view one = ap (class_decided_in view) one.trick ∙ decided_trick view question west place place.trick one.counts
 
-turn_agrees : (hands : Hands) (trick : Trick) → turn_of (merged_trick hands trick) ≡ class_turn_on trick
-turn_agrees hands NoTrick = refl
-turn_agrees hands (InTrick turn after winner highest) = refl
+turn_in : (hands : Hands) (question : Question) (place : Place) (trick : Trick)
+    → (if decided_in question place trick then turns.Decided else turn_of (merged_trick hands trick))
+    ≡ (if decided_in question place trick then turns.Decided else class_turn_for (if ended_in question place trick then games.Over else turn_on trick))
+turn_in hands question place NoTrick =
+    either (is_empty (leads_at question place)) (is_goal_settled question.goal place.won (max (length (hand question [] place N)) (length (hand question [] place S))))
+  where
+    either : (ended settled : Bool) → (if ended || settled then turns.Decided else turns.Lead) ≡ (if ended || settled then turns.Decided else class_turn_for (if ended then games.Over else games.Lead))
+    either true settled = refl
+    either false settled = refl
+turn_in hands question place (InTrick N after winner highest) = refl
+turn_in hands question place (InTrick S after winner highest) = refl
+turn_in hands question place (InTrick E after winner highest) = refl
+turn_in hands question place (InTrick W after winner highest) = refl
 
 -- a class place agrees with the position of single cards that it is that of
 pub agrees_at : (question : Question) (west : List ℕ) (history : List Move) (view : ClassView) → IsDealt question west → IsMerged question west (after question history) view
@@ -183,7 +193,8 @@ agrees_at question west history view is one =
     record {
       decided = decided_agrees question west place view one;
       turn = ap (λ (b : Bool). if b then turns.Decided else turn_of view.trick) (decided_agrees question west place view one)
-          ∙ ap (λ (t : ClassTurn). if is_decided question place then turns.Decided else t) (ap turn_of one.trick ∙ turn_agrees (hands_of question) place.trick);
+          ∙ ap (λ (t : ClassTrick). if is_decided question place then turns.Decided else turn_of t) one.trick
+          ∙ turn_in (hands_of question) question place place.trick;
       moves = moves_agree question west place view is one;
       payoff = ap (λ (g : Goal). payoff g view.won) one.counts.goal ∙ ap (payoff question.goal) one.counts.won;
     }

@@ -5,9 +5,10 @@ use Rattle.suit_game.specs.declared.question.Question.{Question}
 use Rattle.suit_game.specs.declared.question.Goal.{Goal}
 use Rattle.suit_game.specs.declared.question.Goal.TheVariants.{AtLeast, Tricks}
 use Rattle.suit_game.specs.declared.moves.Move.{Move}
-use Rattle.suit_game.specs.Gains.{is_declarer}
+use Rattle.suit_game.specs.declared.turn.Turn.{Turn}
+use Rattle.suit_game.specs.declared.turn.Turn.TheVariants as games
 use Rattle.suit_game.specs.Places.{Place, Trick, Closed, Open, after, hand, is_empty, leads_at, legal}
-use Rattle.suit_game.specs.PlaceViews.{IsPlay}
+use Rattle.suit_game.specs.PlaceViews.{IsPlay, turn_at}
 use Rattle.suit_classes.specs.declared.class_moves.ClassMove.{ClassMove}
 use Rattle.suit_classes.specs.declared.class_turn.ClassTurn.{ClassTurn}
 use Rattle.suit_classes.specs.declared.class_turn.ClassTurn.TheVariants as turns
@@ -45,14 +46,16 @@ decided_in question place (Open turn after winner highest) = false
 abbrev pub is_decided : Question → Place → Bool
 is_decided question place = decided_in question place place.trick
 
--- who is on turn where play goes on
-abbrev pub class_turn_on : Trick → ClassTurn
-class_turn_on Closed = turns.Lead
-class_turn_on (Open turn after winner highest) = if is_declarer turn then turns.Declarer turn else turns.Defence turn
+-- who is on turn, told as a turn of the class game
+abbrev pub class_turn_for : Turn → ClassTurn
+class_turn_for games.Lead = turns.Lead
+class_turn_for (games.Declarer seat) = turns.Declarer seat
+class_turn_for (games.Defence seat) = turns.Defence seat
+class_turn_for games.Over = turns.Decided
 
--- who is on turn at a position of the class game
+-- who is on turn at a position: where it is not decided, whoever is in the play of single cards
 abbrev pub class_turn_at : Question → Place → ClassTurn
-class_turn_at question place = if is_decided question place then turns.Decided else class_turn_on place.trick
+class_turn_at question place = if is_decided question place then turns.Decided else class_turn_for (turn_at question place)
 
 -- the moves of a list in their order, without those that stood before
 unfoldable pub each_once : List ClassMove → List ClassMove

@@ -3,4 +3,5 @@ pub mod ClassGame
 pub mod ClassMoves
 pub mod ClassPlaces
 pub mod Classes
+pub mod Examples
 pub mod Numbering

@@ -22,6 +22,11 @@ pub enum ClassMove {
 }
 
 impl Default for ClassMove {
+    ghost use Rattle.std.specs.Prelude.{◌≡◌};
+    ghost use Rattle.suit_classes.specs.declared.class_moves.ClassMove.TheVariants.{ShowOut};
+
+    ghost is_default = { λ mv. mv ≡ ShowOut };
+
     /// Showing out, for lists of fixed length that want some value.
     fn default() -> ClassMove {
         ClassMove::ShowOut

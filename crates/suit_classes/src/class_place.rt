@@ -5,7 +5,6 @@ ghost use Rattle.suit_game.specs.declared.question.Question.{Question};
 ghost use Rattle.suit_game.specs.declared.moves.Move.{Move};
 ghost use Rattle.suit_game.specs.Places.{after, payoff};
 ghost use Rattle.suit_game.specs.PlaceViews.{IsPlay};
-ghost use Rattle.suit_game.specs.Validity.{IsValid};
 ghost use Rattle.suit_classes.specs.declared.classes.Owner.TheVariants as owners;
 ghost use Rattle.suit_classes.specs.declared.class_moves.ClassMove.{ClassMove};
 ghost use Rattle.suit_classes.specs.declared.class_moves.ClassMove.TheVariants.{Lead, Follow};
@@ -65,8 +64,7 @@ impl Model for ClassPlace {
 impl ClassPlace {
     /// The position before any move.
     pub fn start(question: &Question, classes: &Classes) -> ClassPlace
-        requires valid { IsValid question.now }
-        requires classes { classes.now ≡ hands_of question.now }
+        requires { classes.now ≡ hands_of question.now }
         ensures { result ≡ class_start question.now }
     {
         ClassPlace {

@@ -8,6 +8,7 @@ mod class_trick;
 mod class_turn;
 mod classes;
 mod entries;
+pub mod examples;
 mod history;
 pub mod laws;
 mod sharing;
