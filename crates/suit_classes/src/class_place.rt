@@ -23,7 +23,8 @@ use std::marker::Model;
 use suit_cards::Seat;
 use suit_game::{Entries, Goal, LeadAt, Question};
 
-/// A position of the class game. Contracts see it as the position after a class history.
+/// A position of the class game, which is a small value and looks at no card. Contracts see it as
+/// counts of cards by class, and tie these to class histories and to the play of single cards.
 #[derive(Clone, Copy, Debug)]
 pub struct ClassPlace {
     // How many cards of each class North has left, and South, and how many in all.
@@ -111,7 +112,8 @@ impl ClassPlace {
         self.moves_for(west)
     }
 
-    /// The position after a move.
+    /// The position after a move. A move of the wrong kind changes nothing: a follow or a showing out
+    /// between tricks, or a lead to a trick in progress. No history that counts allow is longer than 52 moves.
     pub fn step(&self, mv: ClassMove) -> ClassPlace
         ensures { (question : Question) (history : List ClassMove) → length history ≤ 52 → self.now ≡ class_after question history → result ≡ class_after question (history ++ mv ∷ []) }
     {
