@@ -11,13 +11,13 @@ use Rattle.suit_ports.specs.Room.{KeepsRoom, IsFull}
 use Rattle.suit_game.specs.declared.question.Question.{Question}
 use Rattle.suit_game.specs.OneTrick.{one_trick_value}
 use Rattle.suit_top.specs.declared.command.Command.{Command}
-use Rattle.suit_top.specs.declared.command.Command.TheVariants.{Solve}
+use Rattle.suit_top.specs.declared.command.Command.TheVariants.{Solve, Weigh}
 use Rattle.suit_top.specs.declared.reply.Reply.{Reply}
 use Rattle.suit_top.specs.declared.status.Status.{Status}
 use Rattle.suit_top.specs.declared.status.Status.TheVariants.{Done, Usage, WriteFault, Long, NotBuilt}
 use Rattle.suit_top.specs.Answers.{Says, answer_text}
 use Rattle.suit_top.specs.Commands.{command_of, reads_input, limit_of}
-use Rattle.suit_top.specs.Dues.{Due, due_for, due_within, solved, silent, is_one_trick}
+use Rattle.suit_top.specs.Dues.{Due, due_for, due_within, solved, weighed, silent, is_one_trick}
 use Rattle.suit_question.specs.Reading.{question_read}
 use Rattle.suit_question.specs.declared.faults.QuestionFault.{QuestionFault}
 use Rattle.suit_top.specs.Texts.{text_bytes}
@@ -33,6 +33,10 @@ solved_tells (Ok question) usage = elim (cases_Bool (is_one_trick question)) [
   | inr more ↦ let told : NotBuilt ≡ Usage = ap (λ (b : Bool). (if b then record { status = Done; text = answer_text (one_trick_value question) } else silent NotBuilt).status) (sym more) ∙ usage in cc
 ]
 
+weighed_tells : (found : Result Question QuestionFault) → (weighed found).status ≡ Usage → ⊥
+weighed_tells (Err fault) usage = cc
+weighed_tells (Ok question) usage = cc
+
 long_tells : (long : Bool) (due : Due) → (due.status ≡ Usage → ⊥) → (if long then silent Long else due).status ≡ Usage → ⊥
 long_tells true due tells usage = cc
 long_tells false due tells usage = tells usage
@@ -40,12 +44,14 @@ long_tells false due tells usage = tells usage
 -- a command owes another status than Usage
 pub never_usage : (command : Command) (input : List ℕ) → (due_for (Some command) input).status ≡ Usage → ⊥
 never_usage Solve input usage = long_tells (nat_lt (limit_of Solve) (length input)) (due_within Solve input) (solved_tells (question_read input)) usage
+never_usage Weigh input usage = long_tells (nat_lt (limit_of Weigh) (length input)) (due_within Weigh input) (weighed_tells (question_read input)) usage
 
 long_is_not_done : (s : Status) → s ≡ Long → s ≡ Done → ⊥
 long_is_not_done s long done = cc
 
 reads_all : (command : Command) → reads_input command ≡ true
 reads_all Solve = refl
+reads_all Weigh = refl
 
 none_named : (words : List (List ℕ)) (command : Command) → command_of words ≡ Some command → IsNone (command_of words) → ⊥
 none_named words command named none = let other = subst IsNone named none in cc

@@ -1,6 +1,6 @@
 -- A valid question of one trick is settled by its answer.
-use Rattle.std.proofs.Common.{◌≡◌, ℕ, List, true, Result, Ok, length, refl}
-use Rattle.std.specs.Prelude.{◌&&◌, nat_le}
+use Rattle.std.proofs.Common.{◌≡◌, ℕ, List, true, Ok, length}
+use Rattle.std.specs.Prelude.{nat_le}
 use Rattle.std.proofs.lemmas.Bool.{leb-true, and_parts}
 use Rattle.suit_game.specs.declared.question.Question.{Question}
 use Rattle.suit_game.specs.OneTrick.{one_trick_value}

@@ -1,12 +1,13 @@
--- The answer to a question with at most one card in each declarer hand.
+-- The answer to a question with at most one card in each declarer hand, and what the text of each command says.
 use Rattle.std.specs.Prelude.{◌≡◌, ℕ, zero, suc, List, [], Option, None, Some, Ok, codes}
 use Rattle.suit_game.specs.declared.question.Question.{Question}
 use Rattle.suit_game.specs.Settled.{Settles}
 use Rattle.suit_game.specs.Strategies.{by_rows, by_defence_rows}
 use Rattle.suit_game.specs.Validity.{IsValid}
 use Rattle.suit_top.specs.declared.command.Command.{Command}
-use Rattle.suit_top.specs.declared.command.Command.TheVariants.{Solve}
+use Rattle.suit_top.specs.declared.command.Command.TheVariants.{Solve, Weigh}
 use Rattle.suit_question.specs.Reading.{question_read}
+use Rattle.suit_top.specs.Weighing.{Weighs}
 
 -- an answer whose plan and defence have no rows, and whose value is 0 or 1
 abbrev pub answer_text : ℕ → List ℕ
@@ -26,3 +27,4 @@ pub record Answers (input text : List ℕ) : Type 0 where
 abbrev pub Says : Option Command → List ℕ → List ℕ → Type 0
 Says None input text = ⊥
 Says (Some Solve) input text = Answers input text
+Says (Some Weigh) input text = Weighs input text

@@ -2,7 +2,7 @@
 use Rattle.std.specs.Prelude.{ℕ, nat_lt, nat_le, ◌&&◌, Bool, Result, Ok, Err, List, [], length, Option, Some, None, if◌then◌else◌}
 use Rattle.suit_game.specs.declared.question.Question.{Question}
 use Rattle.suit_top.specs.declared.command.Command.{Command}
-use Rattle.suit_top.specs.declared.command.Command.TheVariants.{Solve}
+use Rattle.suit_top.specs.declared.command.Command.TheVariants.{Solve, Weigh}
 use Rattle.suit_top.specs.declared.status.Status.{Status}
 use Rattle.suit_top.specs.declared.status.Status.TheVariants.{Done, Usage, Malformed, Long, NotBuilt}
 use Rattle.suit_game.specs.OneTrick.{one_trick_value}
@@ -11,6 +11,7 @@ use Rattle.suit_top.specs.Commands.{command_of, limit_of}
 use Rattle.suit_question.specs.Reading.{question_read}
 use Rattle.suit_question.specs.declared.faults.QuestionFault.{QuestionFault}
 use Rattle.suit_top.specs.Refusals.{malformed_line}
+use Rattle.suit_top.specs.Weighing.{weighing}
 
 -- a status and the text that is written with it
 pub record Due : Type 0 where
@@ -30,9 +31,15 @@ abbrev pub solved : Result Question QuestionFault → Due
 solved (Err fault) = record { status = Malformed; text = malformed_line fault }
 solved (Ok question) = if is_one_trick question then record { status = Done; text = answer_text (one_trick_value question) } else silent NotBuilt
 
+-- the weights of the question that was read, or its fault
+abbrev pub weighed : Result Question QuestionFault → Due
+weighed (Err fault) = record { status = Malformed; text = malformed_line fault }
+weighed (Ok question) = record { status = Done; text = weighing question }
+
 -- what a command owes for an input that is not too long
 abbrev pub due_within : Command → List ℕ → Due
 due_within Solve input = solved (question_read input)
+due_within Weigh input = weighed (question_read input)
 
 -- what is owed for a command, if the words form one, and an input
 abbrev pub due_for : Option Command → List ℕ → Due

@@ -7,3 +7,4 @@ pub mod Replies
 pub mod Runs
 pub mod Statuses
 pub mod Texts
+pub mod Weighing

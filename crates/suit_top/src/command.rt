@@ -7,6 +7,8 @@ ghost use Rattle.suit_top.specs.Commands.{command_of, limit_of};
 pub enum Command {
     /// Answer the question that is read.
     Solve,
+    /// Tell the weights of the class layouts of the question that is read.
+    Weigh,
 }
 
 impl Command {
@@ -16,6 +18,7 @@ impl Command {
     {
         match self {
             Command::Solve => 2_097_152,
+            Command::Weigh => 2_097_152,
         }
     }
 }
@@ -36,6 +39,8 @@ fn command_named(word: &str) -> Option<Command>
 {
     if word == "solve" {
         Some(Command::Solve)
+    } else if word == "weigh" {
+        Some(Command::Weigh)
     } else {
         None
     }

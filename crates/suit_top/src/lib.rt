@@ -9,6 +9,7 @@ mod status;
 #[cfg(test)]
 mod tests;
 mod top;
+mod weighing;
 
 pub use status::Status;
 pub use top::run;

@@ -5,12 +5,14 @@ ghost use Rattle.suit_top.specs.Dues.{due_within, is_one_trick};
 ghost use Rattle.suit_top.specs.Commands.{limit_of};
 ghost use Rattle.suit_top.specs.Answers.{Answers, Says};
 ghost use Rattle.suit_top.specs.Texts.{text_bytes};
+ghost use Rattle.suit_top.specs.Weighing.{Weighs};
 ghost use Rattle.suit_top.specs.Replies.{Failed, IsReply};
 
 use crate::answer::answer_to;
 use crate::command::Command;
 use crate::refusal::{Refusal, malformed};
 use crate::status::Status;
+use crate::weighing::weights_of;
 use std::alloc::{AllocError, Global};
 use suit_game::Question;
 use suit_ports::{ReadEnd, Source, read_all};
@@ -94,6 +96,7 @@ fn reply_within(alloc: Global, command: Command, input: &[u8]) -> Result<Reply, 
 {
     match command {
         Command::Solve => solved(alloc, input),
+        Command::Weigh => weighed(alloc, input),
     }
 }
 
@@ -114,6 +117,25 @@ fn solved(alloc: Global, input: &[u8]) -> Result<Reply, AllocError>
             text: Text::Made(Vec::from_slice(alloc, answer_to(&question))?),
         }),
         Ok(_) => Ok(silent(Status::NotBuilt)),
+    }
+}
+
+/// The reply of `weigh`.
+fn weighed(alloc: Global, input: &[u8]) -> Result<Reply, AllocError>
+    requires { length input.now ≤ 2097152 }
+    ensures status { IfOk result (λ reply. reply.status ≡ (due_within Command.Weigh input.now).status) }
+    ensures text { IfOk result (λ reply. text_bytes reply.text ≡ (due_within Command.Weigh input.now).text) }
+    ensures says { IfOk result (λ reply. reply.status ≡ Status.Done → Weighs input.now (text_bytes reply.text)) }
+{
+    match read_question(input) {
+        Err(fault) => Ok(Reply {
+            status: Status::Malformed,
+            text: Text::Line(malformed(fault)),
+        }),
+        Ok(question) => Ok(Reply {
+            status: Status::Done,
+            text: Text::Made(weights_of(alloc, &question)?),
+        }),
     }
 }
 

@@ -14,7 +14,7 @@ fn ran<R: Threads + Sync>(
     input: &[u8],
 ) -> Result<(u8, Vec<u8>), Fail> {
     let mut source = SureSource::of(input.to_vec(alloc)?);
-    let mut sink = SureSink::with_room(alloc, 100)?;
+    let mut sink = SureSink::with_room(alloc, 200)?;
     let status = run(rt, &OpenGate, alloc, words, &mut source, &mut sink);
     Ok((status.code(), sink.bytes().to_vec(alloc)?))
 }
@@ -60,73 +60,109 @@ fn answers(rt: HostRuntime) -> Result<(), Fail> {
 }
 
 #[test]
-fn refusals(rt: HostRuntime) -> Result<(), Fail> {
+fn weights_and_refusals(rt: HostRuntime) -> Result<(), Fail> {
     let cases = [
-        ("", 3, "malformed 1 at line 1\n"),
         (
-            "north A\nsouth 2\nstart W\ngoal 1\nend\n",
-            3,
-            "malformed 2 at line 3\n",
+            "weigh",
+            "north AJT98765432\nsouth -\nstart N\ngoal 11\nend\n",
+            0,
+            "weights 3\nwest 0 : 2496144\nwest 1 : 5408312\nwest 2 : 2496144\ntotal 10400600\nend\n",
         ),
         (
-            "north A\nnorth A\nsouth 2\ngoal 1\nend\n",
-            3,
-            "malformed 3 at line 2\n",
+            "weigh",
+            "north AKQJT98765432\nsouth -\nstart N\ngoal 13\nnodes 53\nend\n",
+            0,
+            "weights 1\nwest : 10400600\ntotal 10400600\nend\n",
         ),
         (
-            "north Ax\nsouth 2\ngoal 1\nend\n",
-            3,
-            "malformed 4 at line 1\n",
+            "weigh",
+            "north AQJT987654\nsouth 3\nstart S\nentries 0 0\ngoal 10\nend\n",
+            0,
+            "weights 4\nwest 0 0 : 2496144\nwest 0 1 : 2704156\nwest 1 0 : 2704156\nwest 1 1 : 2496144\ntotal 10400600\nend\n",
         ),
+        ("solve", "", 3, "malformed 1 at line 1\n"),
         (
-            "north AKA\nsouth 2\ngoal 1\nend\n",
-            3,
-            "malformed 5 at line 1\n",
-        ),
-        (
+            "weigh",
             "north A\nsouth A\ngoal 1\nend\n",
             3,
             "malformed 6 at line 4\n",
         ),
         (
+            "solve",
+            "north A\nsouth 2\nstart W\ngoal 1\nend\n",
+            3,
+            "malformed 2 at line 3\n",
+        ),
+        (
+            "solve",
+            "north A\nnorth A\nsouth 2\ngoal 1\nend\n",
+            3,
+            "malformed 3 at line 2\n",
+        ),
+        (
+            "solve",
+            "north Ax\nsouth 2\ngoal 1\nend\n",
+            3,
+            "malformed 4 at line 1\n",
+        ),
+        (
+            "solve",
+            "north AKA\nsouth 2\ngoal 1\nend\n",
+            3,
+            "malformed 5 at line 1\n",
+        ),
+        (
+            "solve",
+            "north A\nsouth A\ngoal 1\nend\n",
+            3,
+            "malformed 6 at line 4\n",
+        ),
+        (
+            "solve",
             "north -\nsouth -\ngoal 0\nend\n",
             3,
             "malformed 7 at line 4\n",
         ),
         (
+            "solve",
             "north A\nsouth 2\ngoal x\nend\n",
             3,
             "malformed 8 at line 3\n",
         ),
         (
+            "solve",
             "north A\nsouth 2\ngoal 14\nend\n",
             3,
             "malformed 9 at line 3\n",
         ),
         (
+            "solve",
             "north A\nsouth 2\ngoal 1\nnodes 400001\nend\n",
             3,
             "malformed 9 at line 4\n",
         ),
         (
+            "solve",
             "north A\nsouth 2\nvacant 5 5\ngoal 1\nend\n",
             3,
             "malformed 10 at line 5\n",
         ),
         (
+            "solve",
             "north AJT98765432\nsouth -\nstart N\ngoal 11\nwest 3 13\nend\n",
             3,
             "malformed 11 at line 6\n",
         ),
         (
+            "solve",
             "north A\nsouth 2\ngoal 1\nend\nx\n",
             3,
             "malformed 12 at line 5\n",
         ),
-        ("north AK\nsouth 2\ngoal 1\nend\n", 13, ""),
+        ("solve", "north AK\nsouth 2\ngoal 1\nend\n", 13, ""),
     ];
-    for (input, code, text) in cases {
-        let (status, written) = ran(&rt, rt.alloc(), &["solve"], input.as_bytes())?;
+    for (word, input, code, text) in cases {
+        let (status, written) = ran(&rt, rt.alloc(), &[word], input.as_bytes())?;
         assert_eq!(rt; status, code, "at {input:?}");
         assert_eq!(rt; written.as_slice(), text.as_bytes(), "at {input:?}");
     }
@@ -138,7 +174,9 @@ fn words_and_lengths(rt: HostRuntime) -> Result<(), Fail> {
     let spaces = vec![in rt.alloc(); b' '; 2_097_153]?;
     let cases = [
         (["solve"].as_slice(), 2_097_153, 11),
+        (["weigh"].as_slice(), 2_097_153, 11),
         (["solve", "now"].as_slice(), 3, 2),
+        (["weigh", "now"].as_slice(), 3, 2),
         (["make", "1", "1"].as_slice(), 3, 2),
         (["make", "1", "0"].as_slice(), 3, 2),
         ([].as_slice(), 3, 2),

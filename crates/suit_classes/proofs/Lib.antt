@@ -1,0 +1,13 @@
+pub mod ClassNumbers
+pub mod DefenceClasses
+pub mod RankBlocks
+pub mod DefenceSizes
+pub mod CountedLists
+pub mod SmallCounts
+pub mod DealtClasses
+pub mod StartCounts
+pub mod MergedPlaces
+pub mod MovesOnce
+pub mod AgreedPlaces
+pub mod DecidedPlays
+pub mod AllowedHistories

@@ -1,0 +1,7 @@
+pub mod Agreement
+pub mod ClassGame
+pub mod ClassMoves
+pub mod ClassPlaces
+pub mod Classes
+pub mod Examples
+pub mod Numbering

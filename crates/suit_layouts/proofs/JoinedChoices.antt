@@ -1,0 +1,89 @@
+-- Sums over the choices of two lists of cards together.
+use Rattle.std.proofs.Common.{◌≡◌, ℕ, ◌*◌, Bool, true, false, cond, List, [], ◌∷◌, ◌++◌, map, length, refl, ap, arith}
+use Rattle.std.specs.List.{AllByRecursion, sum_by, count_by, flat_map}
+use Rattle.std.proofs.lemmas.Bool.{or_left, or_right}
+use Rattle.std.proofs.lemmas.List.Sums.{sum_by-append, sum_by-cons}
+use Rattle.std.proofs.Common.{nat_eq}
+use Rattle.std.proofs.lemmas.Bool.{eq-eqb}
+use Rattle.suit_cards.specs.Holdings.{holds}
+use Rattle.suit_game.specs.Layouts.{choices_of}
+use Rattle.suit_game.proofs.EachElement.{each_append, each_gives, each_map}
+
+-- a sum over what a function makes of a list
+pub sum_by_map : {X Y : Type 0} (f : Y → ℕ) (h : X → Y) (xs : List X) → sum_by f (map h xs) ≡ sum_by (λ x. f (h x)) xs
+sum_by_map f h [] = refl
+sum_by_map {X} f h (x ∷ xs) =
+    let at_item : X → ℕ = λ y. f (h y) in
+    omega (arith, sum_by-cons f (h x) (map h xs), sum_by-cons at_item x xs, sum_by_map f h xs)
+
+-- a sum over lists joined end to end
+pub sum_by_flat_map : {X Y : Type 0} (f : Y → ℕ) (h : X → List Y) (xs : List X) → sum_by f (flat_map h xs) ≡ sum_by (λ x. sum_by f (h x)) xs
+sum_by_flat_map f h [] = refl
+sum_by_flat_map {X} f h (x ∷ xs) =
+    let at_item : X → ℕ = λ y. sum_by f (h y) in
+    omega (arith, sum_by-append f (h x) (flat_map h xs), sum_by-cons at_item x xs, sum_by_flat_map f h xs)
+
+-- terms that are equal at each element of a list add up to equal sums
+pub sum_by_alike : {X : Type 0} (f g : X → ℕ) (xs : List X) → AllByRecursion (λ x. f x ≡ g x) xs → sum_by f xs ≡ sum_by g xs
+sum_by_alike f g [] alike = refl
+sum_by_alike f g (x ∷ xs) alike = omega (arith, sum_by-cons f x xs, sum_by-cons g x xs, alike.0, sum_by_alike f g xs alike.1)
+
+-- a factor of each term is one of the sum
+pub sum_by-mul : {X : Type 0} (k : ℕ) (f : X → ℕ) (xs : List X) → sum_by (λ x. k * f x) xs ≡ k * sum_by f xs
+sum_by-mul k f [] = omega arith
+sum_by-mul {X} k f (x ∷ xs) =
+    let scaled : X → ℕ = λ y. k * f y in
+    omega (arith, sum_by-cons scaled x xs, ap (λ (n : ℕ). k * n) (sum_by-cons f x xs), sum_by-mul k f xs)
+
+-- to choose among two lists is to choose among the first and then among the second
+pub choices_joined : (f : List ℕ → ℕ) (xs ys : List ℕ)
+    → sum_by f (choices_of (xs ++ ys)) ≡ sum_by (λ taken. sum_by (λ more. f (taken ++ more)) (choices_of ys)) (choices_of xs)
+unfolding choices_of
+choices_joined f [] ys = omega arith
+choices_joined f (x ∷ xs) ys =
+    let with_first : List ℕ → List ℕ = λ taken. x ∷ taken in
+    let joined : List ℕ → ℕ = λ taken. sum_by (λ more. f (taken ++ more)) (choices_of ys) in
+    omega (
+      arith,
+      sum_by-append f (map with_first (choices_of (xs ++ ys))) (choices_of (xs ++ ys)),
+      sum_by_map f with_first (choices_of (xs ++ ys)),
+      choices_joined (λ taken. f (x ∷ taken)) xs ys,
+      choices_joined f xs ys,
+      sum_by-append joined (map with_first (choices_of xs)) (choices_of xs),
+      sum_by_map joined with_first (choices_of xs),
+    )
+
+-- each of some cards is held in a list
+abbrev pub AreHeld : List ℕ → List ℕ → Type 0
+AreHeld cards taken = AllByRecursion (λ card. holds cards card ≡ true) taken
+
+-- one card more holds no fewer
+held_more : (first : ℕ) (cards taken : List ℕ) → AreHeld cards taken → AreHeld (first ∷ cards) taken
+held_more first cards taken held =
+    each_gives (λ card. holds cards card ≡ true) (λ card. holds (first ∷ cards) card ≡ true) taken
+    (λ card is. or_right (nat_eq card first) (holds cards card) is) held
+
+-- what is chosen is held
+pub choices_held : (cards : List ℕ) → AllByRecursion (AreHeld cards) (choices_of cards)
+unfolding choices_of
+choices_held [] = (tt, tt)
+choices_held (first ∷ cards) =
+    each_append (AreHeld (first ∷ cards)) (map (λ taken. first ∷ taken) (choices_of cards)) (choices_of cards)
+    (each_map (AreHeld (first ∷ cards)) (λ taken. first ∷ taken) (choices_of cards)
+    (each_gives (AreHeld cards) (λ taken. AreHeld (first ∷ cards) (first ∷ taken)) (choices_of cards)
+    (λ taken held. (or_left (nat_eq first first) (holds cards first) (eq-eqb first first refl), held_more first cards taken held)) (choices_held cards)))
+    (each_gives (AreHeld cards) (AreHeld (first ∷ cards)) (choices_of cards) (held_more first cards) (choices_held cards))
+
+-- a count of what all pass
+pub count_all : {X : Type 0} (test : X → Bool) (xs : List X) → AllByRecursion (λ x. test x ≡ true) xs → count_by test xs ≡ length xs
+count_all test [] each = refl
+count_all {X} test (x ∷ xs) each =
+    let counted : X → ℕ = λ y. cond (test y) 1 0 in
+    omega (arith, sum_by-cons counted x xs, ap {B = ℕ} (λ (b : Bool). cond b 1 0) each.0, count_all test xs each.1)
+
+-- a count of what none passes
+pub count_none : {X : Type 0} (test : X → Bool) (xs : List X) → AllByRecursion (λ x. test x ≡ false) xs → count_by test xs ≡ 0
+count_none test [] each = refl
+count_none {X} test (x ∷ xs) each =
+    let counted : X → ℕ = λ y. cond (test y) 1 0 in
+    omega (arith, sum_by-cons counted x xs, ap {B = ℕ} (λ (b : Bool). cond b 1 0) each.0, count_none test xs each.1)

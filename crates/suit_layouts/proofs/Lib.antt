@@ -1,0 +1,11 @@
+pub mod BlockCounts
+pub mod ClassWeights
+pub mod FewCounts
+pub mod GroupedSums
+pub mod HeldCounts
+pub mod JoinedChoices
+pub mod ListedCounts
+pub mod PlacedCounts
+pub mod RisingCounts
+pub mod WalkSteps
+pub mod WeightSteps

@@ -1,0 +1,5 @@
+use Rattle.suit_layouts.proofs.HeldCounts.{class_layouts_held}
+use Rattle.suit_layouts.proofs.laws.class_layouts_held.Goals as goal
+
+pub returns : goal.returns
+returns c = class_layouts_held

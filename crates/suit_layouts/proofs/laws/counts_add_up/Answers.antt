@@ -1,0 +1,5 @@
+use Rattle.suit_layouts.proofs.HeldCounts.{counts_add_up}
+use Rattle.suit_layouts.proofs.laws.counts_add_up.Goals as goal
+
+pub returns : goal.returns
+returns c = counts_add_up

@@ -1,0 +1,5 @@
+use Rattle.suit_layouts.proofs.HeldCounts.{layouts_counted}
+use Rattle.suit_layouts.proofs.laws.layouts_counted.Goals as goal
+
+pub returns : goal.returns
+returns c = layouts_counted

@@ -1,0 +1,5 @@
+pub mod Blocks
+pub mod ClassLaws
+pub mod ClassLayouts
+pub mod Examples
+pub mod Walks
