@@ -1,6 +1,6 @@
 -- The cards that the seats were dealt, by their classes.
 use Rattle.std.proofs.Common.{◌≡◌, ℕ, ◌-◌, Bool, true, false, not, List, [], ◌∷◌, length, refl, sym, ap, ◌∙◌, inl, inr, arith}
-use Rattle.std.specs.Prelude.{filter, ◌==◌, ◌&&◌, if◌then◌else◌}
+use Rattle.std.specs.Prelude.{map, filter, ◌==◌, ◌&&◌, if◌then◌else◌}
 use Rattle.std.proofs.lemmas.Bool.{cases_eq, true≢false, and_from, false_from_ne_true, eq-eqb, ne_eqb}
 use Rattle.suit_cards.specs.declared.seats.Seat.{Seat}
 use Rattle.suit_cards.specs.declared.seats.Seat.TheVariants.{N, E, S, W}
@@ -19,8 +19,8 @@ use Rattle.suit_game.proofs.LayoutCards.{missing-apart, east-missing}
 use Rattle.suit_game.proofs.LongestPlay.{none_shared}
 use Rattle.suit_classes.specs.declared.classes.Owner.{Owner}
 use Rattle.suit_classes.specs.declared.classes.Owner.TheVariants as owners
-use Rattle.suit_classes.specs.Classes.{Hands, hands_of, holder, same_owner, class_of, class_owner, class_ranks}
-use Rattle.suit_classes.specs.ClassGame.{cards_in}
+use Rattle.suit_classes.specs.Classes.{Hands, hands_of, holder, same_owner, class_of, class_owner, class_ranks, defence_classes}
+use Rattle.suit_classes.specs.ClassGame.{cards_in, counts_of}
 use Rattle.suit_classes.specs.ClassPlaces.{held_by, side}
 use Rattle.suit_classes.proofs.DefenceClasses.{missing_are, class_owner-class_of}
 use Rattle.suit_classes.proofs.RankBlocks.{held_of_class}
@@ -196,3 +196,23 @@ cards_in-played hands cards gone card class is held =
 pub cards_in-kept : (hands : Hands) (cards gone : List ℕ) (card class : ℕ) → holds cards card ≡ false
     → cards_in hands (without cards (card ∷ gone)) class ≡ cards_in hands (without cards gone) class - 0
 cards_in-kept hands cards gone card class away = omega (arith, ap (λ (l : List ℕ). cards_in hands l class) (without_away cards gone card away))
+
+held_of_ranks : (hands : Hands) (west : List ℕ) (class : ℕ) → IsHolding west → cards_in hands west class ≡ length (filter (holds west) (class_ranks hands class))
+held_of_ranks hands west class is =
+    let test : ℕ → Bool = λ card. class_of hands card == class in
+    ap (λ (l : List ℕ). length (filter test l)) (sym (filter_suit-holds west is))
+    ∙ ap length
+    (filter-filter (holds west) test suit
+    ∙ filter_agree (λ card. holds west card && test card) (λ card. test card && holds west card) (λ card. and_swapped (holds west card) (test card)) suit
+    ∙ sym (filter-filter test (holds west) suit))
+
+counts_in : (hands : Hands) (west classes : List ℕ) → IsHolding west → map (cards_in hands west) classes ≡ map (λ class. length (filter (holds west) (class_ranks hands class))) classes
+counts_in hands west [] is = refl
+counts_in hands west (class ∷ classes) is =
+    ap (λ (n : ℕ). n ∷ map (cards_in hands west) classes) (held_of_ranks hands west class is)
+    ∙ ap (λ (l : List ℕ). length (filter (holds west) (class_ranks hands class)) ∷ l) (counts_in hands west classes is)
+
+-- West's counts are how many cards he holds of each block of the missing cards
+pub counts_by_blocks : (hands : Hands) (west : List ℕ) → IsHolding west
+    → counts_of hands west ≡ map (λ class. length (filter (holds west) (class_ranks hands class))) (defence_classes hands)
+counts_by_blocks hands west is = counts_in hands west (defence_classes hands) is

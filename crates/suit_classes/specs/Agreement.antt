@@ -1,5 +1,6 @@
 -- The class game and the play of single cards agree.
-use Rattle.std.specs.Prelude.{◌≡◌, ℕ, ◌≤◌, ◌↔◌, true, List, [], ◌∷◌, ◌++◌, length, fold, Contains}
+use Rattle.std.specs.Prelude.{◌≡◌, ℕ, ◌≤◌, ◌↔◌, true, List, [], ◌∷◌, ◌++◌, length, map, filter, fold, Contains}
+use Rattle.suit_cards.specs.Holdings.{IsHolding, holds}
 use Rattle.suit_cards.specs.Ranks.{IsRank}
 use Rattle.suit_game.specs.declared.question.Question.{Question}
 use Rattle.suit_game.specs.declared.moves.Move.{Move}
@@ -8,7 +9,7 @@ use Rattle.suit_game.specs.Places.{LegalFrom, after, payoff, step}
 use Rattle.suit_game.specs.PlaceViews.{IsPlay}
 use Rattle.suit_game.specs.Validity.{IsValid}
 use Rattle.suit_classes.specs.declared.class_moves.ClassMove.{ClassMove}
-use Rattle.suit_classes.specs.Classes.{Hands, hands_of, class_of, holder}
+use Rattle.suit_classes.specs.Classes.{Hands, hands_of, class_of, class_ranks, defence_classes, holder}
 use Rattle.suit_classes.specs.ClassGame.{Allows, class_turn_at, counts_of, is_decided, merged_moves}
 use Rattle.suit_classes.specs.ClassMoves.{merged}
 use Rattle.suit_classes.specs.ClassPlaces.{ClassView, class_after, class_decided, class_moves, class_payoff, class_turn}
@@ -56,3 +57,8 @@ AllowedMoves = (question : Question) (counts : List ℕ) (history : List ClassMo
 abbrev pub ClassesAreRuns : Type 0
 ClassesAreRuns = (hands : Hands) (high low : ℕ) → IsRank high → IsRank low → low ≤ high
     → (class_of hands high ≡ class_of hands low) ↔ ((rank : ℕ) → low ≤ rank → rank ≤ high → holder hands rank ≡ holder hands high)
+
+-- West's counts are how many cards he holds of each block of the missing cards
+abbrev pub CountsByBlocks : Type 0
+CountsByBlocks = (hands : Hands) (west : List ℕ) → IsHolding west
+    → counts_of hands west ≡ map (λ class. length (filter (holds west) (class_ranks hands class))) (defence_classes hands)

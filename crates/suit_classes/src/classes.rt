@@ -39,7 +39,7 @@ pub struct Classes {
 }
 
 impl Owner {
-    // Whether it is the other one.
+    // Whether both are the same owner.
     pub(crate) fn is(self, other: Owner) -> bool
         ensures { result ≡ same_owner self other }
     {

@@ -1,6 +1,6 @@
 //! Laws of the class game: each is the contract of a small function.
 ghost use Rattle.std.specs.Prelude.{◌≡◌};
-ghost use Rattle.suit_classes.specs.Agreement.{AllowedMoves, ClassGameAgrees, ClassHistoriesAreShort, ClassesAreRuns, CountsTellMoves, DecidedStays, LayoutsAllowNone};
+ghost use Rattle.suit_classes.specs.Agreement.{AllowedMoves, ClassGameAgrees, ClassHistoriesAreShort, ClassesAreRuns, CountsByBlocks, CountsTellMoves, DecidedStays, LayoutsAllowNone};
 ghost use Rattle.suit_classes.specs.ClassMoves.{stands_before};
 
 use super::ClassMove;
@@ -45,4 +45,9 @@ pub fn layouts_allow_none()
 /// Counts allow a history with one more move exactly where they allow the history, and the move is a class move for them.
 pub fn allowed_moves()
     ensures { AllowedMoves }
+{}
+
+/// West's counts are how many cards he holds of each block of the missing cards.
+pub fn counts_by_blocks()
+    ensures { CountsByBlocks }
 {}
