@@ -1,8 +1,9 @@
 -- Combined rows place by place.
-use Rattle.std.proofs.Common.{◌≡◌, ◌≢◌, ℕ, zero, suc, ◌+◌, ◌<◌, ◌≤◌, set, inl, inr, Bool, true, false, ◌&&◌, List, [], ◌∷◌, ◌++◌, length, refl, sym, ap, ◌∙◌, arith, IsTrue, Option, Some, None}
+use Rattle.std.proofs.Common.{◌≡◌, ◌≢◌, ℕ, zero, suc, ◌+◌, ◌<◌, ◌≤◌, set, inl, inr, Bool, true, false, ◌&&◌, List, [], ◌∷◌, ◌++◌, length, refl, sym, ap, ◌∙◌, arith, IsTrue, All, Option, Some, None}
 use Rattle.std.proofs.lemmas.Bool.{cases_eq}
 use Rattle.std.proofs.lemmas.Bool.Decides.{nat_tests}
-use Rattle.std.proofs.lemmas.List.{get_or-set_same, get_or-set_other}
+use Rattle.std.proofs.lemmas.List.{get_or_default, get_or-set_same, get_or-set_other, set-get_or}
+use Rattle.std.proofs.lemmas.Int.{ints}
 use Rattle.suit_num.specs.Narrow.{IsNarrow}
 use Rattle.std.specs.Prelude.{ℤ, pos, ◌*ℤ◌, ◌-ℤ◌, SomeIff}
 use Rattle.std.specs.List.{list_all}
@@ -143,3 +144,31 @@ pub not_combining : (own : ℤ) (was : List ℤ) (other : ℤ) (leaver now : Lis
 not_combining own was other leaver now place x y e less before is_x is_y refused h =
     let is_was : x ≡ number_at was place = is_x ∙ before.kept place (omega arith) in
     refused (rw (is_was, is_y) (place_combines own was other leaver place e less h))
+
+-- ---- a number that stays as it is
+
+zero_last : (x : ℤ) → x *ℤ pos 0 ≡ pos 0
+zero_last x = grind (arith, ints)
+
+less_zero : (x : ℤ) → x -ℤ pos 0 ≡ x
+less_zero x = grind (arith, ints)
+
+kept_number : (own x other y : ℤ) → IsNarrow x → own *ℤ x ≡ x → y ≡ pos 0 → Combines own x other y × (x ≡ own *ℤ x -ℤ other *ℤ y)
+kept_number own x other y narrow same none =
+    let b : other *ℤ y ≡ pos 0 = rw none (zero_last other) in
+    let c : x -ℤ pos 0 ≡ x = less_zero x in
+    let nothing : IsNarrow (pos 0) = omega arith in
+    let some : Combines own x other y × (x ≡ own *ℤ x -ℤ other *ℤ y) =
+    combine_is own x other y x (pos 0) (Some x) (rw same narrow, sym same) (rw b nothing, sym b) (rw c narrow, sym c) in
+    some
+
+-- a row is combined below the next place, too, where the number at this one stays
+pub kept_place : (own : ℤ) (was : List ℤ) (other : ℤ) (leaver now : List ℤ) (place : ℕ) (x y : ℤ) → place < length now → length now ≡ length was → All IsNarrow was → x ≡ number_at now place → y ≡ number_at leaver place → own *ℤ x ≡ x → y ≡ pos 0 → IsCombinedBelow own was other leaver now place → IsCombinedBelow own was other leaver now (place + 1)
+kept_place own was other leaver now place x y less len narrow is_x is_y stays none before =
+    let same : number_at now place ≡ number_at was place = before.kept place (omega arith) in
+    let x_narrow : IsNarrow x = rw (is_x, same) (narrow place (pos 0) (omega (arith, len, less))) in
+    rw (set-get_or now place (pos 0)) at (one_combined own was other leaver now place (number_at now place) (number_at now place) y less before refl is_y (rw (sym is_x) (kept_number own x other y x_narrow stays none)))
+
+pub narrow_combined : (own other : ℤ) (was leaver now : List ℤ) (place : ℕ) → length now ≡ length was → length was ≤ place → IsCombinedBelow own was other leaver now place → All IsNarrow now
+narrow_combined own other was leaver now place len past h =
+    λ k d less. rw (get_or_default now k d (pos 0) less) (rw (h.done k (omega (arith, len, less, past))) (difference_narrow own (number_at was k) other (number_at leaver k) (h.fits k (omega (arith, len, less, past)))))

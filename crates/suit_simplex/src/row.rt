@@ -18,6 +18,9 @@ pub(crate) fn combine(row: &mut [i128], own: i128, leaver: &[i128], other: i128)
     ensures narrow { OnTrue result (All IsNarrow row.new) }
 {
     for place in 0..row.len() {
+        if stays(row[place], own, leaver[place]) {
+            continue;
+        }
         match combine_numbers(row[place], own, leaver[place], other) {
             Some(number) => row[place] = number,
             None => return false,
@@ -26,14 +29,17 @@ pub(crate) fn combine(row: &mut [i128], own: i128, leaver: &[i128], other: i128)
     true
 }
 
+// Whether a number stays as it is: most numbers are 0, and most rows keep their own factor.
+fn stays(number: i128, own: i128, leaver: i128) -> bool
+    ensures leaver { OnTrue result (leaver ≡ pos 0) }
+    ensures number { OnTrue result (own *ℤ number ≡ number) }
+{
+    leaver == 0 && (own == 1 || number == 0)
+}
+
 fn combine_numbers(number: i128, own: i128, leaver: i128, other: i128) -> Option<i128>
-    requires { IsNarrow number }
     ensures { SomeIff result (IsTrue (list_all is_narrow (combining_at own number other leaver))) (own *ℤ number -ℤ other *ℤ leaver) }
 {
-    // Most numbers of the leaving row are 0, and most rows keep their own factor.
-    if own == 1 && leaver == 0 {
-        return Some(number);
-    }
     sub(mul(own, number)?, mul(other, leaver)?)
 }
 
@@ -81,8 +87,16 @@ fn make_primitive(numbers: &mut [i128], likely: usize)
         return;
     }
     for number in numbers.iter_mut() {
-        *number /= divisor;
+        *number = quotient(*number, divisor);
     }
+}
+
+// Most numbers are 0, which a division would take long to find.
+fn quotient(number: i128, divisor: i128) -> i128
+    requires { pos 0 <ℤ divisor }
+    ensures { result ≡ int_div number divisor }
+{
+    if number == 0 { 0 } else { number / divisor }
 }
 
 // The numbers with the entry cleared by those of the leaving row, in place. The answer is false where

@@ -1,7 +1,7 @@
-use Rattle.std.proofs.Common.{rules, arith, refl, ◌≡◌}
-use Rattle.std.specs.Prelude.{FitsSigned, pos, int_div, ◌<ℤ◌}
+use Rattle.std.proofs.Common.{rules, arith, ◌≡◌}
+use Rattle.std.specs.Prelude.{FitsSigned, pos, ◌<ℤ◌}
 use Rattle.std.specs.Int.{w128}
-use Rattle.std.proofs.lemmas.Int.{ints, to_z-of_z, quot_fits}
+use Rattle.std.proofs.lemmas.Int.{ints, to_z-of_z}
 use Rattle.suit_simplex.specs.Points.{number_at}
 use Rattle.suit_simplex.proofs.CommonDivisors.{primitive_same, one_divided, all_divided, narrow_primitive, one_bits}
 use Rattle.suit_simplex.specs.Pivots.{primitive}
@@ -17,8 +17,13 @@ loop-number-preserved c =
     let divisor_fits : FitsSigned w128 c.common_divisor-divisor.result = search rules in
     let number_fits : FitsSigned w128 (number_at c.loop-number.numbers c.loop-number.number-index) = search rules in
     let positive : pos 0 <ℤ c.common_divisor-divisor.result = rw c.common_divisor-divisor.ensures (omega (arith, ints, c.requires.some)) in
-    let quotient_fits : FitsSigned w128 (int_div (number_at c.loop-number.numbers c.loop-number.number-index) c.common_divisor-divisor.result) = quot_fits w128 _ _ number_fits positive in
-    simp to_z-of_z (one_divided c.args.numbers.now c.common_divisor-divisor.result c.loop-number.numbers c.loop-number.number-index (int_div (number_at c.loop-number.numbers c.loop-number.number-index) c.common_divisor-divisor.result) (omega arith) (simp to_z-of_z at c.loop-number.invariant) refl)
+    let quotient_fits : FitsSigned w128 c.quotient.result = search rules in
+    simp to_z-of_z (one_divided c.args.numbers.now c.common_divisor-divisor.result c.loop-number.numbers c.loop-number.number-index c.quotient.result (omega arith) (simp to_z-of_z at c.loop-number.invariant) (simp to_z-of_z at c.quotient.ensures))
+
+pub quotient-requires : goal.quotient-requires
+quotient-requires c =
+    let divisor_fits : FitsSigned w128 c.common_divisor-divisor.result = search rules in
+    rw c.common_divisor-divisor.ensures (omega (arith, ints, c.requires.some))
 
 pub returns-clause-value : goal.returns-clause-value
 returns-clause-value c =
