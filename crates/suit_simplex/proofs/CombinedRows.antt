@@ -147,7 +147,10 @@ not_combining own was other leaver now place x y e less before is_x is_y refused
 
 -- ---- a number that stays as it is
 
-zero_last : (x : ℤ) → x *ℤ pos 0 ≡ pos 0
+pub one_first : (x : ℤ) → pos 1 *ℤ x ≡ x
+one_first x = grind (arith, ints)
+
+pub zero_last : (x : ℤ) → x *ℤ pos 0 ≡ pos 0
 zero_last x = grind (arith, ints)
 
 less_zero : (x : ℤ) → x -ℤ pos 0 ≡ x

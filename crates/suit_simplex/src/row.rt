@@ -18,23 +18,17 @@ pub(crate) fn combine(row: &mut [i128], own: i128, leaver: &[i128], other: i128)
     ensures narrow { OnTrue result (All IsNarrow row.new) }
 {
     for place in 0..row.len() {
-        if stays(row[place], own, leaver[place]) {
+        let taken = leaver[place];
+        // Most numbers are 0, and most rows keep their own factor.
+        if taken == 0 && (own == 1 || row[place] == 0) {
             continue;
         }
-        match combine_numbers(row[place], own, leaver[place], other) {
+        match combine_numbers(row[place], own, taken, other) {
             Some(number) => row[place] = number,
             None => return false,
         }
     }
     true
-}
-
-// Whether a number stays as it is: most numbers are 0, and most rows keep their own factor.
-fn stays(number: i128, own: i128, leaver: i128) -> bool
-    ensures leaver { OnTrue result (leaver ≡ pos 0) }
-    ensures number { OnTrue result (own *ℤ number ≡ number) }
-{
-    leaver == 0 && (own == 1 || number == 0)
 }
 
 fn combine_numbers(number: i128, own: i128, leaver: i128, other: i128) -> Option<i128>

@@ -1,21 +1,29 @@
-use Rattle.std.proofs.Common.{rules, arith, refl}
-use Rattle.std.specs.Prelude.{FitsSigned}
+use Rattle.std.proofs.Common.{rules, arith, refl, sym, ◌≡◌, ◌∙◌}
+use Rattle.std.specs.Prelude.{FitsSigned, ◌*ℤ◌}
 use Rattle.std.specs.Int.{w128}
 use Rattle.std.proofs.lemmas.Int.{to_z-of_z}
+use Rattle.std.proofs.lemmas.Bool.{eqb-true}
 use Rattle.suit_simplex.specs.Points.{number_at}
-use Rattle.suit_simplex.proofs.CombinedRows.{none_combined, one_combined, all_combined, not_combining, kept_place, narrow_combined}
+use Rattle.suit_simplex.proofs.CombinedRows.{none_combined, one_combined, all_combined, not_combining, kept_place, narrow_combined, one_first, zero_last}
+use Rattle.suit_simplex.proofs.CommonDivisors.{zero_bits, one_bits}
 use Rattle.suit_simplex.proofs.row.combine.Goals as goal
+use Rattle.suit_simplex.proofs.row.combine.Goals.{then-own-eq1, else-own-eq1}
 
 pub loop-place-init : goal.loop-place-init
 loop-place-init c = none_combined _ _ _ _
 
-pub loop-place-preserved-then-stays : goal.loop-place-preserved-then-stays
-loop-place-preserved-then-stays c =
+pub loop-place-preserved-then-row-place-eq0 : goal.loop-place-preserved-then-row-place-eq0
+loop-place-preserved-then-row-place-eq0 c =
     let own_fits : FitsSigned w128 c.args.own = c.ranges.own in
     let other_fits : FitsSigned w128 c.args.other = c.ranges.other in
     let x_fits : FitsSigned w128 (number_at c.loop-place.row c.loop-place.place) = search rules in
     let y_fits : FitsSigned w128 (number_at c.args.leaver.now c.loop-place.place) = search rules in
-    simp to_z-of_z (kept_place c.args.own c.args.row.now c.args.other c.args.leaver.now c.loop-place.row c.loop-place.place (number_at c.loop-place.row c.loop-place.place) (number_at c.args.leaver.now c.loop-place.place) (omega arith) c.loop-place.auto.row c.requires.narrow refl refl (simp to_z-of_z at c.if-stays.ensures.number) (simp to_z-of_z at c.if-stays.ensures.leaver) (simp to_z-of_z at c.loop-place.invariant))
+    let stays : c.args.own *ℤ number_at c.loop-place.row c.loop-place.place ≡ number_at c.loop-place.row c.loop-place.place =
+    elim c.if-own-eq1.branch [
+      | then-own-eq1 w ↦ rw (one_bits _ own_fits w.if-own-eq1.true) (one_first (number_at c.loop-place.row c.loop-place.place))
+      | else-own-eq1 w ↦ rw (zero_bits _ x_fits (eqb-true _ 0 (sym w.value-is ∙ c.if-row-place-eq0.true))) (zero_last c.args.own)
+    ] in
+    simp to_z-of_z (kept_place c.args.own c.args.row.now c.args.other c.args.leaver.now c.loop-place.row c.loop-place.place (number_at c.loop-place.row c.loop-place.place) (number_at c.args.leaver.now c.loop-place.place) (omega arith) c.loop-place.auto.row c.requires.narrow refl refl stays (zero_bits _ y_fits c.if-taken-eq0.true) (simp to_z-of_z at c.loop-place.invariant))
 
 pub loop-place-preserved : goal.loop-place-preserved
 loop-place-preserved c =
