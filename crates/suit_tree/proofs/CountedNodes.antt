@@ -1,0 +1,173 @@
+-- Which class layouts a node holds, and at which paths a tree has a node.
+use Rattle.std.proofs.Common.{◌≡◌, ℕ, zero, suc, ◌+◌, ◌-◌, ◌<◌, Bool, true, false, cond, List, [], ◌∷◌, ◌++◌, length, get_or, map, refl, sym, ap, ◌∙◌, subst, inl, inr, arith}
+use Rattle.std.specs.Prelude.{◌↔◌, Contains, Some, filter, sum_by}
+use Rattle.std.specs.List.{AllByRecursion, flat_map, range_with_len}
+use Rattle.std.proofs.lemmas.Bool.{cases_lt}
+use Rattle.std.proofs.lemmas.List.{get_or-map, length-map}
+use Rattle.std.proofs.lemmas.List.Elements.{All-contains, All-contains_itself, All-filter, Contains-get_or, filter_passes}
+use Rattle.std.proofs.lemmas.List.FromFn.{get_or-range_with_len, length-range_with_len}
+use Rattle.suit_game.specs.declared.question.Question.{Question}
+use Rattle.suit_game.specs.Validity.{IsValid}
+use Rattle.suit_game.proofs.EachElement.{Contains-first}
+use Rattle.suit_classes.specs.declared.class_moves.ClassMove.{ClassMove}
+use Rattle.suit_classes.specs.Classes.{hands_of, defence_sizes}
+use Rattle.suit_classes.specs.ClassGame.{Allows}
+use Rattle.suit_classes.specs.ClassPlaces.{class_after, class_decided, class_start}
+use Rattle.suit_classes.proofs.DecidedPlays.{class_histories_are_short}
+use Rattle.suit_classes.proofs.DefenceSizes.{sum-defence_sizes}
+use Rattle.suit_layouts.proofs.ClassWeights.{class_weights_add_up}
+use Rattle.suit_layouts.proofs.ListedCounts.{Contains-filter}
+use Rattle.suit_tree.specs.declared.node.Node.{Node}
+use Rattle.suit_tree.specs.CountedHistories.{allows, question_layouts}
+use Rattle.suit_tree.specs.Nodes.{children_of, move_to}
+use Rattle.suit_tree.specs.Paths.{IsCounted, is_by, nodes_at, nodes_by}
+use Rattle.suit_tree.specs.Trees.{AllFit, IsTreeAt, StandsAt, allowing, counts_at, layout_places, moves_on}
+use Rattle.suit_tree.specs.TreeLaws.{listed_counts}
+use Rattle.suit_tree.proofs.AllowedLayouts.{allows_tells, layouts_allow}
+use Rattle.suit_tree.proofs.ListedHistories.{GoesOn, goes_on, goes_past}
+use Rattle.suit_tree.proofs.NodePaths.{IsOpen, no_node, one_node, tree_stands}
+
+-- a number of those below one is one of them
+Contains-range : (count place : ℕ) → place < count → Contains (range_with_len 0 count) place
+Contains-range count place below = (place, omega (arith, below, length-range_with_len 0 count), get_or-range_with_len 0 count place place below ∙ none)
+  where
+    none : 0 + place ≡ place
+    none = omega arith
+
+-- and each of them is below it
+range_below : (count place : ℕ) → Contains (range_with_len 0 count) place → place < count
+range_below count place found =
+    let below : found.0 < count = omega (arith, found.1, length-range_with_len 0 count) in
+    omega (arith, found.2, get_or-range_with_len 0 count found.0 place below, below)
+
+-- what a filter keeps was there, and passes
+kept_parts : (test : ℕ → Bool) (xs : List ℕ) (x : ℕ) → Contains (filter test xs) x → Contains xs x × (test x ≡ true)
+kept_parts test xs x found = (
+  All-contains (Contains xs) (filter test xs) x (All-filter test (Contains xs) xs (All-contains_itself xs)) found,
+  All-contains (λ (y : ℕ). test y ≡ true) (filter test xs) x (filter_passes test xs) found,
+)
+
+-- the counts at a place are those of a class layout
+counts_listed : (question : Question) (place : ℕ) → place < length (question_layouts question) → Contains (listed_counts question) (counts_at (question_layouts question) place)
+counts_listed question place below =
+    let layouts : List (List ℕ × ℕ) = question_layouts question in
+    let counts : List ℕ × ℕ → List ℕ = λ layout. layout.0 in
+    subst (Contains (listed_counts question)) (get_or-map counts layouts place ([], 0) [] below)
+    (Contains-get_or (listed_counts question) place [] (omega (arith, below, length-map layouts counts)))
+
+-- a node holds the places of exactly those class layouts that allow its history
+pub kept_layouts : (question : Question) (history : List ClassMove) (place : ℕ) → IsValid question
+    → Contains (allowing question history) place ↔ ((place < length (question_layouts question)) × Allows question (counts_at (question_layouts question) place) history)
+unfolding allowing
+kept_layouts question history place valid =
+    let layouts : List (List ℕ × ℕ) = question_layouts question in
+    let test : ℕ → Bool = λ at. allows question (counts_at layouts at) history in (
+      λ found.
+          let parts = kept_parts test (layout_places layouts) place found in
+          let below = range_below (length layouts) place parts.0 in
+          (below, (allows_tells question (counts_at layouts place) history valid (counts_listed question place below)).0 parts.1),
+      λ is.
+          Contains-filter test (layout_places layouts) place (Contains-range (length layouts) place is.0)
+          ((allows_tells question (counts_at layouts place) history valid (counts_listed question place is.0)).1 is.1),
+    )
+
+some_of : (xs : List ℕ) (x : ℕ) → Contains xs x → 0 < length xs
+some_of xs x found = omega (arith, found.1)
+
+-- counts of a class layout stand at some place
+place_of : (question : Question) (counts : List ℕ) → Contains (listed_counts question) counts
+    → (place : ℕ) × (place < length (question_layouts question)) × (counts_at (question_layouts question) place ≡ counts)
+place_of question counts found =
+    let layouts : List (List ℕ × ℕ) = question_layouts question in
+    let here : List ℕ × ℕ → List ℕ = λ layout. layout.0 in
+    let below : found.0 < length layouts = omega (arith, found.1, length-map layouts here) in
+    (found.0, below, sym (get_or-map here layouts found.0 ([], 0) counts below) ∙ found.2)
+
+-- a history that is counted is a path that some class layout allows past no decided position
+counted_open : (question : Question) (counts : List ℕ) (history : List ClassMove) → IsValid question → Contains (listed_counts question) counts
+    → IsCounted question counts history → IsOpen question [] history
+counted_open question counts history valid found counted =
+    let place = place_of question counts found in
+    record {
+      past = goes_on (class_start question) history counted.undecided;
+      some = some_of (allowing question history) place.0
+          ((kept_layouts question history place.0 valid).1 (place.1, subst (λ (told : List ℕ). Allows question told history) (sym place.2) counted.allowed));
+    }
+
+-- at its path stands one node
+pub one_node_at_each_path : (question : Question) (counts : List ℕ) (history : List ClassMove) (root : Node) → IsValid question → Contains (listed_counts question) counts
+    → IsCounted question counts history → IsTreeAt 52 question [] root → (node : Node) × (nodes_at history root ≡ node ∷ []) × StandsAt question history node
+one_node_at_each_path question counts history root valid found counted tree =
+    let one = one_node 52 question [] history root tree (class_histories_are_short question counts history counted.allowed) (counted_open question counts history valid found counted) in
+    (one.0, one.1, tree_stands (52 - length history) question history one.0 one.2)
+
+-- where nodes fit, each of them has what fits give
+fit_each : (Fits : ClassMove → Node → Type 0) (P : Node → Type 0) → ((move : ClassMove) (node : Node) → Fits move node → P node)
+    → (moves : List ClassMove) (nodes : List Node) → AllFit Fits moves nodes → AllByRecursion P nodes
+unfolding AllFit
+fit_each Fits P gives [] [] fit = tt
+fit_each Fits P gives [] (node ∷ nodes) fit = absurd fit
+fit_each Fits P gives (move ∷ moves) [] fit = absurd fit
+fit_each Fits P gives (move ∷ moves) (node ∷ nodes) fit = (gives move node fit.0, fit_each Fits P gives moves nodes fit.1)
+
+none_case : (path : List ClassMove) (node : Node) (rest : List Node) (b : Bool) → nodes_at path node ≡ [] → flat_map (nodes_at path) rest ≡ []
+    → flat_map (nodes_at path) (cond b (node ∷ rest) rest) ≡ []
+none_case path node rest true none later = ap (λ (l : List Node). l ++ flat_map (nodes_at path) rest) none ∙ later
+none_case path node rest false none later = later
+
+none_each : (move : ClassMove) (path : List ClassMove) (nodes : List Node) → AllByRecursion (λ node. nodes_at path node ≡ []) nodes → flat_map (nodes_at path) (nodes_by move nodes) ≡ []
+none_each move path [] none = refl
+none_each move path (node ∷ nodes) none = none_case path node (nodes_by move nodes) (is_by move (move_to node)) none.0 (none_each move path nodes none.1)
+
+-- no node stands deeper than the tree may go
+too_deep : (more : ℕ) (question : Question) (history path : List ClassMove) (node : Node) → IsTreeAt more question history node → more < length path → nodes_at path node ≡ []
+unfolding nodes_at IsTreeAt
+too_deep more question history [] node tree deep = absurd (omega (arith, deep))
+too_deep zero question history (move ∷ path) node tree deep = ap (λ (l : List Node). flat_map (nodes_at path) (nodes_by move l)) tree.1
+too_deep (suc more) question history (move ∷ path) node tree deep =
+    none_each move path (children_of node)
+    (fit_each (λ other child. (move_to child ≡ Some other) × IsTreeAt more question (history ++ other ∷ []) child) (λ child. nodes_at path child ≡ [])
+    (λ other child fit. too_deep more question (history ++ other ∷ []) path child fit.1 (omega (arith, deep))) (moves_on question history) (children_of node) tree.1)
+
+-- a path that some class layout allows past no decided position is counted for some class layout
+open_counted : (question : Question) (history : List ClassMove) → IsValid question → IsOpen question [] history
+    → (counts : List ℕ) × Contains (listed_counts question) counts × IsCounted question counts history
+open_counted question history valid is =
+    let kept : List ℕ = allowing question history in
+    let place : ℕ = get_or kept 0 0 in
+    let parts = (kept_layouts question history place valid).0 (Contains-get_or kept 0 0 is.some) in (
+      counts_at (question_layouts question) place,
+      counts_listed question place parts.0,
+      record {
+        allowed = parts.1;
+        undecided = λ start rest same some. goes_past (class_start question) start rest (subst (GoesOn (class_start question)) same is.past) some;
+      },
+    )
+
+first_of : (layouts : List (List ℕ × ℕ)) → 0 < sum_by (λ (layout : List ℕ × ℕ). layout.1) layouts → (counts : List ℕ) × Contains (map (λ (layout : List ℕ × ℕ). layout.0) layouts) counts
+first_of [] some = absurd (omega (arith, some))
+first_of (layout ∷ layouts) some = (layout.0, Contains-first layout.0 (map (λ (other : List ℕ × ℕ). other.0) layouts))
+
+-- some class layout has a weight
+some_layout : (question : Question) → IsValid question → (counts : List ℕ) × Contains (listed_counts question) counts
+unfolding question_layouts
+some_layout question valid =
+    let sizes : List ℕ = defence_sizes (hands_of question) in
+    first_of (question_layouts question) (omega (arith, valid.has_weight, class_weights_add_up question sizes (sum-defence_sizes (hands_of question))))
+
+none_before : (question : Question) (start rest : List ClassMove) → [] ≡ start ++ rest → (rest ≡ [] → ⊥) → class_decided (class_after question start) ≡ false
+none_before question [] rest same some = absurd (some (sym same))
+none_before question (move ∷ start) rest same some = cc
+
+-- at the path of no other history stands a node
+pub no_other_node : (question : Question) (history : List ClassMove) (root : Node) → IsValid question
+    → ((counts : List ℕ) → Contains (listed_counts question) counts → IsCounted question counts history → ⊥) → IsTreeAt 52 question [] root → nodes_at history root ≡ []
+no_other_node question [] root valid other tree =
+    let some = some_layout question valid in
+    absurd (other some.0 some.1 (record { allowed = layouts_allow question some.0 valid some.1; undecided = none_before question }))
+no_other_node question (move ∷ path) root valid other tree = elim (cases_lt 52 (length (move ∷ path))) [
+  | inl deep ↦ too_deep 52 question [] (move ∷ path) root tree deep
+  | inr few ↦
+      no_node 52 question [] move path root tree few
+      (λ is. let counted = open_counted question (move ∷ path) valid is in other counted.0 counted.1 counted.2)
+]

@@ -1,0 +1,115 @@
+-- A tree grown on from a class history is the tree of all histories that count and go on from it.
+use Rattle.std.proofs.Common.{◌≡◌, ℕ, zero, suc, Bool, true, false, cond, ◌&&◌, List, [], ◌∷◌, ◌++◌, length, refl, sym, ap, ◌∙◌, subst}
+use Rattle.std.specs.Prelude.{filter, fold, nat_lt, Some, if◌then◌else◌}
+use Rattle.std.proofs.lemmas.List.Elements.{filter_agree}
+use Rattle.suit_game.specs.declared.question.Question.{Question}
+use Rattle.suit_classes.specs.declared.class_moves.ClassMove.{ClassMove}
+use Rattle.suit_classes.specs.ClassPlaces.{ClassView, class_after, class_decided, class_moves, class_start, class_step}
+use Rattle.suit_classes.proofs.SmallCounts.{class_after_move}
+use Rattle.suit_tree.specs.declared.node.Node.{Node}
+use Rattle.suit_tree.specs.CountedHistories.{allows, allows_from, is_among, question_layouts}
+use Rattle.suit_tree.specs.Growing.{IsGrown, StandsFor, keeping, moves_from}
+use Rattle.suit_tree.specs.Nodes.{children_of, move_to}
+use Rattle.suit_tree.specs.Trees.{AllFit, IsTreeAt, StandsAt, allowing, counts_at, every_move, layout_places, moves_on}
+
+and-last : (b : Bool) → (b && true) ≡ b
+and-last true = refl
+and-last false = refl
+
+and-assoc : (a b c : Bool) → (a && (b && c)) ≡ ((a && b) && c)
+and-assoc true b c = refl
+and-assoc false b c = refl
+
+-- counts allow one move more where it is among the moves after the others
+pub allows_from-push : (counts : List ℕ) (view : ClassView) (history : List ClassMove) (move : ClassMove)
+    → allows_from counts view (history ++ move ∷ []) ≡ (allows_from counts view history && is_among (class_moves (fold class_step view history) counts) move)
+unfolding allows_from
+allows_from-push counts view [] move = and-last (is_among (class_moves view counts) move)
+allows_from-push counts view (first ∷ rest) move =
+    let next = class_step view first in
+    ap (λ (b : Bool). is_among (class_moves view counts) first && b) (allows_from-push counts next rest move)
+    ∙ and-assoc (is_among (class_moves view counts) first) (allows_from counts next rest) (is_among (class_moves (fold class_step next rest) counts) move)
+
+pub allows-push : (question : Question) (counts : List ℕ) (history : List ClassMove) (move : ClassMove)
+    → allows question counts (history ++ move ∷ []) ≡ (allows question counts history && is_among (class_moves (class_after question history) counts) move)
+unfolding allows
+allows-push question counts history move = allows_from-push counts (class_start question) history move
+
+filtered_either : (p q : ℕ → Bool) (x : ℕ) (xs : List ℕ) (b : Bool)
+    → filter p (cond b (x ∷ filter q xs) (filter q xs)) ≡ cond (b && p x) (x ∷ filter p (filter q xs)) (filter p (filter q xs))
+filtered_either p q x xs true = refl
+filtered_either p q x xs false = refl
+
+-- what two filters keep is what both tests pass
+filter_both : (p q : ℕ → Bool) (xs : List ℕ) → filter p (filter q xs) ≡ filter (λ x. q x && p x) xs
+filter_both p q [] = refl
+filter_both p q (x ∷ xs) =
+    filtered_either p q x xs (q x) ∙ ap (λ (l : List ℕ). cond (q x && p x) (x ∷ l) l) (filter_both p q xs)
+
+-- of the places that allow a history, those at which a move may be made allow it with this move
+pub kept_allowing : (question : Question) (history : List ClassMove) (move : ClassMove)
+    → keeping (question_layouts question) (class_after question history) (allowing question history) move ≡ allowing question (history ++ move ∷ [])
+unfolding keeping allowing
+kept_allowing question history move =
+    let layouts : List (List ℕ × ℕ) = question_layouts question in
+    let may : ℕ → Bool = λ place. is_among (class_moves (class_after question history) (counts_at layouts place)) move in
+    let before : ℕ → Bool = λ place. allows question (counts_at layouts place) history in
+    filter_both may before (layout_places layouts)
+    ∙ filter_agree (λ place. before place && may place) (λ place. allows question (counts_at layouts place) (history ++ move ∷ []))
+    (λ place. sym (allows-push question (counts_at layouts place) history move)) (layout_places layouts)
+
+-- so the moves by which a position goes on are those of its history
+pub moves_from_on : (question : Question) (history : List ClassMove)
+    → moves_from (question_layouts question) (class_after question history) (allowing question history) ≡ moves_on question history
+unfolding moves_from moves_on
+moves_from_on question history =
+    let view = class_after question history in
+    let layouts : List (List ℕ × ℕ) = question_layouts question in
+    ap (λ (l : List ClassMove). if class_decided view then [] else l)
+    (filter_agree (λ move. nat_lt 0 (length (keeping layouts view (allowing question history) move))) (λ move. nat_lt 0 (length (allowing question (history ++ move ∷ []))))
+    (λ move. ap (λ (l : List ℕ). nat_lt 0 (length l)) (kept_allowing question history move)) every_move)
+
+-- what fits one way fits another where the one gives the other
+pub all_fit_gives : (Fits Others : ClassMove → Node → Type 0) → ((move : ClassMove) (node : Node) → Fits move node → Others move node)
+    → (moves : List ClassMove) (nodes : List Node) → AllFit Fits moves nodes → AllFit Others moves nodes
+unfolding AllFit
+all_fit_gives Fits Others gives [] [] fit = tt
+all_fit_gives Fits Others gives [] (node ∷ nodes) fit = absurd fit
+all_fit_gives Fits Others gives (move ∷ moves) [] fit = absurd fit
+all_fit_gives Fits Others gives (move ∷ moves) (node ∷ nodes) fit = (gives move node fit.0, all_fit_gives Fits Others gives moves nodes fit.1)
+
+stands_at : (question : Question) (history : List ClassMove) (node : Node)
+    → StandsFor (class_after question history) (allowing question history) node → StandsAt question history node
+stands_at question history node stands = record { turn = stands.turn; layouts = stands.layouts; payoff = stands.payoff }
+
+-- a node grown from the position after a history, with the places that allow it, is the tree at this history
+pub grown_is_tree : (more : ℕ) (question : Question) (history : List ClassMove) (node : Node)
+    → IsGrown more (question_layouts question) (class_after question history) (allowing question history) node → IsTreeAt more question history node
+unfolding IsGrown IsTreeAt
+grown_is_tree zero question history node grown = (stands_at question history node grown.0, grown.1)
+grown_is_tree (suc more) question history node grown =
+    let view = class_after question history in
+    let layouts : List (List ℕ × ℕ) = question_layouts question in
+    let places = allowing question history in
+    let Grown : ClassMove → Node → Type 0 = λ move child. (move_to child ≡ Some move) × IsGrown more layouts (class_step view move) (keeping layouts view places move) child in
+    let Tree : ClassMove → Node → Type 0 = λ move child. (move_to child ≡ Some move) × IsTreeAt more question (history ++ move ∷ []) child in (
+      stands_at question history node grown.0,
+      subst (λ (moves : List ClassMove). AllFit Tree moves (children_of node)) (moves_from_on question history)
+          (all_fit_gives Grown Tree
+          (λ move child fits. (
+            fits.0,
+            grown_is_tree more question (history ++ move ∷ []) child
+                (subst (λ (kept : List ℕ). IsGrown more layouts (class_after question (history ++ move ∷ [])) kept child) (kept_allowing question history move)
+                (subst (λ (after : ClassView). IsGrown more layouts after (keeping layouts view places move) child) (sym (class_after_move question history move)) fits.1)),
+          ))
+          (moves_from layouts view places) (children_of node) grown.1),
+    )
+
+filter-all : (xs : List ℕ) → filter (λ x. true) xs ≡ xs
+filter-all [] = refl
+filter-all (x ∷ xs) = ap (λ (l : List ℕ). x ∷ l) (filter-all xs)
+
+-- every class layout allows the empty history
+pub allowing_first : (question : Question) → allowing question [] ≡ layout_places (question_layouts question)
+unfolding allowing allows allows_from
+allowing_first question = filter-all (layout_places (question_layouts question))

@@ -1,0 +1,11 @@
+pub mod AllowedLayouts
+pub mod CountedNodes
+pub mod DistinctElements
+pub mod GrowingSteps
+pub mod GrownTrees
+pub mod KeptPlaces
+pub mod ListedHistories
+pub mod MoveLists
+pub mod MovesOn
+pub mod NodePaths
+pub mod PairCounts

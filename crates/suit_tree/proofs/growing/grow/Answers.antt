@@ -1,0 +1,45 @@
+use Rattle.std.proofs.Common.{rules, ◌≡◌, ◌∙◌, [], length, ap, arith}
+use Rattle.std.specs.List.{range_with_len}
+use Rattle.suit_tree.specs.CountedHistories.{node_count, question_layouts}
+use Rattle.suit_tree.specs.TreeEnds.{IsPastBudget}
+use Rattle.suit_tree.specs.Trees.{layout_places}
+use Rattle.suit_tree.proofs.GrowingSteps.{all_below, past_more}
+use Rattle.suit_tree.proofs.GrownTrees.{allowing_first, grown_is_tree}
+use Rattle.suit_tree.proofs.PairCounts.{all_pairs_counted}
+use Rattle.suit_tree.proofs.growing.grow.Goals as goal
+
+pub node-requires-clause-room : goal.node-requires-clause-room
+node-requires-clause-room c = record { question = c.args.question.now; history = []; short = omega arith; after = c.start-start.ensures }
+
+pub node-requires-clause-places : goal.node-requires-clause-places
+node-requires-clause-places c =
+    let long : length c.deref.result.now ≡ c.len.result = omega (arith, c.deref.ensures.len, c.len.ensures) in
+    rw (c.in_ok-all.ensures.places, long) (all_below c.len.result)
+
+pub returns-in_err-root-clause-end : goal.returns-in_err-root-clause-end
+returns-in_err-root-clause-end c =
+    let places : c.in_ok-all.all.items ≡ layout_places (question_layouts c.args.question.now) =
+    c.in_ok-all.ensures.places ∙ ap (range_with_len 0) (omega (arith, c.len.ensures, c.in_ok-layouts.layouts.ok.0, ap length c.in_ok-layouts.ensures.layouts)) in
+    let told = rw (c.deref.ensures.value, c.in_ok-layouts.ensures.layouts, places, c.start-start.ensures, all_pairs_counted c.args.question.now) at c.in_err-root.ensures.end in
+    let past : IsPastBudget (node_count c.args.question.now) c.args.question.now.nodes c.in_err-root.field-0.0 = past_more _ _ _ c.in_err-root.field-0.0 (omega arith) told in
+    search rules
+
+pub returns-clause-tree : goal.returns-clause-tree
+returns-clause-tree c =
+    let places : c.in_ok-all.all.items ≡ layout_places (question_layouts c.args.question.now) =
+    c.in_ok-all.ensures.places ∙ ap (range_with_len 0) (omega (arith, c.len.ensures, c.in_ok-layouts.layouts.ok.0, ap length c.in_ok-layouts.ensures.layouts)) in
+    let grown = rw (c.deref.ensures.value, c.in_ok-layouts.ensures.layouts, places, c.start-start.ensures) at c.in_ok-root.ensures.grown in
+    let counted = rw (c.deref.ensures.value, c.in_ok-layouts.ensures.layouts, places, c.start-start.ensures, all_pairs_counted c.args.question.now) at c.in_ok-root.ensures.counted in
+    record {
+      layouts = c.in_ok-layouts.ensures.layouts;
+      top = c.in_ok-root.ensures.last;
+      nodes = grown_is_tree 52 c.args.question.now [] c.in_ok-root.root (rw (allowing_first c.args.question.now) grown);
+      pairs = omega (arith, counted);
+    }
+
+pub returns-clause-within : goal.returns-clause-within
+returns-clause-within c =
+    let places : c.in_ok-all.all.items ≡ layout_places (question_layouts c.args.question.now) =
+    c.in_ok-all.ensures.places ∙ ap (range_with_len 0) (omega (arith, c.len.ensures, c.in_ok-layouts.layouts.ok.0, ap length c.in_ok-layouts.ensures.layouts)) in
+    let counted = rw (c.deref.ensures.value, c.in_ok-layouts.ensures.layouts, places, c.start-start.ensures, all_pairs_counted c.args.question.now) at c.in_ok-root.ensures.counted in
+    omega (arith, counted, c.in_ok-root.ensures.within)

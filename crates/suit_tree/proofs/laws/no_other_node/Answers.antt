@@ -1,0 +1,5 @@
+use Rattle.suit_tree.proofs.CountedNodes.{no_other_node}
+use Rattle.suit_tree.proofs.laws.no_other_node.Goals as goal
+
+pub returns : goal.returns
+returns c = no_other_node

@@ -1,0 +1,7 @@
+pub mod CountedHistories
+pub mod Growing
+pub mod Nodes
+pub mod Paths
+pub mod TreeEnds
+pub mod TreeLaws
+pub mod Trees
