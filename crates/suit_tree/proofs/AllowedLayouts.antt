@@ -2,21 +2,16 @@
 use Rattle.std.proofs.Common.{◌≡◌, ℕ, ◌<◌, ◌≤◌, Bool, true, cond, List, [], ◌∷◌, ◌++◌, length, map, take, drop, refl, sym, ap, ◌∙◌, subst, inl, inr, arith}
 use Rattle.std.specs.Prelude.{◌↔◌, ◌==◌, Contains}
 use Rattle.std.specs.List.{AllByRecursion, count_by, flat_map}
-use Rattle.std.proofs.lemmas.Bool.{and_from, and_parts, eq-eqb, eqb-true, false≢true, or_cases, or_left, or_right}
+use Rattle.std.proofs.lemmas.Bool.{and_from, and_parts, false≢true, or_cases}
 use Rattle.std.proofs.lemmas.List.{append-nil, append_assoc}
 use Rattle.std.proofs.lemmas.List.Sums.{length-filter}
-use Rattle.suit_cards.specs.declared.seats.Seat.{Seat}
-use Rattle.suit_cards.specs.declared.seats.Seat.TheVariants.{N, E, S, W}
 use Rattle.suit_cards.specs.Holdings.{FallsBelow, IsHolding, holds}
 use Rattle.suit_cards.proofs.SuitRuns.{holds-filter_suit}
 use Rattle.suit_game.specs.declared.question.Question.{Question}
-use Rattle.suit_game.specs.Strategies.{same_seat}
 use Rattle.suit_game.specs.Validity.{IsValid}
-use Rattle.suit_game.proofs.EachElement.{Contains-cons_cases, Contains-first, Contains-later, Contains-map_from, Contains-nil, each_gives, map_same}
+use Rattle.suit_game.proofs.EachElement.{Contains-first, Contains-later, Contains-map_from, each_gives, map_same}
 use Rattle.suit_game.proofs.LayoutCards.{layouts_are_deals}
-use Rattle.suit_game.proofs.TrickStates.{same_seat_is}
 use Rattle.suit_classes.specs.declared.class_moves.ClassMove.{ClassMove}
-use Rattle.suit_classes.specs.declared.class_moves.ClassMove.TheVariants.{Lead, Follow, ShowOut}
 use Rattle.suit_classes.specs.Classes.{Hands, hands_of, class_of, class_ranks, defence_classes, defence_sizes}
 use Rattle.suit_classes.specs.ClassGame.{Allows, cards_in, counts_of}
 use Rattle.suit_classes.specs.ClassMoves.{same_class_move}
@@ -31,32 +26,8 @@ use Rattle.suit_layouts.specs.ClassLayouts.{class_weight}
 use Rattle.suit_layouts.proofs.HeldCounts.{class_layouts_held}
 use Rattle.suit_layouts.proofs.JoinedChoices.{sum_by_alike}
 use Rattle.suit_layouts.proofs.ListedCounts.{class_layouts_exact}
+use Rattle.suit_tree.proofs.MoveLists.{among_contained, same_move_is}
 use Rattle.suit_tree.specs.CountedHistories.{allows, allows_from, is_among, question_layouts}
-
--- class moves that are told to be the same are
-pub same_move_is : (move other : ClassMove) → same_class_move move other ≡ true → move ≡ other
-same_move_is (Lead seat class) (Lead other number) same =
-    let parts = and_parts (same_seat seat other) (class == number) same in
-    ap (λ (s : Seat). Lead s class) (same_seat_is seat other parts.0) ∙ ap (Lead other) (eqb-true class number parts.1)
-same_move_is (Follow class) (Follow number) same = ap Follow (eqb-true class number same)
-same_move_is ShowOut ShowOut same = refl
-same_move_is (Lead seat class) (Follow number) same = absurd (false≢true same)
-same_move_is (Lead seat class) ShowOut same = absurd (false≢true same)
-same_move_is (Follow class) (Lead other number) same = absurd (false≢true same)
-same_move_is (Follow class) ShowOut same = absurd (false≢true same)
-same_move_is ShowOut (Lead other number) same = absurd (false≢true same)
-same_move_is ShowOut (Follow number) same = absurd (false≢true same)
-
-same_seat-itself : (seat : Seat) → same_seat seat seat ≡ true
-same_seat-itself N = refl
-same_seat-itself E = refl
-same_seat-itself S = refl
-same_seat-itself W = refl
-
-pub same_move-itself : (move : ClassMove) → same_class_move move move ≡ true
-same_move-itself (Lead seat class) = and_from (same_seat seat seat) (class == class) (same_seat-itself seat) (eq-eqb class class refl)
-same_move-itself (Follow class) = eq-eqb class class refl
-same_move-itself ShowOut = refl
 
 -- a move is told to be among some where it is one of them
 pub among-Contains : (moves : List ClassMove) (move : ClassMove) → is_among moves move ≡ true → Contains moves move
@@ -65,14 +36,6 @@ among-Contains [] move among = absurd (false≢true among)
 among-Contains (first ∷ moves) move among = elim (or_cases (same_class_move move first) (is_among moves move) among) [
   | inl here ↦ subst (λ (m : ClassMove). Contains (first ∷ moves) m) (sym (same_move_is move first here)) (Contains-first first moves)
   | inr there ↦ Contains-later first moves move (among-Contains moves move there)
-]
-
-pub Contains-among : (moves : List ClassMove) (move : ClassMove) → Contains moves move → is_among moves move ≡ true
-unfolding is_among
-Contains-among [] move found = absurd (Contains-nil move found)
-Contains-among (first ∷ moves) move found = elim (Contains-cons_cases first moves move found) [
-  | inl here ↦ or_left (same_class_move move first) (is_among moves move) (ap (same_class_move move) here ∙ same_move-itself move)
-  | inr there ↦ or_right (same_class_move move first) (is_among moves move) (Contains-among moves move there)
 ]
 
 -- what allows a history allows each beginning of it
@@ -102,7 +65,7 @@ allows_from_after question counts before (move ∷ later) allowed =
           let more = allows_before question counts (before ++ move ∷ []) later whole in
           let here = ((allowed_moves question counts before move).0 more).1 in
           and_from (is_among (class_moves view counts) move) (allows_from counts (class_step view move) later)
-          (Contains-among (class_moves view counts) move here)
+          (among_contained (class_moves view counts) move here)
           (subst (λ (v : ClassView). allows_from counts v later ≡ true) after ((next more).1 whole)),
     )
 

@@ -10,7 +10,7 @@ use Rattle.std.proofs.lemmas.List.Sums.{sum_by-append, sum_by-cons}
 use Rattle.suit_game.specs.declared.question.Question.{Question}
 use Rattle.suit_classes.specs.declared.class_moves.ClassMove.{ClassMove}
 use Rattle.suit_classes.specs.ClassPlaces.{ClassView, class_after, class_decided, class_step}
-use Rattle.suit_tree.proofs.PairCounts.{after_more}
+use Rattle.suit_classes.proofs.SmallCounts.{class_after_move}
 use Rattle.suit_tree.specs.declared.node.Node.{Node}
 use Rattle.suit_tree.specs.Growing.{HasRoom, IsGrown, StandsFor, keeping, moves_from, pairs_from}
 use Rattle.suit_tree.specs.Nodes.{children_of, move_to}
@@ -154,7 +154,7 @@ pub step_next : (more : ℕ) (view next : ClassView) (move : ClassMove) → HasR
     → ((question : Question) (history : List ClassMove) → length history ≤ 52 → view ≡ class_after question history → next ≡ class_after question (history ++ move ∷ []))
     → next ≡ class_step view move
 step_next more view next move room step =
-    step room.question room.history (omega (arith, room.short)) room.after ∙ after_more room.question room.history move ∙ ap (λ (v : ClassView). class_step v move) (sym room.after)
+    step room.question room.history (omega (arith, room.short)) room.after ∙ class_after_move room.question room.history move ∙ ap (λ (v : ClassView). class_step v move) (sym room.after)
 
 pub is_some : (n k : ℕ) → n ≡ k → false ≡ (n == 0) → nat_lt 0 k ≡ true
 is_some n k same h = grind (arith, nat_tests)

@@ -14,7 +14,8 @@ use Rattle.suit_classes.proofs.DecidedPlays.{class_histories_are_short}
 use Rattle.suit_classes.proofs.SmallCounts.{class_after_move}
 use Rattle.suit_tree.specs.CountedHistories.{allows, allows_from, continued, counted_histories, is_among, question_layouts}
 use Rattle.suit_tree.specs.Paths.{IsCounted}
-use Rattle.suit_tree.proofs.AllowedLayouts.{Contains-among, allows_tells, among-Contains}
+use Rattle.suit_tree.proofs.AllowedLayouts.{allows_tells, among-Contains}
+use Rattle.suit_tree.proofs.MoveLists.{among_contained}
 use Rattle.suit_tree.proofs.DistinctElements.{IsOnce, each_flat_map, once_class_moves, once_flat_map, once_pairs, once_unless}
 
 -- no position that moves go past is decided
@@ -62,7 +63,7 @@ continues_more more question counts before move history found undecided goes =
       parts = goes.parts ∙ append_assoc before (move ∷ []) goes.moves;
       few = omega (arith, goes.few);
       allowed = and_from (is_among (class_moves view counts) move) (allows_from counts (class_step view move) goes.moves)
-          (Contains-among (class_moves view counts) move found) (subst (λ (v : ClassView). allows_from counts v goes.moves ≡ true) after goes.allowed);
+          (among_contained (class_moves view counts) move found) (subst (λ (v : ClassView). allows_from counts v goes.moves ≡ true) after goes.allowed);
       undecided = (undecided, subst (λ (v : ClassView). GoesOn v goes.moves) after goes.undecided);
     }
 

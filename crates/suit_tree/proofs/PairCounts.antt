@@ -4,11 +4,12 @@ use Rattle.std.specs.Prelude.{filter, get_or, if◌then◌else◌}
 use Rattle.std.specs.List.{flat_map, range_with_len, sum_by}
 use Rattle.std.proofs.lemmas.Bool.{lt-ltb}
 use Rattle.std.proofs.lemmas.List.Concat.{length-flat_map}
-use Rattle.std.proofs.lemmas.List.Sums.{fold-append, sum_by-cons}
+use Rattle.std.proofs.lemmas.List.Sums.{sum_by-cons}
 use Rattle.suit_game.specs.declared.question.Question.{Question}
 use Rattle.suit_game.proofs.ChoiceSums.{sum_by_filter, sum_by_none, sum_by_same}
 use Rattle.suit_classes.specs.declared.class_moves.ClassMove.{ClassMove}
 use Rattle.suit_classes.specs.ClassPlaces.{ClassView, class_after, class_decided, class_moves, class_start, class_step}
+use Rattle.suit_classes.proofs.SmallCounts.{class_after_move}
 use Rattle.suit_tree.specs.CountedHistories.{continued, counted_histories, is_among, node_count, question_layouts}
 use Rattle.suit_tree.specs.Growing.{keeping, moves_from, pairs_from}
 use Rattle.suit_tree.specs.Trees.{counts_at, every_move, layout_places}
@@ -60,10 +61,6 @@ sum_by_places {X} f (x ∷ xs) d =
         let next : a + 1 ≡ suc a = omega arith in
         let later : ℕ → ℕ = λ k. g (suc k) in
         omega (arith, sum_by-cons g (a + 1) (range_with_len (a + 1 + 1) n), sum_by-cons later a (range_with_len (a + 1) n), ap g next, shifted g (a + 1) n)
-
--- the position after one move more
-pub after_more : (question : Question) (history : List ClassMove) (move : ClassMove) → class_after question (history ++ move ∷ []) ≡ class_step (class_after question history) move
-after_more question history move = fold-append class_step (class_start question) history (move ∷ [])
 
 -- how many histories go on from a history with a move more
 abbrev goes_on : ℕ → Question → List (List ℕ × ℕ) → List ClassMove → ℕ → ClassMove → ℕ
@@ -127,7 +124,7 @@ pairs_counted (suc more) question history layouts places =
     let below : ℕ → ℕ = λ place. length (if class_decided view then [] else flat_map (λ move. continued more question (counts_at layouts place) (history ++ move ∷ [])) (class_moves view (counts_at layouts place))) in
     let after : (move : ClassMove) → pairs_from more layouts (class_step view move) (keep move) ≡ sum_by (λ place. goes_on more question layouts history place move) (keep move) =
     λ move.
-    ap (λ (v : ClassView). pairs_from more layouts v (keep move)) (sym (after_more question history move))
+    ap (λ (v : ClassView). pairs_from more layouts v (keep move)) (sym (class_after_move question history move))
     ∙ pairs_counted more question (history ++ move ∷ []) layouts (keep move) in
     ap (λ (n : ℕ). length places + n) (below_counted more question history layouts places after (class_decided view))
     ∙ sym (sum_by_one_more whole below places (λ place. refl))

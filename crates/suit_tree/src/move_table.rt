@@ -46,8 +46,8 @@ fn counts_at(layouts: &[(ClassLayout, u64)], place: u8) -> &[u8]
     layouts[place as usize].0.counts()
 }
 
-#[tactic(auto, unfolding(crate::specs::Growing::move_lists))]
 /// The moves at a position of each of some class layouts.
+#[tactic(auto, unfolding(crate::specs::Growing::move_lists))]
 pub(crate) fn moves_of(
     alloc: Global,
     layouts: &[(ClassLayout, u64)],
