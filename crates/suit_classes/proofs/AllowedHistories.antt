@@ -1,23 +1,19 @@
 -- Which class histories a class layout allows, move by move.
 use Rattle.std.proofs.Common.{◌≡◌, ℕ, zero, suc, ◌+◌, ◌-◌, ◌≤◌, Bool, true, false, cond, not, List, [], ◌∷◌, ◌++◌, refl, sym, ap, ◌∙◌, subst, inl, inr, arith, add-zero}
-use Rattle.std.specs.Prelude.{fold, map, filter, Contains, ◌↔◌, ◌==◌, if◌then◌else◌}
+use Rattle.std.specs.Prelude.{fold, map, filter, Contains, ◌↔◌, if◌then◌else◌}
 use Rattle.std.specs.List.{AllByRecursion}
-use Rattle.std.proofs.lemmas.Bool.{and_parts, cases_lt, eqb-true, false≢true}
+use Rattle.std.proofs.lemmas.Bool.{cases_lt, false≢true}
 use Rattle.std.proofs.lemmas.List.{map-append}
-use Rattle.suit_cards.specs.declared.seats.Seat.{Seat}
-use Rattle.suit_cards.specs.declared.seats.Seat.TheVariants.{N, E, S, W}
 use Rattle.suit_cards.specs.Ranks.{IsRank}
 use Rattle.suit_game.specs.declared.question.Question.{Question}
 use Rattle.suit_game.specs.declared.moves.Move.{Move}
 use Rattle.suit_game.specs.Layouts.{layouts}
 use Rattle.suit_game.specs.Places.{Place, LegalFrom, IsLegal, legal, legal_at, start_place, step}
 use Rattle.suit_game.specs.PlaceViews.{IsPlay}
-use Rattle.suit_game.specs.Strategies.{same_seat}
 use Rattle.suit_game.specs.Validity.{IsValid}
 use Rattle.suit_game.proofs.EachElement.{Contains-cons_cases, Contains-first, Contains-later, Contains-map_from, Contains-nil, each_at, each_filter, each_gives}
 use Rattle.suit_game.proofs.SeenPlaces.{play_more, play_none}
 use Rattle.suit_classes.specs.declared.class_moves.ClassMove.{ClassMove}
-use Rattle.suit_classes.specs.declared.class_moves.ClassMove.TheVariants.{Lead, Follow, ShowOut}
 use Rattle.suit_classes.specs.Classes.{Hands, hands_of, class_below, class_of, holder, same_owner}
 use Rattle.suit_classes.specs.ClassGame.{Allows, counts_of, each_once, merged_moves}
 use Rattle.suit_classes.specs.ClassMoves.{merge, merged, same_class_move}
@@ -26,6 +22,7 @@ use Rattle.suit_classes.proofs.AgreedPlaces.{class_game_agrees}
 use Rattle.suit_classes.proofs.ClassNumbers.{same_owner-itself}
 use Rattle.suit_classes.proofs.DealtClasses.{class_held_by_one}
 use Rattle.suit_classes.proofs.RankBlocks.{class_of-rises}
+use Rattle.suit_classes.proofs.SameMoves.{same_move_is}
 
 once_within : (moves : List ClassMove) → AllByRecursion (Contains moves) (each_once moves)
 unfolding each_once
@@ -39,37 +36,6 @@ once_within (move ∷ moves) = (
 -- a move of a list without repeats is one of the list
 pub Contains-each_once : (moves : List ClassMove) (move : ClassMove) → Contains (each_once moves) move → Contains moves move
 Contains-each_once moves move found = each_at (Contains moves) (each_once moves) move (once_within moves) found
-
-same_seat_is : (seat other : Seat) → same_seat seat other ≡ true → seat ≡ other
-same_seat_is N N same = refl
-same_seat_is E E same = refl
-same_seat_is S S same = refl
-same_seat_is W W same = refl
-same_seat_is N E same = absurd (false≢true same)
-same_seat_is N S same = absurd (false≢true same)
-same_seat_is N W same = absurd (false≢true same)
-same_seat_is E N same = absurd (false≢true same)
-same_seat_is E S same = absurd (false≢true same)
-same_seat_is E W same = absurd (false≢true same)
-same_seat_is S N same = absurd (false≢true same)
-same_seat_is S E same = absurd (false≢true same)
-same_seat_is S W same = absurd (false≢true same)
-same_seat_is W N same = absurd (false≢true same)
-same_seat_is W E same = absurd (false≢true same)
-same_seat_is W S same = absurd (false≢true same)
-
-same_move_is : (move other : ClassMove) → same_class_move move other ≡ true → move ≡ other
-same_move_is (Lead seat class) (Lead other number) same =
-    let parts = and_parts (same_seat seat other) (class == number) same in
-    ap (λ (s : Seat). Lead s class) (same_seat_is seat other parts.0) ∙ ap (Lead other) (eqb-true class number parts.1)
-same_move_is (Follow class) (Follow number) same = ap Follow (eqb-true class number same)
-same_move_is ShowOut ShowOut same = refl
-same_move_is (Lead seat class) (Follow number) same = absurd (false≢true same)
-same_move_is (Lead seat class) ShowOut same = absurd (false≢true same)
-same_move_is (Follow class) (Lead other number) same = absurd (false≢true same)
-same_move_is (Follow class) ShowOut same = absurd (false≢true same)
-same_move_is ShowOut (Lead other number) same = absurd (false≢true same)
-same_move_is ShowOut (Follow number) same = absurd (false≢true same)
 
 kept_first : (b : Bool) (x : ClassMove) (xs : List ClassMove) → b ≡ true → Contains (cond b (x ∷ xs) xs) x
 kept_first true x xs passes = Contains-first x xs

@@ -11,3 +11,8 @@ pub mod MovesOnce
 pub mod AgreedPlaces
 pub mod DecidedPlays
 pub mod AllowedHistories
+pub mod SameMoves
+pub mod ToldHistories
+pub mod DistinctMoves
+pub mod DerivedOrders
+pub mod AllowedLayouts

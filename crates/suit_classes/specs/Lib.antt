@@ -1,3 +1,4 @@
+pub mod AllowedHistories
 pub mod Agreement
 pub mod ClassGame
 pub mod ClassMoves

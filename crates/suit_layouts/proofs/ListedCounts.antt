@@ -15,7 +15,7 @@ use Rattle.suit_layouts.proofs.ClassWeights.{class_weight_counted}
 use Rattle.suit_layouts.proofs.GroupedSums.{sum-cons}
 
 -- what a function makes of an element is among what it makes of the list
-Contains-map : {X Y : Type 0} (f : X → Y) (xs : List X) (x : X) → Contains xs x → Contains (map f xs) (f x)
+pub Contains-map : {X Y : Type 0} (f : X → Y) (xs : List X) (x : X) → Contains xs x → Contains (map f xs) (f x)
 Contains-map f [] x found = absurd (Contains-nil x found)
 Contains-map {Y = Y} f (y ∷ ys) x found = elim (Contains-cons_cases y ys x found) [
   | inl here ↦ subst (λ (z : Y). Contains (map f (y ∷ ys)) z) (ap f here) (Contains-first (f y) (map f ys))

@@ -4,8 +4,7 @@ use Rattle.std.specs.List.{flat_map}
 use Rattle.suit_game.specs.declared.question.Question.{Question}
 use Rattle.suit_game.specs.Layouts.{total}
 use Rattle.suit_game.specs.Validity.{IsValid}
-use Rattle.suit_classes.specs.Classes.{hands_of, defence_sizes}
-use Rattle.suit_layouts.specs.ClassLayouts.{class_layouts}
+use Rattle.suit_classes.specs.AllowedHistories.{question_layouts}
 use Rattle.suit_question.specs.Reading.{question_read}
 
 -- a count behind a space
@@ -20,10 +19,6 @@ layout_line layout = codes "west" ++ flat_map count_text layout.0 ++ codes " : "
 unfoldable pub weights_text : List (List ℕ × ℕ) → ℕ → List ℕ
 weights_text layouts all =
     codes "weights " ++ decimal (length layouts) ++ codes "\n" ++ flat_map layout_line layouts ++ codes "total " ++ decimal all ++ codes "\nend\n"
-
--- the class layouts of positive weight of a question, over its defence classes
-abbrev pub question_layouts : Question → List (List ℕ × ℕ)
-question_layouts question = class_layouts question (defence_sizes (hands_of question))
 
 -- the weights of a question
 abbrev pub weighing : Question → List ℕ

@@ -3,7 +3,8 @@ ghost use Rattle.std.specs.Prelude.{◌≡◌, ◌++◌, IfOk, OnOk, sum_by, cod
 ghost use Rattle.std.specs.List.{flat_map};
 ghost use Rattle.suit_game.specs.Layouts.{total};
 ghost use Rattle.suit_game.specs.Validity.{IsValid};
-ghost use Rattle.suit_top.specs.Weighing.{count_text, layout_line, question_layouts, weighing, weights_text};
+ghost use Rattle.suit_classes.specs.AllowedHistories.{question_layouts};
+ghost use Rattle.suit_top.specs.Weighing.{count_text, layout_line, weighing, weights_text};
 
 use itoa::Buffer;
 use std::alloc::{AllocError, Global};
@@ -12,6 +13,7 @@ use suit_game::{Question, total};
 use suit_layouts::{ClassLayout, class_layouts};
 
 /// The class layouts of positive weight in order, each with its weight, and the total.
+#[tactic(auto, unfolding(suit_classes::specs::AllowedHistories::question_layouts))]
 pub fn weights_of(alloc: Global, question: &Question) -> Result<Vec<u8>, AllocError>
     requires { IsValid question.now }
     ensures text { IfOk result (λ text. text.items ≡ weighing question.now) }

@@ -18,12 +18,12 @@ use Rattle.suit_classes.proofs.DefenceSizes.{sum-defence_sizes}
 use Rattle.suit_layouts.proofs.ClassWeights.{class_weights_add_up}
 use Rattle.suit_layouts.proofs.ListedCounts.{Contains-filter}
 use Rattle.suit_tree.specs.declared.node.Node.{Node}
-use Rattle.suit_tree.specs.CountedHistories.{allows, question_layouts}
+use Rattle.suit_classes.specs.AllowedHistories.{allows, question_layouts}
 use Rattle.suit_tree.specs.Nodes.{children_of, move_to}
 use Rattle.suit_tree.specs.Paths.{IsCounted, is_by, nodes_at, nodes_by}
 use Rattle.suit_tree.specs.Trees.{AllFit, IsTreeAt, StandsAt, allowing, counts_at, layout_places, moves_on}
 use Rattle.suit_tree.specs.TreeLaws.{listed_counts}
-use Rattle.suit_tree.proofs.AllowedLayouts.{allows_tells, layouts_allow}
+use Rattle.suit_classes.proofs.AllowedLayouts.{allows_tells, layouts_allow}
 use Rattle.suit_tree.proofs.ListedHistories.{GoesOn, goes_on, goes_past}
 use Rattle.suit_tree.proofs.NodePaths.{IsOpen, no_node, one_node, tree_stands}
 

@@ -17,7 +17,8 @@ use Rattle.suit_tree.specs.Nodes.{children_of, move_to}
 use Rattle.suit_tree.specs.declared.tree_end.TreeEnd.{TreeEnd}
 use Rattle.suit_tree.specs.declared.tree_end.TreeEnd.TheVariants.{Nodes, Memory}
 use Rattle.suit_tree.specs.TreeEnds.{IsPastBudget}
-use Rattle.suit_tree.specs.Trees.{AllFit, every_move}
+use Rattle.suit_classes.specs.AllowedHistories.{every_move}
+use Rattle.suit_tree.specs.Trees.{AllFit}
 
 -- a child stands below a node by a move
 abbrev pub Below : ℕ → List (List ℕ × ℕ) → ClassView → List ℕ → ClassMove → Node → Type 0

@@ -1,39 +1,17 @@
 -- A tree grown on from a class history is the tree of all histories that count and go on from it.
 use Rattle.std.proofs.Common.{◌≡◌, ℕ, zero, suc, Bool, true, false, cond, ◌&&◌, List, [], ◌∷◌, ◌++◌, length, refl, sym, ap, ◌∙◌, subst}
-use Rattle.std.specs.Prelude.{filter, fold, nat_lt, Some, if◌then◌else◌}
+use Rattle.std.specs.Prelude.{filter, nat_lt, Some, if◌then◌else◌}
 use Rattle.std.proofs.lemmas.List.Elements.{filter_agree}
 use Rattle.suit_game.specs.declared.question.Question.{Question}
 use Rattle.suit_classes.specs.declared.class_moves.ClassMove.{ClassMove}
-use Rattle.suit_classes.specs.ClassPlaces.{ClassView, class_after, class_decided, class_moves, class_start, class_step}
+use Rattle.suit_classes.specs.ClassPlaces.{ClassView, class_after, class_decided, class_moves, class_step}
 use Rattle.suit_classes.proofs.SmallCounts.{class_after_move}
+use Rattle.suit_classes.proofs.ToldHistories.{allows-push}
 use Rattle.suit_tree.specs.declared.node.Node.{Node}
-use Rattle.suit_tree.specs.CountedHistories.{allows, allows_from, is_among, question_layouts}
+use Rattle.suit_classes.specs.AllowedHistories.{allows, allows_from, is_among, every_move, question_layouts}
 use Rattle.suit_tree.specs.Growing.{IsGrown, StandsFor, keeping, moves_from}
 use Rattle.suit_tree.specs.Nodes.{children_of, move_to}
-use Rattle.suit_tree.specs.Trees.{AllFit, IsTreeAt, StandsAt, allowing, counts_at, every_move, layout_places, moves_on}
-
-and-last : (b : Bool) → (b && true) ≡ b
-and-last true = refl
-and-last false = refl
-
-and-assoc : (a b c : Bool) → (a && (b && c)) ≡ ((a && b) && c)
-and-assoc true b c = refl
-and-assoc false b c = refl
-
--- counts allow one move more where it is among the moves after the others
-pub allows_from-push : (counts : List ℕ) (view : ClassView) (history : List ClassMove) (move : ClassMove)
-    → allows_from counts view (history ++ move ∷ []) ≡ (allows_from counts view history && is_among (class_moves (fold class_step view history) counts) move)
-unfolding allows_from
-allows_from-push counts view [] move = and-last (is_among (class_moves view counts) move)
-allows_from-push counts view (first ∷ rest) move =
-    let next = class_step view first in
-    ap (λ (b : Bool). is_among (class_moves view counts) first && b) (allows_from-push counts next rest move)
-    ∙ and-assoc (is_among (class_moves view counts) first) (allows_from counts next rest) (is_among (class_moves (fold class_step next rest) counts) move)
-
-pub allows-push : (question : Question) (counts : List ℕ) (history : List ClassMove) (move : ClassMove)
-    → allows question counts (history ++ move ∷ []) ≡ (allows question counts history && is_among (class_moves (class_after question history) counts) move)
-unfolding allows
-allows-push question counts history move = allows_from-push counts (class_start question) history move
+use Rattle.suit_tree.specs.Trees.{AllFit, IsTreeAt, StandsAt, allowing, counts_at, layout_places, moves_on}
 
 filtered_either : (p q : ℕ → Bool) (x : ℕ) (xs : List ℕ) (b : Bool)
     → filter p (cond b (x ∷ filter q xs) (filter q xs)) ≡ cond (b && p x) (x ∷ filter p (filter q xs)) (filter p (filter q xs))

@@ -7,7 +7,7 @@ use Rattle.std.proofs.lemmas.List.Elements.{All-filter}
 use Rattle.std.proofs.Math.ListN.{drop_of_length-le}
 use Rattle.suit_classes.specs.declared.class_moves.ClassMove.{ClassMove}
 use Rattle.suit_classes.specs.ClassPlaces.{ClassView, class_moves}
-use Rattle.suit_tree.specs.CountedHistories.{is_among}
+use Rattle.suit_classes.specs.AllowedHistories.{is_among}
 use Rattle.suit_tree.specs.Growing.{keeping, kept_of, move_lists}
 use Rattle.suit_tree.specs.Trees.{counts_at}
 

@@ -1,6 +1,4 @@
-pub mod AllowedLayouts
 pub mod CountedNodes
-pub mod DistinctElements
 pub mod GrowingSteps
 pub mod GrownTrees
 pub mod KeptPlaces

@@ -12,11 +12,12 @@ use Rattle.suit_classes.specs.declared.class_moves.ClassMove.{ClassMove}
 use Rattle.suit_classes.specs.ClassPlaces.{ClassView, class_after, class_decided, class_moves, class_start, class_step}
 use Rattle.suit_classes.proofs.DecidedPlays.{class_histories_are_short}
 use Rattle.suit_classes.proofs.SmallCounts.{class_after_move}
-use Rattle.suit_tree.specs.CountedHistories.{allows, allows_from, continued, counted_histories, is_among, question_layouts}
+use Rattle.suit_classes.specs.AllowedHistories.{allows, allows_from, is_among, question_layouts}
+use Rattle.suit_tree.specs.CountedHistories.{continued, counted_histories}
 use Rattle.suit_tree.specs.Paths.{IsCounted}
-use Rattle.suit_tree.proofs.AllowedLayouts.{allows_tells, among-Contains}
-use Rattle.suit_tree.proofs.MoveLists.{among_contained}
-use Rattle.suit_tree.proofs.DistinctElements.{IsOnce, each_flat_map, once_class_moves, once_flat_map, once_pairs, once_unless}
+use Rattle.suit_classes.proofs.SameMoves.{among-Contains, among_contained}
+use Rattle.suit_classes.proofs.AllowedLayouts.{allows_tells}
+use Rattle.suit_classes.proofs.DistinctMoves.{IsOnce, each_flat_map, once_class_moves, once_flat_map, once_pairs, once_unless}
 
 -- no position that moves go past is decided
 unfoldable pub GoesOn : ClassView → List ClassMove → Type 0

@@ -1,53 +1,19 @@
 -- The class moves at a position are those of all class moves that pass a test.
 use Rattle.std.proofs.Common.{◌≡◌, ℕ, Bool, true, false, cond, nat_lt, List, [], ◌∷◌, ◌++◌, refl, sym, ap, ◌∙◌, inl, inr}
-use Rattle.std.specs.Prelude.{◌&&◌, ◌||◌, ◌==◌, Contains, map, filter, slice_index, if◌then◌else◌}
+use Rattle.std.specs.Prelude.{◌&&◌, ◌||◌, Contains, map, filter, slice_index, if◌then◌else◌}
 use Rattle.std.specs.List.{AllByRecursion}
-use Rattle.std.proofs.lemmas.Bool.{and_parts, cases_Bool, eq-eqb, eqb-true, false≢true, or_left, or_right}
+use Rattle.std.proofs.lemmas.Bool.{cases_Bool, false≢true}
 use Rattle.std.proofs.lemmas.List.Elements.{filter-append}
 use Rattle.suit_cards.specs.declared.seats.Seat.{Seat}
 use Rattle.suit_cards.specs.declared.seats.Seat.TheVariants.{N, E, S, W}
-use Rattle.suit_game.specs.Strategies.{same_seat}
-use Rattle.suit_game.proofs.EachElement.{Contains-cons_cases, Contains-nil, each_in}
-use Rattle.suit_game.proofs.TrickStates.{same_seat_is}
+use Rattle.suit_game.proofs.EachElement.{each_in}
 use Rattle.suit_classes.specs.declared.class_moves.ClassMove.{ClassMove}
 use Rattle.suit_classes.specs.declared.class_moves.ClassMove.TheVariants.{Lead, Follow, ShowOut}
 use Rattle.suit_classes.specs.ClassMoves.{same_class_move}
 use Rattle.suit_classes.specs.ClassPlaces.{ClassTrick, Closed, Open, ClassView, class_moves, class_moves_in, class_numbers, classes_left, counted_classes, left, may_lead, or_show_out}
+use Rattle.suit_classes.proofs.SameMoves.{among_contained, same_move_is}
 use Rattle.suit_layouts.proofs.ListedCounts.{Contains-filter}
-use Rattle.suit_tree.specs.CountedHistories.{is_among}
-use Rattle.suit_tree.specs.Trees.{every_move}
-
--- a move is the same as itself
-pub same_move-itself : (move : ClassMove) → same_class_move move move ≡ true
-same_move-itself (Lead N class) = eq-eqb class class refl
-same_move-itself (Lead E class) = eq-eqb class class refl
-same_move-itself (Lead S class) = eq-eqb class class refl
-same_move-itself (Lead W class) = eq-eqb class class refl
-same_move-itself (Follow class) = eq-eqb class class refl
-same_move-itself ShowOut = refl
-
--- and only as itself
-pub same_move_is : (move other : ClassMove) → same_class_move move other ≡ true → move ≡ other
-same_move_is (Lead seat class) (Lead other number) same =
-    let parts = and_parts (same_seat seat other) (class == number) same in
-    ap (λ (s : Seat). Lead s class) (same_seat_is seat other parts.0) ∙ ap (Lead other) (eqb-true class number parts.1)
-same_move_is (Follow class) (Follow number) same = ap Follow (eqb-true class number same)
-same_move_is ShowOut ShowOut same = refl
-same_move_is (Lead seat class) (Follow number) same = absurd (false≢true same)
-same_move_is (Lead seat class) ShowOut same = absurd (false≢true same)
-same_move_is (Follow class) (Lead other number) same = absurd (false≢true same)
-same_move_is (Follow class) ShowOut same = absurd (false≢true same)
-same_move_is ShowOut (Lead other number) same = absurd (false≢true same)
-same_move_is ShowOut (Follow number) same = absurd (false≢true same)
-
--- what a list contains is among it
-pub among_contained : (moves : List ClassMove) (move : ClassMove) → Contains moves move → is_among moves move ≡ true
-unfolding is_among
-among_contained [] move found = absurd (Contains-nil move found)
-among_contained (first ∷ moves) move found = elim (Contains-cons_cases first moves move found) [
-  | inl here ↦ or_left (same_class_move move first) (is_among moves move) (ap (same_class_move move) here ∙ same_move-itself move)
-  | inr there ↦ or_right (same_class_move move first) (is_among moves move) (among_contained moves move there)
-]
+use Rattle.suit_classes.specs.AllowedHistories.{is_among, every_move}
 
 fails_first : (may : ClassMove → Bool) (first : ClassMove) (moves : List ClassMove) (move : ClassMove) → may move ≡ false → is_among (filter may moves) move ≡ false
     → (kept : Bool) → may first ≡ kept → is_among (cond kept (first ∷ filter may moves) (filter may moves)) move ≡ false

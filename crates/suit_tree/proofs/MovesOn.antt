@@ -12,11 +12,11 @@ use Rattle.suit_classes.specs.declared.class_moves.ClassMove.TheVariants.{Lead, 
 use Rattle.suit_classes.specs.ClassMoves.{class_named, kind_of}
 use Rattle.suit_classes.specs.ClassPlaces.{ClassTrick, ClassView, Closed, Open, class_after, class_decided, class_moves, class_moves_in, class_numbers, class_start, class_step, classes_left, counted_classes, left, may_lead, or_show_out}
 use Rattle.suit_layouts.proofs.ListedCounts.{Contains-filter}
-use Rattle.suit_tree.specs.CountedHistories.{allows, allows_from, is_among, question_layouts}
-use Rattle.suit_tree.specs.Trees.{allowing, counts_at, every_move, layout_places, moves_on}
-use Rattle.suit_tree.proofs.AllowedLayouts.{among-Contains}
-use Rattle.suit_tree.proofs.DistinctElements.{IsOnce, each_if, once_append, once_filter, once_map, once_range, once_unless}
-use Rattle.suit_tree.proofs.GrownTrees.{allows-push}
+use Rattle.suit_classes.specs.AllowedHistories.{allows, allows_from, is_among, every_move, question_layouts}
+use Rattle.suit_tree.specs.Trees.{allowing, counts_at, layout_places, moves_on}
+use Rattle.suit_classes.proofs.SameMoves.{among-Contains}
+use Rattle.suit_classes.proofs.DistinctMoves.{IsOnce, each_if, once_append, once_filter, once_map, once_range, once_unless}
+use Rattle.suit_classes.proofs.ToldHistories.{allows-push}
 
 Contains-map : (f : ℕ → ClassMove) (xs : List ℕ) (x : ℕ) → Contains xs x → Contains (map f xs) (f x)
 Contains-map f [] x found = absurd (Contains-nil x found)

@@ -10,9 +10,10 @@ use Rattle.suit_game.proofs.ChoiceSums.{sum_by_filter, sum_by_none, sum_by_same}
 use Rattle.suit_classes.specs.declared.class_moves.ClassMove.{ClassMove}
 use Rattle.suit_classes.specs.ClassPlaces.{ClassView, class_after, class_decided, class_moves, class_start, class_step}
 use Rattle.suit_classes.proofs.SmallCounts.{class_after_move}
-use Rattle.suit_tree.specs.CountedHistories.{continued, counted_histories, is_among, node_count, question_layouts}
+use Rattle.suit_classes.specs.AllowedHistories.{is_among, every_move, question_layouts}
+use Rattle.suit_tree.specs.CountedHistories.{continued, counted_histories, node_count}
 use Rattle.suit_tree.specs.Growing.{keeping, moves_from, pairs_from}
-use Rattle.suit_tree.specs.Trees.{counts_at, every_move, layout_places}
+use Rattle.suit_tree.specs.Trees.{counts_at, layout_places}
 use Rattle.suit_tree.proofs.MoveLists.{class_moves_listed}
 
 -- a finite double sum in either order

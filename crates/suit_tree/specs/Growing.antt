@@ -4,9 +4,9 @@ use Rattle.suit_game.specs.declared.question.Question.{Question}
 use Rattle.suit_classes.specs.declared.class_moves.ClassMove.{ClassMove}
 use Rattle.suit_classes.specs.ClassPlaces.{ClassView, class_after, class_decided, class_moves, class_payoff, class_step, class_turn}
 use Rattle.suit_tree.specs.declared.node.Node.{Node}
-use Rattle.suit_tree.specs.CountedHistories.{is_among}
+use Rattle.suit_classes.specs.AllowedHistories.{is_among, every_move}
 use Rattle.suit_tree.specs.Nodes.{move_to, turn_at, layouts_at, payoff_at, children_of}
-use Rattle.suit_tree.specs.Trees.{AllFit, counts_at, every_move}
+use Rattle.suit_tree.specs.Trees.{AllFit, counts_at}
 
 -- the position after a list of class moves that, with so many more, has at most 52
 pub record HasRoom (more : ℕ) (view : ClassView) : Type 0 where

@@ -5,7 +5,8 @@ use Rattle.suit_game.specs.Validity.{IsValid}
 use Rattle.suit_classes.specs.declared.class_moves.ClassMove.{ClassMove}
 use Rattle.suit_classes.specs.ClassGame.{Allows}
 use Rattle.suit_tree.specs.declared.node.Node.{Node}
-use Rattle.suit_tree.specs.CountedHistories.{allows, counted_histories, question_layouts}
+use Rattle.suit_classes.specs.AllowedHistories.{allows, question_layouts}
+use Rattle.suit_tree.specs.CountedHistories.{counted_histories}
 use Rattle.suit_tree.specs.Paths.{IsCounted, nodes_at}
 use Rattle.suit_tree.specs.Trees.{IsTreeAt, StandsAt, allowing, counts_at}
 

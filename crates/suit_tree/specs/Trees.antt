@@ -1,19 +1,14 @@
 -- The tree of all class histories of a question that are counted, with the class layouts of positive weight that allow each.
-use Rattle.std.specs.Prelude.{⊤, ◌≡◌, ℕ, zero, suc, List, [], ◌∷◌, ◌++◌, Some, None, length, map, filter, get_or, if◌then◌else◌, nat_lt}
+use Rattle.std.specs.Prelude.{⊤, ◌≡◌, ℕ, zero, suc, List, [], ◌∷◌, ◌++◌, Some, None, length, filter, get_or, if◌then◌else◌, nat_lt}
 use Rattle.std.specs.List.{range_with_len}
-use Rattle.suit_cards.specs.declared.seats.Seat.TheVariants.{N, S}
 use Rattle.suit_game.specs.declared.question.Question.{Question}
 use Rattle.suit_classes.specs.declared.class_moves.ClassMove.{ClassMove}
-use Rattle.suit_classes.specs.declared.class_moves.ClassMove.TheVariants.{Lead, Follow, ShowOut}
-use Rattle.suit_classes.specs.ClassPlaces.{class_numbers, class_after, class_decided, class_turn, class_payoff}
+use Rattle.suit_classes.specs.ClassPlaces.{class_after, class_decided, class_turn, class_payoff}
 use Rattle.suit_tree.specs.declared.node.Node.{Node}
 use Rattle.suit_tree.specs.declared.tree.Tree.{Tree}
-use Rattle.suit_tree.specs.CountedHistories.{question_layouts, allows, node_count}
+use Rattle.suit_classes.specs.AllowedHistories.{allows, every_move, question_layouts}
+use Rattle.suit_tree.specs.CountedHistories.{node_count}
 use Rattle.suit_tree.specs.Nodes.{move_to, turn_at, layouts_at, payoff_at, children_of}
-
--- all class moves, in their order
-unfoldable pub every_move : List ClassMove
-every_move = map (Lead N) class_numbers ++ map (Lead S) class_numbers ++ map Follow class_numbers ++ ShowOut ∷ []
 
 -- West's counts in the class layout at a place
 abbrev pub counts_at : List (List ℕ × ℕ) → ℕ → List ℕ

@@ -3,7 +3,8 @@ ghost use Rattle.std.specs.Prelude.{◌≡◌, ◌+◌, ◌<◌, ◌≤◌, ◌+
 ghost use Rattle.std.specs.List.{range_with_len};
 ghost use Rattle.suit_tree.specs.declared.tree_end.TreeEnd.TheVariants.{Nodes, Memory};
 ghost use Rattle.suit_game.specs.Validity.{IsValid};
-ghost use Rattle.suit_tree.specs.CountedHistories.{node_count, question_layouts};
+ghost use Rattle.suit_classes.specs.AllowedHistories.{question_layouts};
+ghost use Rattle.suit_tree.specs.CountedHistories.{node_count};
 ghost use Rattle.suit_tree.specs.Growing.{HasRoom, IsGrown, kept_of, move_lists, pairs_from};
 ghost use Rattle.suit_tree.specs.Nodes.{move_to};
 ghost use Rattle.suit_tree.specs.Trees.{IsTreeOf};
@@ -50,7 +51,7 @@ pub fn grow(alloc: Global, question: &Question) -> Result<Tree, TreeEnd>
 }
 
 // The class layouts of positive weight, each with its weight.
-#[tactic(auto, unfolding(crate::specs::CountedHistories::question_layouts))]
+#[tactic(auto, unfolding(suit_classes::specs::AllowedHistories::question_layouts))]
 fn layouts_of(alloc: Global, question: &Question) -> Result<Vec<(ClassLayout, u64)>, TreeEnd>
     requires { IsValid question.now }
     ensures layouts { IfOk result (λ layouts. layouts.items ≡ question_layouts question.now) }

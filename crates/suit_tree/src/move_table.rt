@@ -1,9 +1,9 @@
 //! Which moves are made at a position, and at which class layouts.
 ghost use Rattle.std.specs.Prelude.{◌≡◌, ◌<◌, ℕ, All, OnOk, IfOk, List, length, map};
 ghost use Rattle.suit_classes.specs.ClassPlaces.{class_moves};
-ghost use Rattle.suit_tree.specs.CountedHistories.{is_among};
+ghost use Rattle.suit_classes.specs.AllowedHistories.{is_among, every_move};
 ghost use Rattle.suit_tree.specs.Growing.{kept_of, move_lists};
-ghost use Rattle.suit_tree.specs.Trees.{counts_at, every_move};
+ghost use Rattle.suit_tree.specs.Trees.{counts_at};
 
 use arrayvec::ArrayVec;
 use std::alloc::{AllocError, Global};

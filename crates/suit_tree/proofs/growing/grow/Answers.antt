@@ -1,6 +1,7 @@
 use Rattle.std.proofs.Common.{rules, ◌≡◌, ◌∙◌, [], length, ap, arith}
 use Rattle.std.specs.List.{range_with_len}
-use Rattle.suit_tree.specs.CountedHistories.{node_count, question_layouts}
+use Rattle.suit_classes.specs.AllowedHistories.{question_layouts}
+use Rattle.suit_tree.specs.CountedHistories.{node_count}
 use Rattle.suit_tree.specs.TreeEnds.{IsPastBudget}
 use Rattle.suit_tree.specs.Trees.{layout_places}
 use Rattle.suit_tree.proofs.GrowingSteps.{all_below, past_more}

@@ -1,4 +1,4 @@
-use Rattle.suit_tree.proofs.AllowedLayouts.{allows_tells}
+use Rattle.suit_classes.proofs.AllowedLayouts.{allows_tells}
 use Rattle.suit_tree.proofs.laws.allows_is_allowed.Goals as goal
 
 pub returns : goal.returns

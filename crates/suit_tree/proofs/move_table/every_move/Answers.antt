@@ -6,7 +6,7 @@ use Rattle.std.proofs.lemmas.List.{append_assoc, length-append}
 use Rattle.suit_cards.specs.declared.seats.Seat.TheVariants.{N, S}
 use Rattle.suit_classes.specs.declared.class_moves.ClassMove.{ClassMove}
 use Rattle.suit_classes.specs.declared.class_moves.ClassMove.TheVariants.{Lead, Follow, ShowOut}
-use Rattle.suit_tree.specs.Trees.{every_move}
+use Rattle.suit_classes.specs.AllowedHistories.{every_move}
 use Rattle.suit_classes.specs.ClassPlaces.{class_numbers}
 use Rattle.suit_tree.proofs.move_table.every_move.Goals as goal
 

@@ -1,7 +1,7 @@
 use Rattle.std.proofs.Common.{◌≡◌, ◌∙◌, ◌++◌, List, [], sym, ap, length, map, get_or, drop, ◌+◌, arith}
 use Rattle.std.proofs.lemmas.List.{get_or-map, length-map}
 use Rattle.suit_classes.specs.declared.class_moves.ClassMove.{ClassMove}
-use Rattle.suit_tree.specs.CountedHistories.{is_among}
+use Rattle.suit_classes.specs.AllowedHistories.{is_among}
 use Rattle.suit_tree.specs.Growing.{kept_of}
 use Rattle.suit_tree.proofs.KeptPlaces.{kept_taken, kept_left, kept_none}
 use Rattle.suit_tree.proofs.move_table.keeping.Goals as goal

@@ -7,7 +7,7 @@ use Rattle.suit_classes.specs.ClassPlaces.{class_decided, class_payoff}
 use Rattle.suit_tree.specs.declared.node.Node.TheViews.{roll-Node, out-roll-Node}
 use Rattle.suit_tree.specs.Growing.{HasRoom, StandsFor, move_lists, pairs_from}
 use Rattle.suit_tree.specs.TreeEnds.{IsPastBudget}
-use Rattle.suit_tree.specs.Trees.{every_move}
+use Rattle.suit_classes.specs.AllowedHistories.{every_move}
 use Rattle.suit_tree.proofs.GrowingSteps.{none_grown, one_grown, none_kept, all_grown, all_counted, so_far_below, no_more, decided_grown, decided_counted, no_more_counted, at_least_places, past_more, past_told, room_next, step_next, is_some, is_none, take_whole}
 use Rattle.suit_tree.proofs.growing.Growth.+node.Goals as goal
 use Rattle.suit_tree.proofs.growing.Growth.+node.Goals.{then-not-is_empty+in_ok-child+in_ok-add, else-not-is_empty, then-more-gt0+then-not-decided+in_ok-lists+else-loop-mv-test, else-more-gt0, else-more-gt0-via-then-more-gt0+else-not-decided, else-more-gt0-via-else-more-gt0, then-decided, else-decided}

@@ -1,42 +1,31 @@
 -- What counts are told to allow is what they allow.
-use Rattle.std.proofs.Common.{◌≡◌, ℕ, ◌<◌, ◌≤◌, Bool, true, cond, List, [], ◌∷◌, ◌++◌, length, map, take, drop, refl, sym, ap, ◌∙◌, subst, inl, inr, arith}
+use Rattle.std.proofs.Common.{◌≡◌, ℕ, ◌<◌, ◌≤◌, Bool, true, cond, List, [], ◌∷◌, ◌++◌, length, map, take, drop, refl, sym, ap, ◌∙◌, subst, arith}
 use Rattle.std.specs.Prelude.{◌↔◌, ◌==◌, Contains}
 use Rattle.std.specs.List.{AllByRecursion, count_by, flat_map}
-use Rattle.std.proofs.lemmas.Bool.{and_from, and_parts, false≢true, or_cases}
+use Rattle.std.proofs.lemmas.Bool.{and_from, and_parts}
 use Rattle.std.proofs.lemmas.List.{append-nil, append_assoc}
 use Rattle.std.proofs.lemmas.List.Sums.{length-filter}
 use Rattle.suit_cards.specs.Holdings.{FallsBelow, IsHolding, holds}
 use Rattle.suit_cards.proofs.SuitRuns.{holds-filter_suit}
 use Rattle.suit_game.specs.declared.question.Question.{Question}
 use Rattle.suit_game.specs.Validity.{IsValid}
-use Rattle.suit_game.proofs.EachElement.{Contains-first, Contains-later, Contains-map_from, each_gives, map_same}
+use Rattle.suit_game.proofs.EachElement.{Contains-map_from, each_gives, map_same}
 use Rattle.suit_game.proofs.LayoutCards.{layouts_are_deals}
 use Rattle.suit_classes.specs.declared.class_moves.ClassMove.{ClassMove}
 use Rattle.suit_classes.specs.Classes.{Hands, hands_of, class_of, class_ranks, defence_classes, defence_sizes}
 use Rattle.suit_classes.specs.ClassGame.{Allows, cards_in, counts_of}
-use Rattle.suit_classes.specs.ClassMoves.{same_class_move}
 use Rattle.suit_classes.specs.ClassPlaces.{ClassView, class_after, class_moves, class_step}
 use Rattle.suit_classes.proofs.AllowedHistories.{allowed_moves, layouts_allow_none}
 use Rattle.suit_classes.proofs.DefenceSizes.{sum-defence_sizes}
 use Rattle.suit_classes.proofs.RankBlocks.{missing_in_blocks}
 use Rattle.suit_classes.proofs.SmallCounts.{class_after_move}
-use Rattle.suit_layouts.specs.Blocks.{blocks_of, counts_in}
-use Rattle.suit_layouts.specs.Blocks.{counts_of as block_counts}
+use Rattle.suit_layouts.specs.Blocks.{blocks_of, counts_in, counts_of as block_counts}
 use Rattle.suit_layouts.specs.ClassLayouts.{class_weight}
 use Rattle.suit_layouts.proofs.HeldCounts.{class_layouts_held}
 use Rattle.suit_layouts.proofs.JoinedChoices.{sum_by_alike}
 use Rattle.suit_layouts.proofs.ListedCounts.{class_layouts_exact}
-use Rattle.suit_tree.proofs.MoveLists.{among_contained, same_move_is}
-use Rattle.suit_tree.specs.CountedHistories.{allows, allows_from, is_among, question_layouts}
-
--- a move is told to be among some where it is one of them
-pub among-Contains : (moves : List ClassMove) (move : ClassMove) → is_among moves move ≡ true → Contains moves move
-unfolding is_among
-among-Contains [] move among = absurd (false≢true among)
-among-Contains (first ∷ moves) move among = elim (or_cases (same_class_move move first) (is_among moves move) among) [
-  | inl here ↦ subst (λ (m : ClassMove). Contains (first ∷ moves) m) (sym (same_move_is move first here)) (Contains-first first moves)
-  | inr there ↦ Contains-later first moves move (among-Contains moves move there)
-]
+use Rattle.suit_classes.proofs.SameMoves.{among-Contains, among_contained}
+use Rattle.suit_classes.specs.AllowedHistories.{allows, allows_from, is_among, question_layouts}
 
 -- what allows a history allows each beginning of it
 pub allows_before : (question : Question) (counts : List ℕ) (before later : List ClassMove) → Allows question counts (before ++ later) → Allows question counts before
