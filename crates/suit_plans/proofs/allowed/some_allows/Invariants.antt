@@ -1,0 +1,5 @@
+use Rattle.suit_plans.proofs.LayoutWalks.{StillToCome}
+use Rattle.suit_plans.proofs.allowed.some_allows.Given as goal
+
+abbrev pub invariant-loop-layout : goal.invariant-loop-layout
+invariant-loop-layout l = StillToCome l.question l.history l.layout-iterator

@@ -1,0 +1,5 @@
+use Rattle.suit_plans.proofs.AddedCounts.{IsLeft}
+use Rattle.suit_plans.proofs.row_faults.add_up.Given as goal
+
+abbrev pub invariant-loop-count : goal.invariant-loop-count
+invariant-loop-count l = IsLeft l.counts l.fn.mass l.count-index l.rest

@@ -1,0 +1,68 @@
+//! How a row shares out its mass.
+ghost use Rattle.std.specs.Prelude.{◌≡◌, Option, option_map};
+ghost use Rattle.suit_classes.specs.ClassMoves.{same_class_move};
+ghost use Rattle.suit_plans.specs.Masses.{count_of, share};
+
+use std::marker::Model;
+use suit_classes::ClassMove;
+
+/// Moves and how much of the mass each gets. Contracts see them as the list of these pairs.
+#[derive(Debug, Drop)]
+pub struct Counts {
+    items: Vec<(ClassMove, i128)>,
+}
+
+impl Model for Counts {
+    ghost use Rattle.std.specs.Prelude.{List, ℤ};
+    ghost use Rattle.suit_classes.specs.declared.class_moves.ClassMove.{ClassMove};
+
+    ghost Value = { List (ClassMove × ℤ) };
+
+    ghost view = { λ counts. counts.items.items };
+}
+
+impl Counts {
+    /// The counts of these moves.
+    pub fn of(items: Vec<(ClassMove, i128)>) -> Counts
+        ensures { result ≡ items.items }
+    {
+        Counts { items }
+    }
+
+    /// The moves with their counts, in order.
+    pub fn items(&self) -> &[(ClassMove, i128)]
+        ensures { result.now ≡ self.now }
+    {
+        &self.items
+    }
+
+    /// The count of a move, and 0 where the move is not named.
+    pub fn count_of(&self, mv: ClassMove) -> i128
+        ensures { result ≡ count_of self.now mv }
+    {
+        for count in &self.items {
+            if is_same(count.0, mv) {
+                return count.1;
+            }
+        }
+        0
+    }
+}
+
+/// What a move gets of the mass at a turn of its side: its count where there is a row, and without a
+/// row all of the mass or none, by whether it is the first move there.
+pub fn share(counts: Option<&Counts>, first: bool, mass: i128, mv: ClassMove) -> i128
+    ensures { result ≡ share (option_map (λ counts. counts.now) counts.entry) first mass mv }
+{
+    match counts {
+        Some(counts) => counts.count_of(mv),
+        None => if first { mass } else { 0 },
+    }
+}
+
+// Whether two moves are the same.
+fn is_same(here: ClassMove, there: ClassMove) -> bool
+    ensures { result ≡ same_class_move here there }
+{
+    here == there
+}
