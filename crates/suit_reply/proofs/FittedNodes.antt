@@ -1,0 +1,41 @@
+-- What is made of nodes that fit moves, told of the moves.
+use Rattle.std.proofs.Common.{◌≡◌, Bool, true, false, cond, List, [], ◌∷◌, map, refl, ap, ◌∙◌}
+use Rattle.std.specs.Prelude.{Contains, filter}
+use Rattle.suit_game.proofs.EachElement.{Contains-first, Contains-later}
+use Rattle.suit_classes.specs.declared.class_moves.ClassMove.{ClassMove}
+use Rattle.suit_tree.specs.declared.node.Node.{Node}
+use Rattle.suit_tree.specs.Trees.{AllFit}
+
+first_with : {X : Type 0} (x y : X) (xs ys : List X) → x ≡ y → xs ≡ ys → x ∷ xs ≡ y ∷ ys
+first_with {X} x y xs ys same alike = ap (λ (z : X). z ∷ xs) same ∙ ap (λ (l : List X). y ∷ l) alike
+
+-- what is made of each node is made of its move
+pub map_fitted : {X : Type 0} (Fits : ClassMove → Node → Type 0) (of_node : Node → X) (of_move : ClassMove → X) (moves : List ClassMove) (nodes : List Node)
+    → AllFit Fits moves nodes → ((move : ClassMove) (node : Node) → Contains moves move → Fits move node → of_node node ≡ of_move move)
+    → map of_node nodes ≡ map of_move moves
+unfolding AllFit
+map_fitted Fits of_node of_move [] [] fit same = refl
+map_fitted Fits of_node of_move [] (node ∷ nodes) fit same = absurd fit
+map_fitted Fits of_node of_move (move ∷ moves) [] fit same = absurd fit
+map_fitted Fits of_node of_move (move ∷ moves) (node ∷ nodes) fit same =
+    first_with (of_node node) (of_move move) (map of_node nodes) (map of_move moves) (same move node (Contains-first move moves) fit.0)
+    (map_fitted Fits of_node of_move moves nodes fit.1 (λ other child found fits. same other child (Contains-later move moves other found) fits))
+
+kept_case : {X : Type 0} (of_node : Node → X) (of_move : ClassMove → X) (node : Node) (move : ClassMove) (nodes : List Node) (moves : List ClassMove) (b : Bool)
+    → (b ≡ true → of_node node ≡ of_move move) → map of_node nodes ≡ map of_move moves → map of_node (cond b (node ∷ nodes) nodes) ≡ map of_move (cond b (move ∷ moves) moves)
+kept_case of_node of_move node move nodes moves true same alike = first_with (of_node node) (of_move move) (map of_node nodes) (map of_move moves) (same refl) alike
+kept_case of_node of_move node move nodes moves false same alike = alike
+
+-- and of those nodes that pass a test of those moves that pass it
+pub map_fitted_kept : {X : Type 0} (Fits : ClassMove → Node → Type 0) (of_node : Node → X) (of_move : ClassMove → X) (passes : Node → Bool) (may : ClassMove → Bool)
+    (moves : List ClassMove) (nodes : List Node) → AllFit Fits moves nodes → ((move : ClassMove) (node : Node) → Fits move node → passes node ≡ may move)
+    → ((move : ClassMove) (node : Node) → may move ≡ true → Fits move node → of_node node ≡ of_move move)
+    → map of_node (filter passes nodes) ≡ map of_move (filter may moves)
+unfolding AllFit
+map_fitted_kept Fits of_node of_move passes may [] [] fit agree same = refl
+map_fitted_kept Fits of_node of_move passes may [] (node ∷ nodes) fit agree same = absurd fit
+map_fitted_kept Fits of_node of_move passes may (move ∷ moves) [] fit agree same = absurd fit
+map_fitted_kept {X} Fits of_node of_move passes may (move ∷ moves) (node ∷ nodes) fit agree same =
+    ap (λ (b : Bool). map of_node (cond b (node ∷ filter passes nodes) (filter passes nodes))) (agree move node fit.0)
+    ∙ kept_case of_node of_move node move (filter passes nodes) (filter may moves) (may move) (λ is. same move node is fit.0)
+    (map_fitted_kept Fits of_node of_move passes may moves nodes fit.1 agree same)

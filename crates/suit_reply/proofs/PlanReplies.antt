@@ -1,0 +1,85 @@
+-- The best reply to a plan in one class layout is what one finds walking along it.
+use Rattle.std.proofs.Common.{◌≡◌, ◌⊎◌, ℕ, Bool, true, false, List, [], ◌∷◌, ◌++◌, length, map, refl, sym, ap, ◌∙◌, subst, inl, inr, arith}
+use Rattle.std.specs.Prelude.{Contains, if◌then◌else◌, ℤ, pos, ◌≤ℤ◌, int_lt}
+use Rattle.std.specs.Int.{int_min}
+use Rattle.std.proofs.lemmas.Bool.{cases_Bool}
+use Rattle.std.proofs.lemmas.Int.{ints}
+use Rattle.std.proofs.lemmas.List.{length-append}
+use Rattle.std.proofs.lemmas.Simd.{map-map}
+use Rattle.suit_game.specs.declared.question.Question.{Question}
+use Rattle.suit_game.specs.Validity.{IsValid}
+use Rattle.suit_game.proofs.EachElement.{Contains-first, Contains-nil}
+use Rattle.suit_classes.specs.declared.class_moves.ClassMove.{ClassMove}
+use Rattle.suit_classes.specs.ClassGame.{Allows}
+use Rattle.suit_classes.specs.ClassPlaces.{ClassView, class_after, class_decided, class_moves}
+use Rattle.suit_classes.proofs.AllowedHistories.{allowed_moves}
+use Rattle.suit_classes.proofs.DecidedPlays.{class_histories_are_short}
+use Rattle.suit_classes.proofs.DistinctMoves.{once_class_moves, once_unless}
+use Rattle.suit_plans.specs.declared.moves.DefenceMove.{DefenceMove}
+use Rattle.suit_plans.specs.declared.rows.Plan.{Plan}
+use Rattle.suit_plans.specs.BestReplies.{Reply, choices, least_reply_in, reply_to_plan}
+use Rattle.suit_plans.specs.Masses.{declarer, plan_mass}
+use Rattle.suit_plans.specs.Properness.{IsProperPlan}
+use Rattle.suit_plans.proofs.MassBounds.{mass_falls}
+use Rattle.suit_plans.proofs.ProperPlans.{plans_are_realised}
+use Rattle.suit_plans.proofs.TurnMoves.{some_move}
+use Rattle.suit_reply.specs.declared.found.Choice.{Choice}
+use Rattle.suit_reply.proofs.ReachedChoices.{IsSteady, choice_of, choices_walked}
+use Rattle.suit_reply.proofs.WalkedReplies.{walked}
+
+-- a number that is no less than one above 0 is above 0
+pub live_rises : (less more : ℤ) → less ≤ℤ more → int_lt (pos 0) less ≡ true → int_lt (pos 0) more ≡ true
+live_rises less more rises live = grind (arith, ints)
+
+-- a choice of two numbers is one of them
+pub chosen_one : (b : Bool) (one other : ℤ) → ((if b then one else other) ≡ one) ⊎ ((if b then one else other) ≡ other)
+chosen_one true one other = inl refl
+chosen_one false one other = inr refl
+
+-- so is the lesser of two
+min_picks : (one other : ℤ) → (int_min one other ≡ one) ⊎ (int_min one other ≡ other)
+min_picks one other = elim (chosen_one (int_lt other one) other one) [ inl later ↦ inr later | inr first ↦ inl first ]
+
+-- where a position has a move it is not decided, and the move is one of those that it has then
+pub unless_parts : (b : Bool) (moves : List ClassMove) (move : ClassMove) → Contains (if b then [] else moves) move → (b ≡ false) × Contains moves move
+unless_parts true moves move found = absurd (Contains-nil move found)
+unless_parts false moves move found = (refl, found)
+
+-- no class history of 52 moves goes on
+full_decided : (question : Question) (west : List ℕ) (history : List ClassMove) → Allows question west history → length history ≡ 52 → class_decided (class_after question history) ≡ true
+full_decided question west history allows full = elim (cases_Bool (class_decided (class_after question history))) [
+  | inl decided ↦ decided
+  | inr going ↦
+      let moves : List ClassMove = class_moves (class_after question history) west in
+      let some = some_move question west history allows going in
+      let found : Contains moves some.first = subst (λ (l : List ClassMove). Contains l some.first) (sym some.parts) (Contains-first some.first some.more) in
+      let short = class_histories_are_short question west (history ++ some.first ∷ []) ((allowed_moves question west history some.first).1 (allows, found)) in
+      absurd (omega (arith, full, short, length-append history (some.first ∷ [])))
+]
+
+-- the reply to a proper plan in a class layout is steady
+pub plan_reply_steady : (question : Question) (plan : Plan) (west : List ℕ) → IsValid question → IsProperPlan question plan → Allows question west []
+    → IsSteady (Allows question west) (reply_to_plan question plan west)
+unfolding plan_mass
+plan_reply_steady question plan west valid proper start =
+    let view : List ClassMove → ClassView = class_after question in
+    let legal : List ClassMove → List ClassMove = λ history. class_moves (class_after question history) west in record {
+      starts = start;
+      goes_on = λ history move allows found. (allowed_moves question west history move).1 (allows, (unless_parts (class_decided (view history)) (legal history) move found).1);
+      begins_live = λ history move allows found live.
+          live_rises (plan_mass question plan (history ++ move ∷ [])) (plan_mass question plan history)
+          (mass_falls question (declarer plan.den plan.rows) west history move (plans_are_realised question plan west valid proper) allows
+          (unless_parts (class_decided (view history)) (legal history) move found).1)
+          live;
+      once = λ history. once_unless (class_decided (view history)) (legal history) (once_class_moves (view history) west);
+      picks = min_picks;
+      ends = λ history allows full. ap (λ (b : Bool). if b then [] else legal history) (full_decided question west history allows full);
+    }
+
+-- so the best reply to it is what one finds walking along it
+pub least_reply_walked : (question : Question) (plan : Plan) (west : List ℕ) (place : ℕ) → IsValid question → IsProperPlan question plan → Allows question west []
+    → least_reply_in question plan west place ≡ map (λ (choice : Choice). record { layout = place; history = choice.history; mv = choice.mv }) (walked 52 (reply_to_plan question plan west) [])
+least_reply_walked question plan west place valid proper start =
+    let reply : Reply = reply_to_plan question plan west in
+    let named : Choice → DefenceMove = λ choice. record { layout = place; history = choice.history; mv = choice.mv } in
+    sym (map-map named (choice_of reply) (choices reply)) ∙ ap (map named) (choices_walked (Allows question west) reply (plan_reply_steady question plan west valid proper start))

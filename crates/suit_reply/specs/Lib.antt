@@ -1,0 +1,4 @@
+pub mod Gathering
+pub mod LeastNodes
+pub mod MostNodes
+pub mod NodeReplies
