@@ -6,7 +6,6 @@ use Rattle.std.proofs.lemmas.List.{map-append}
 use Rattle.suit_cards.specs.declared.seats.Seat.{Seat}
 use Rattle.suit_cards.specs.declared.seats.Seat.TheVariants.{N, E, S, W}
 use Rattle.suit_cards.specs.Holdings.{IsHolding}
-use Rattle.suit_cards.proofs.HeldSuits.{IsHolding-filter}
 use Rattle.suit_game.specs.declared.question.Question.{Question}
 use Rattle.suit_game.specs.declared.question.Goal.{Goal}
 use Rattle.suit_game.specs.declared.question.LeadAt.{LeadAt}
@@ -14,7 +13,7 @@ use Rattle.suit_game.specs.declared.question.Entries.{Entries}
 use Rattle.suit_game.specs.declared.moves.Move.{Move}
 use Rattle.suit_game.specs.declared.moves.Move.TheVariants as cards
 use Rattle.suit_game.specs.declared.turn.Turn.TheVariants as games
-use Rattle.suit_game.specs.Places.{Place, Trick, dealt, hand, without, ended_in, follows_of, is_empty, leads_at, after, legal_in, legal_at, may_lead_n, may_lead_s, payoff}
+use Rattle.suit_game.specs.Places.{Place, Trick, dealt, hand, ended_in, follows_of, is_empty, leads_at, after, legal_in, legal_at, may_lead_n, may_lead_s, payoff}
 use Rattle.suit_game.specs.Places.{Closed as NoTrick, Open as InTrick}
 use Rattle.suit_game.specs.PlaceViews.{IsPlay, turn_on}
 use Rattle.suit_classes.specs.declared.class_moves.ClassMove.{ClassMove}
@@ -25,7 +24,7 @@ use Rattle.suit_classes.specs.Classes.{Hands, hands_of, class_of}
 use Rattle.suit_classes.specs.ClassGame.{cards_in, class_turn_for, counts_of, decided_in, each_once, is_decided, is_goal_settled}
 use Rattle.suit_classes.specs.ClassMoves.{merge, merged}
 use Rattle.suit_classes.specs.ClassPlaces.{ClassTrick, ClassView, Closed, class_after, class_decided, class_decided_in, class_leads, class_moves, class_moves_in, class_numbers, classes_left, counted_classes, left, may_lead, or_show_out, turn_of}
-use Rattle.suit_classes.proofs.DealtClasses.{IsDealt, IsHolding-dealt}
+use Rattle.suit_classes.proofs.DealtClasses.{IsDealt, IsHolding-dealt, IsHolding-without}
 use Rattle.suit_classes.proofs.MergedPlaces.{HasCounts, IsMerged, merged_trick, after_merged, play_dealt}
 use Rattle.suit_classes.proofs.MovesOnce.{leads_once, merged_once}
 use Rattle.suit_classes.proofs.StartCounts.{same_filter}
@@ -83,10 +82,6 @@ follows_merged hands (card ∷ held) is =
     ap each_once (map-map (merge hands) cards.Follow (card ∷ held)) ∙ merged_once hands (card ∷ held) Follow is (λ a b. refl) in
     once ∙ shown_first (map Follow (present hands (card ∷ held))) _ _ (sym once)
 
-IsHolding-left : (cards gone : List ℕ) → IsHolding cards → IsHolding (without cards gone)
-unfolding without
-IsHolding-left cards gone is = IsHolding-filter _ cards is
-
 -- the classes that a seat has left are those of its cards
 classes_left_are : (question : Question) (west : List ℕ) (place : Place) (view : ClassView) (seat : Seat) → HasCounts question west place view
     → classes_left view (counts_of (hands_of question) west) seat ≡ present (hands_of question) (hand question west place seat)
@@ -112,7 +107,7 @@ leads_agree question west place view is counts =
     ∙ ap (λ (l : List ℕ). (if may_lead_n place then map (Lead N) (present hands (hand question [] place N)) else []) ++ (if may_lead_s place then map (Lead S) l else []))
     (classes_left_are question west place view S counts)
     ∙ sym (leads_either hands (hand question [] place N) (hand question [] place S) (may_lead_n place) (may_lead_s place)
-    (IsHolding-left question.north place.gone is.deal.north) (IsHolding-left question.south place.gone is.deal.south))
+    (IsHolding-without question.north place.gone is.deal.north) (IsHolding-without question.south place.gone is.deal.south))
 
 moves_in : (question : Question) (west : List ℕ) (place : Place) (view : ClassView) (trick : Trick) → IsDealt question west → HasCounts question west place view
     → class_moves_in view (counts_of (hands_of question) west) (merged_trick (hands_of question) trick) ≡ each_once (map (merge (hands_of question)) (legal_in question west place trick))
@@ -121,7 +116,7 @@ moves_in question west place view NoTrick is counts = leads_agree question west 
 moves_in question west place view (InTrick turn after winner highest) is counts =
     ap (λ (l : List ℕ). or_show_out (map Follow l)) (classes_left_are question west place view turn counts)
     ∙ sym (follows_merged (hands_of question) (hand question west place turn)
-    (IsHolding-left (dealt question west turn) place.gone (IsHolding-dealt question west turn is)))
+    (IsHolding-without (dealt question west turn) place.gone (IsHolding-dealt question west turn is)))
 
 moves_agree : (question : Question) (west : List ℕ) (place : Place) (view : ClassView) → IsDealt question west → IsMerged question west place view
     → class_moves view (counts_of (hands_of question) west) ≡ each_once (map (merge (hands_of question)) (legal_at question west place))

@@ -1,8 +1,8 @@
 -- Which class histories a class layout allows, move by move.
-use Rattle.std.proofs.Common.{◌≡◌, ℕ, zero, suc, ◌+◌, ◌-◌, ◌≤◌, Bool, true, false, cond, not, List, [], ◌∷◌, ◌++◌, refl, sym, ap, ◌∙◌, subst, inl, inr, arith, add-zero}
+use Rattle.std.proofs.Common.{◌≡◌, ℕ, zero, suc, ◌+◌, ◌-◌, ◌≤◌, Bool, true, false, not, List, [], ◌∷◌, ◌++◌, refl, sym, ap, ◌∙◌, subst, inl, inr, arith, add-zero}
 use Rattle.std.specs.Prelude.{fold, map, filter, Contains, ◌↔◌, if◌then◌else◌}
 use Rattle.std.specs.List.{AllByRecursion}
-use Rattle.std.proofs.lemmas.Bool.{cases_lt, false≢true}
+use Rattle.std.proofs.lemmas.Bool.{cases_lt}
 use Rattle.std.proofs.lemmas.List.{map-append}
 use Rattle.suit_cards.specs.Ranks.{IsRank}
 use Rattle.suit_game.specs.declared.question.Question.{Question}
@@ -13,6 +13,7 @@ use Rattle.suit_game.specs.PlaceViews.{IsPlay}
 use Rattle.suit_game.specs.Validity.{IsValid}
 use Rattle.suit_game.proofs.EachElement.{Contains-cons_cases, Contains-first, Contains-later, Contains-map_from, Contains-nil, each_at, each_filter, each_gives}
 use Rattle.suit_game.proofs.SeenPlaces.{play_more, play_none}
+use Rattle.suit_layouts.proofs.ListedCounts.{Contains-filter, Contains-map}
 use Rattle.suit_classes.specs.declared.class_moves.ClassMove.{ClassMove}
 use Rattle.suit_classes.specs.Classes.{Hands, hands_of, class_below, class_of, holder, same_owner}
 use Rattle.suit_classes.specs.ClassGame.{Allows, counts_of, each_once, merged_moves}
@@ -37,28 +38,13 @@ once_within (move ∷ moves) = (
 pub Contains-each_once : (moves : List ClassMove) (move : ClassMove) → Contains (each_once moves) move → Contains moves move
 Contains-each_once moves move found = each_at (Contains moves) (each_once moves) move (once_within moves) found
 
-kept_first : (b : Bool) (x : ClassMove) (xs : List ClassMove) → b ≡ true → Contains (cond b (x ∷ xs) xs) x
-kept_first true x xs passes = Contains-first x xs
-kept_first false x xs passes = absurd (false≢true passes)
-
-kept_later : (b : Bool) (x : ClassMove) (xs : List ClassMove) (y : ClassMove) → Contains xs y → Contains (cond b (x ∷ xs) xs) y
-kept_later true x xs y found = Contains-later x xs y found
-kept_later false x xs y found = found
-
-filter_keeps : (p : ClassMove → Bool) (xs : List ClassMove) (y : ClassMove) → Contains xs y → p y ≡ true → Contains (filter p xs) y
-filter_keeps p [] y found passes = absurd (Contains-nil y found)
-filter_keeps p (x ∷ xs) y found passes = elim (Contains-cons_cases x xs y found) [
-  | inl here ↦ subst (λ (m : ClassMove). Contains (cond (p x) (x ∷ filter p xs) (filter p xs)) m) here (kept_first (p x) x (filter p xs) (ap p here ∙ passes))
-  | inr there ↦ kept_later (p x) x (filter p xs) y (filter_keeps p xs y there passes)
-]
-
 once_or_first : (move : ClassMove) (moves : List ClassMove) (y : ClassMove) (b : Bool) → same_class_move move y ≡ b → Contains (each_once moves) y → Contains (each_once (move ∷ moves)) y
 unfolding each_once
 once_or_first move moves y true same found =
     subst (λ (m : ClassMove). Contains (each_once (move ∷ moves)) m) (same_move_is move y same) (Contains-first move (filter (λ other. not (same_class_move move other)) (each_once moves)))
 once_or_first move moves y false same found =
     Contains-later move (filter (λ other. not (same_class_move move other)) (each_once moves)) y
-    (filter_keeps (λ other. not (same_class_move move other)) (each_once moves) y found (ap not same))
+    (Contains-filter (λ other. not (same_class_move move other)) (each_once moves) y found (ap not same))
 
 -- and each of the list is one of them
 pub each_once-Contains : (moves : List ClassMove) (move : ClassMove) → Contains moves move → Contains (each_once moves) move
@@ -67,13 +53,6 @@ each_once-Contains [] move found = absurd (Contains-nil move found)
 each_once-Contains (first ∷ moves) move found = elim (Contains-cons_cases first moves move found) [
   | inl here ↦ subst (λ (m : ClassMove). Contains (each_once (first ∷ moves)) m) here (Contains-first first (filter (λ other. not (same_class_move first other)) (each_once moves)))
   | inr there ↦ once_or_first first moves move (same_class_move first move) refl (each_once-Contains moves move there)
-]
-
-Contains-map_to : (f : Move → ClassMove) (xs : List Move) (x : Move) → Contains xs x → Contains (map f xs) (f x)
-Contains-map_to f [] x found = absurd (Contains-nil x found)
-Contains-map_to f (y ∷ xs) x found = elim (Contains-cons_cases y xs x found) [
-  | inl here ↦ subst (λ (m : Move). Contains (f y ∷ map f xs) (f m)) here (Contains-first (f y) (map f xs))
-  | inr there ↦ Contains-later (f y) (map f xs) (f x) (Contains-map_to f xs x there)
 ]
 
 -- the counts of a layout allow the empty history
@@ -151,7 +130,7 @@ allows_back question counts history move allows =
       subst (λ (l : List ClassMove). Contains l move) (sym moves)
           (each_once-Contains (map (merge hands) (legal question allows.west last.before)) move
           (subst (λ (m : ClassMove). Contains (map (merge hands) (legal question allows.west last.before)) m) last.lasts
-          (Contains-map_to (merge hands) (legal question allows.west last.before) last.move parts.1))),
+          (Contains-map (merge hands) (legal question allows.west last.before) last.move parts.1))),
     )
 
 -- a history with one more move is allowed where the history is, and the move is a class move

@@ -48,25 +48,22 @@ pub class_below-most : (hands : Hands) (n : ℕ) → class_below hands n ≤ n
 class_below-most hands zero = omega (arith, class_below-ace hands)
 class_below-most hands (suc n) = omega (arith, class_below-most hands n, (class_below-next hands n).1)
 
-same_owners : (here there : Owner) → same_owner here there ≡ true → here ≡ there
-same_owners owners.N owners.N same = refl
-same_owners owners.S owners.S same = refl
-same_owners owners.Defence owners.Defence same = refl
-same_owners owners.N owners.S same = absurd (false≢true same)
-same_owners owners.N owners.Defence same = absurd (false≢true same)
-same_owners owners.S owners.N same = absurd (false≢true same)
-same_owners owners.S owners.Defence same = absurd (false≢true same)
-same_owners owners.Defence owners.N same = absurd (false≢true same)
-same_owners owners.Defence owners.S same = absurd (false≢true same)
+-- two owners that the test takes for the same are the same
+pub same_owner_is : (here there : Owner) → same_owner here there ≡ true → here ≡ there
+same_owner_is owners.N owners.N same = refl
+same_owner_is owners.S owners.S same = refl
+same_owner_is owners.Defence owners.Defence same = refl
+same_owner_is owners.N owners.S same = absurd (false≢true same)
+same_owner_is owners.N owners.Defence same = absurd (false≢true same)
+same_owner_is owners.S owners.N same = absurd (false≢true same)
+same_owner_is owners.S owners.Defence same = absurd (false≢true same)
+same_owner_is owners.Defence owners.N same = absurd (false≢true same)
+same_owner_is owners.Defence owners.S same = absurd (false≢true same)
 
 pub same_owner-itself : (owner : Owner) → same_owner owner owner ≡ true
 same_owner-itself owners.N = refl
 same_owner-itself owners.S = refl
 same_owner-itself owners.Defence = refl
-
--- two owners that the test takes for the same are the same
-pub same_owner_is : (here there : Owner) → same_owner here there ≡ true → here ≡ there
-same_owner_is here there same = same_owners here there same
 
 kept_number : (b : Bool) (n : ℕ) → n + (if b then 0 else 1) ≡ n → b ≡ true
 kept_number true n kept = refl
@@ -75,7 +72,7 @@ kept_number false n kept = absurd (omega arith)
 kept_holder : (hands : Hands) (n : ℕ) → class_below hands (suc n) ≡ class_below hands n → holder hands (14 - n) ≡ holder hands (14 - suc n)
 unfolding class_below
 kept_holder hands n kept =
-    same_owners (holder hands (14 - n)) (holder hands (14 - suc n))
+    same_owner_is (holder hands (14 - n)) (holder hands (14 - suc n))
     (kept_number (same_owner (holder hands (14 - n)) (holder hands (14 - suc n))) (class_below hands n) kept)
 
 -- ranks of one class were held alike
@@ -182,7 +179,8 @@ numbers_counted hands class =
     ∙ ap (λ (l : List ℕ). length (filter (λ number. number == class) l)) (numbers_of-suit hands)
     ∙ length-filter_map (λ number. number == class) (class_of hands) suit
 
-kept_some : (b : Bool) (x : ℕ) (xs : List ℕ) → 0 < length xs → 0 < length (cond b (x ∷ xs) xs)
+-- a list that is not empty stays so with an element before it, or none
+pub kept_some : (b : Bool) (x : ℕ) (xs : List ℕ) → 0 < length xs → 0 < length (cond b (x ∷ xs) xs)
 kept_some true x xs some = omega arith
 kept_some false x xs some = some
 

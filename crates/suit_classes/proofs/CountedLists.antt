@@ -27,16 +27,13 @@ pub record Filled (f : ℕ → ℕ) (counts : List ℕ) (class : ℕ) : Type 0 w
   pub done : (k : ℕ) → k < class → get_or counts k 0 ≡ f k
   pub rest : (k : ℕ) → class ≤ k → get_or counts k 0 ≡ 0
 
-zeros_at : (k : ℕ) → get_or none_played k 0 ≡ 0
+-- no card of any class
+pub none_played-at : (k : ℕ) → get_or none_played k 0 ≡ 0
 unfolding none_played class_numbers
-zeros_at k = elim (cases_lt k 13) [
+none_played-at k = elim (cases_lt k 13) [
   | inl small ↦ get_or-map-range_with_len (λ class. 0) 0 13 k k 0 small (omega arith)
   | inr past ↦ get_or_past none_played k 0 (omega (arith, length-map-range_with_len {X = ℕ} (λ class. 0) 0 13))
 ]
-
--- no card of any class
-pub none_played-at : (k : ℕ) → get_or none_played k 0 ≡ 0
-none_played-at k = zeros_at k
 
 pub length-none_played : length none_played ≡ 13
 unfolding none_played class_numbers

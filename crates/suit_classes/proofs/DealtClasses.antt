@@ -30,7 +30,8 @@ pub record IsDealt (question : Question) (west : List ℕ) : Type 0 where
   pub deal : IsDeal question west
   pub holding : IsHolding west
 
-IsHolding-without : (cards gone : List ℕ) → IsHolding cards → IsHolding (without cards gone)
+-- a holding without some cards is a holding
+pub IsHolding-without : (cards gone : List ℕ) → IsHolding cards → IsHolding (without cards gone)
 unfolding without
 IsHolding-without cards gone is = IsHolding-filter (λ card. not (holds gone card)) cards is
 

@@ -13,18 +13,19 @@ use Rattle.suit_classes.specs.ClassMoves.{same_class_move}
 use Rattle.suit_classes.specs.ClassGame.{cards_in, each_once}
 use Rattle.suit_classes.specs.ClassPlaces.{class_numbers}
 use Rattle.suit_classes.proofs.ClassNumbers.{class_count-most}
-use Rattle.suit_classes.proofs.RankBlocks.{Rises, StaysBelow, with_number, with_number-none, holding_rises, falling_stays}
+use Rattle.suit_classes.proofs.RankBlocks.{Rises, Rises-lower, StaysBelow, with_number, with_number-none, holding_rises, falling_stays}
 
 -- whether some of a list have a number
 abbrev has_number : (ℕ → ℕ) → List ℕ → ℕ → Bool
 has_number f xs number = nat_lt 0 (length (with_number f xs number))
 
-filter_map-is : (p : ClassMove → Bool) (move : ℕ → ClassMove) (xs : List ℕ) → filter p (map move xs) ≡ map move (filter (λ x. p (move x)) xs)
-filter_map-is p move [] = refl
-filter_map-is p move (x ∷ xs) =
-    elim (p (move x)) as (λ b. cond b (move x ∷ filter p (map move xs)) (filter p (map move xs)) ≡ map move (cond b (x ∷ filter (λ y. p (move y)) xs) (filter (λ y. p (move y)) xs))) [
-      | true ↦ ap (λ (l : List ClassMove). move x ∷ l) (filter_map-is p move xs)
-      | false ↦ filter_map-is p move xs
+-- what a test keeps of images
+pub filter_of_map : {X Y : Type 0} (p : Y → Bool) (f : X → Y) (xs : List X) → filter p (map f xs) ≡ map f (filter (λ x. p (f x)) xs)
+filter_of_map p f [] = refl
+filter_of_map {X} {Y} p f (x ∷ xs) =
+    elim (p (f x)) as (λ b. cond b (f x ∷ filter p (map f xs)) (filter p (map f xs)) ≡ map f (cond b (x ∷ filter (λ y. p (f y)) xs) (filter (λ y. p (f y)) xs))) [
+      | true ↦ ap (λ (l : List Y). f x ∷ l) (filter_of_map p f xs)
+      | false ↦ filter_of_map p f xs
     ]
 
 dropped_either : (number : ℕ) (xs : List ℕ) (b : Bool) → filter (λ n. not (number == n)) (cond b (number ∷ xs) xs) ≡ filter (λ n. not (number == n)) xs
@@ -69,10 +70,6 @@ no_numbers : (f : ℕ → ℕ) (from count : ℕ) → filter (has_number f []) (
 no_numbers f from zero = refl
 no_numbers f from (suc count) = no_numbers f (from + 1) count
 
-Rises-from : (f : ℕ → ℕ) (lower low : ℕ) (xs : List ℕ) → lower ≤ low → Rises f low xs → Rises f lower xs
-Rises-from f lower low [] down rises = tt
-Rises-from f lower low (x ∷ xs) down rises = (omega (arith, rises.0), rises.1)
-
 once_from : (f : ℕ → ℕ) (move : ℕ → ClassMove) (xs : List ℕ) (from count : ℕ) → ((a b : ℕ) → same_class_move (move a) (move b) ≡ (a == b))
     → Rises f from xs → StaysBelow f (from + count) xs
     → each_once (map (λ x. move (f x)) xs) ≡ map move (filter (has_number f xs) (range_with_len from count))
@@ -80,9 +77,9 @@ unfolding each_once
 once_from f move [] from count told rises stays = ap (map move) (sym (no_numbers f from count))
 once_from f move (x ∷ xs) from count told rises stays =
     ap (λ (l : List ClassMove). move (f x) ∷ filter (λ other. not (same_class_move (move (f x)) other)) l)
-    (once_from f move xs from count told (Rises-from f from (f x) xs rises.0 rises.1) stays.1)
+    (once_from f move xs from count told (Rises-lower f from (f x) xs rises.0 rises.1) stays.1)
     ∙ ap (λ (l : List ClassMove). move (f x) ∷ l)
-    (filter_map-is (λ other. not (same_class_move (move (f x)) other)) move (filter (has_number f xs) (range_with_len from count))
+    (filter_of_map (λ other. not (same_class_move (move (f x)) other)) move (filter (has_number f xs) (range_with_len from count))
     ∙ ap (map move) (filter_agree (λ n. not (same_class_move (move (f x)) (move n))) (λ n. not (f x == n)) (λ n. ap not (told (f x) n)) (filter (has_number f xs) (range_with_len from count))))
     ∙ ap (map move) (sym (numbers_more f x xs from count rises.0 stays.0 rises.1))
 

@@ -25,7 +25,8 @@ StaysBelow f high (x ∷ xs) = (f x < high) × StaysBelow f high xs
 abbrev pub with_number : (ℕ → ℕ) → List ℕ → ℕ → List ℕ
 with_number f xs number = filter (λ x. f x == number) xs
 
-Rises-lower : (f : ℕ → ℕ) (lower low : ℕ) (xs : List ℕ) → lower ≤ low → Rises f low xs → Rises f lower xs
+-- what rises from a number on rises from a lower one on
+pub Rises-lower : (f : ℕ → ℕ) (lower low : ℕ) (xs : List ℕ) → lower ≤ low → Rises f low xs → Rises f lower xs
 Rises-lower f lower low [] down rises = tt
 Rises-lower f lower low (x ∷ xs) down rises = (omega (arith, rises.0), rises.1)
 

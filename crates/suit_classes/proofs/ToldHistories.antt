@@ -6,11 +6,13 @@ use Rattle.suit_classes.specs.declared.class_moves.ClassMove.{ClassMove}
 use Rattle.suit_classes.specs.AllowedHistories.{allows, allows_from, is_among}
 use Rattle.suit_classes.specs.ClassPlaces.{ClassView, class_after, class_moves, class_start, class_step}
 
-and-last : (b : Bool) → (b && true) ≡ b
+-- a further test that passes changes nothing
+pub and-last : (b : Bool) → (b && true) ≡ b
 and-last true = refl
 and-last false = refl
 
-and-assoc : (a b c : Bool) → (a && (b && c)) ≡ ((a && b) && c)
+-- three tests may be joined from either end
+pub and-assoc : (a b c : Bool) → (a && (b && c)) ≡ ((a && b) && c)
 and-assoc true b c = refl
 and-assoc false b c = refl
 

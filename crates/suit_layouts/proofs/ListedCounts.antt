@@ -23,7 +23,7 @@ Contains-map {Y = Y} f (y ∷ ys) x found = elim (Contains-cons_cases y ys x fou
 ]
 
 -- what stands in a piece stands in all pieces joined
-Contains-flat_map : {X Y : Type 0} (f : X → List Y) (xs : List X) (x : X) (y : Y) → Contains xs x → Contains (f x) y → Contains (flat_map f xs) y
+pub Contains-flat_map : {X Y : Type 0} (f : X → List Y) (xs : List X) (x : X) (y : Y) → Contains xs x → Contains (f x) y → Contains (flat_map f xs) y
 Contains-flat_map f [] x y found within = absurd (Contains-nil x found)
 Contains-flat_map {X} f (first ∷ others) x y found within = elim (Contains-cons_cases first others x found) [
   | inl here ↦ Contains-append_left (f first) (flat_map f others) y (subst (λ (z : X). Contains (f z) y) (sym here) within)
@@ -49,7 +49,7 @@ Contains-filter test (x ∷ xs) y found passes =
     Contains-kept test x xs (test x) refl y passes found (λ there. Contains-filter test xs y there passes)
 
 -- a number of a run is in it
-Contains-range : (a n count : ℕ) → a ≤ count → count < a + n → Contains (range_with_len a n) count
+pub Contains-range : (a n count : ℕ) → a ≤ count → count < a + n → Contains (range_with_len a n) count
 Contains-range a zero count from below = absurd (omega arith)
 Contains-range a (suc n) count from below = elim (cases_eq a count) [
   | inl here ↦ subst (λ (k : ℕ). Contains (range_with_len a (suc n)) k) here (Contains-first a (range_with_len (a + 1) n))

@@ -1,6 +1,6 @@
 -- A side whose rows share out the masses of their histories is realised.
 use Rattle.std.proofs.Common.{◌≡◌, ℕ, Bool, true, false, List, [], ◌∷◌, ◌++◌, Option, Some, None, refl, sym, ap, ◌∙◌, subst, map}
-use Rattle.std.specs.Prelude.{ℤ, pos, ◌≤ℤ◌, int_le, if◌then◌else◌}
+use Rattle.std.specs.Prelude.{ℤ, pos, ◌≤ℤ◌, int_le}
 use Rattle.std.specs.List.{list_all}
 use Rattle.suit_game.specs.declared.question.Question.{Question}
 use Rattle.suit_game.proofs.EachElement.{map_same}
@@ -14,7 +14,7 @@ use Rattle.suit_plans.specs.Masses.{Side, is_first, mass_from, mass_of, passed_o
 use Rattle.suit_plans.specs.PlanLaws.{AreRealised}
 use Rattle.suit_plans.specs.Properness.{are_rising, moves_of, total}
 use Rattle.suit_plans.proofs.MassSteps.{mass_kept, mass_shared}
-use Rattle.suit_plans.proofs.SharedSums.{count_positive, int_le-true, total_counts, total_first}
+use Rattle.suit_plans.proofs.SharedSums.{count_case, count_positive, int_le-true, total_counts, total_first}
 use Rattle.suit_plans.proofs.TurnMoves.{HasFirst, turn_move}
 
 -- counts share out the mass of a history among legal moves
@@ -39,17 +39,13 @@ share_positive (Some counts) first mass move low rows = count_positive counts mo
 share_positive None true mass move low rows = low
 share_positive None false mass move low rows = zero_positive
 
-passed_case : (b : Bool) (shared mass : ℤ) → pos 0 ≤ℤ shared → pos 0 ≤ℤ mass → pos 0 ≤ℤ (if b then shared else mass)
-passed_case true shared mass low high = low
-passed_case false shared mass low high = high
-
 from_positive : (question : Question) (side : Side) (history : List ClassMove) (mass : ℤ) (moves : List ClassMove) → IsSound question side → pos 0 ≤ℤ mass
     → pos 0 ≤ℤ mass_from question side history mass moves
 unfolding mass_from
 from_positive question side history mass [] sound low = low
 from_positive question side history mass (move ∷ moves) sound low =
     from_positive question side (history ++ move ∷ []) (passed_on question side history mass move) moves sound
-    (passed_case (side.plays (class_turn (class_after question history)))
+    (count_case (side.plays (class_turn (class_after question history)))
     (share (side.counts_at history) (is_first (class_moves (class_after question history) side.west) move) mass move) mass
     (share_positive (side.counts_at history) (is_first (class_moves (class_after question history) side.west) move) mass move low
     (λ counts is. (sound.rows history counts is).positive)) low)

@@ -98,7 +98,8 @@ total_first mass first moves once =
     let tail : total (map (λ move. share None (same_class_move first move) mass move) moves) ≡ pos 0 = ap total same ∙ total_none moves in
     omega (arith, ints, head, tail)
 
-count_case : (b : Bool) (number other : ℤ) → pos 0 ≤ℤ number → pos 0 ≤ℤ other → pos 0 ≤ℤ (if b then number else other)
+-- a choice of two numbers that are not negative is not negative
+pub count_case : (b : Bool) (number other : ℤ) → pos 0 ≤ℤ number → pos 0 ≤ℤ other → pos 0 ≤ℤ (if b then number else other)
 count_case true number other low high = low
 count_case false number other low high = high
 
@@ -111,26 +112,26 @@ count_positive (count ∷ counts) move positive =
     count_case (same_class_move count.0 move) count.1 (count_of counts move) (int_le-true (pos 0) count.1 parts.0) (count_positive counts move parts.1)
 
 -- where no number is negative the sum is not
-pub total_positive : (f : ClassMove → ℤ) (moves : List ClassMove) → ((other : ClassMove) → Contains moves other → pos 0 ≤ℤ f other) → pos 0 ≤ℤ total (map f moves)
+pub total_positive : {X : Type 0} (f : X → ℤ) (xs : List X) → ((y : X) → Contains xs y → pos 0 ≤ℤ f y) → pos 0 ≤ℤ total (map f xs)
 unfolding total
 total_positive f [] positive = omega (arith, ints)
-total_positive f (first ∷ moves) positive =
-    let head : pos 0 ≤ℤ f first = positive first (Contains-first first moves) in
-    let rest : pos 0 ≤ℤ total (map f moves) = total_positive f moves (λ other later. positive other (Contains-later first moves other later)) in
+total_positive f (first ∷ xs) positive =
+    let head : pos 0 ≤ℤ f first = positive first (Contains-first first xs) in
+    let rest : pos 0 ≤ℤ total (map f xs) = total_positive f xs (λ y later. positive y (Contains-later first xs y later)) in
     omega (arith, ints, head, rest)
 
 -- and none is more than it
-pub within_total : (f : ClassMove → ℤ) (moves : List ClassMove) (move : ClassMove) → ((other : ClassMove) → Contains moves other → pos 0 ≤ℤ f other) → Contains moves move
-    → f move ≤ℤ total (map f moves)
+pub within_total : {X : Type 0} (f : X → ℤ) (xs : List X) (x : X) → ((y : X) → Contains xs y → pos 0 ≤ℤ f y) → Contains xs x
+    → f x ≤ℤ total (map f xs)
 unfolding total
-within_total f [] move positive found = absurd (Contains-nil move found)
-within_total f (first ∷ moves) move positive found = elim (Contains-cons_cases first moves move found) [
+within_total f [] x positive found = absurd (Contains-nil x found)
+within_total f (first ∷ xs) x positive found = elim (Contains-cons_cases first xs x found) [
   | inl here ↦
-      let same : f first ≡ f move = ap f here in
-      let rest : pos 0 ≤ℤ total (map f moves) = total_positive f moves (λ other later. positive other (Contains-later first moves other later)) in
+      let same : f first ≡ f x = ap f here in
+      let rest : pos 0 ≤ℤ total (map f xs) = total_positive f xs (λ y later. positive y (Contains-later first xs y later)) in
       omega (arith, ints, same, rest)
   | inr there ↦
-      let head : pos 0 ≤ℤ f first = positive first (Contains-first first moves) in
-      let later : f move ≤ℤ total (map f moves) = within_total f moves move (λ other after. positive other (Contains-later first moves other after)) there in
+      let head : pos 0 ≤ℤ f first = positive first (Contains-first first xs) in
+      let later : f x ≤ℤ total (map f xs) = within_total f xs x (λ y after. positive y (Contains-later first xs y after)) there in
       omega (arith, ints, head, later)
 ]

@@ -1,5 +1,5 @@
 -- The class layouts that allow a class history, told by their places.
-use Rattle.std.proofs.Common.{◌≡◌, ℕ, zero, suc, ◌+◌, Bool, true, false, cond, List, [], ◌∷◌, ◌++◌, length, map, refl, sym, ap, ◌∙◌, arith}
+use Rattle.std.proofs.Common.{◌≡◌, ℕ, zero, suc, ◌+◌, ◌≤◌, Bool, true, false, cond, List, [], ◌∷◌, ◌++◌, length, map, refl, sym, ap, ◌∙◌, arith}
 use Rattle.std.specs.Prelude.{filter, get_or, nat_lt, ◌||◌, if◌then◌else◌, ℤ, pos, ◌*ℤ◌, int_lt}
 use Rattle.std.specs.List.{list_any, range_with_len}
 use Rattle.std.proofs.lemmas.Bool.{lt-ltb}
@@ -10,6 +10,10 @@ use Rattle.suit_game.specs.declared.question.Question.{Question}
 use Rattle.suit_classes.specs.declared.class_moves.ClassMove.{ClassMove}
 use Rattle.suit_classes.specs.AllowedHistories.{allows, every_move, question_layouts}
 use Rattle.suit_classes.specs.ClassPlaces.{class_after, class_decided, class_payoff}
+use Rattle.suit_classes.specs.Classes.{defence_sizes, hands_of}
+use Rattle.suit_classes.proofs.DefenceSizes.{defence_sizes-some, length-defence_sizes, sum-defence_sizes}
+use Rattle.suit_classes.proofs.MovesOnce.{filter_of_map}
+use Rattle.suit_layouts.proofs.FewCounts.{class_layouts_few}
 use Rattle.suit_plans.specs.BestReplies.{allowing_layouts, reply_to_defence}
 use Rattle.suit_plans.specs.Masses.{defence_mass}
 use Rattle.suit_plans.specs.Properness.{some_allows, total}
@@ -17,15 +21,6 @@ use Rattle.suit_plans.specs.declared.defence_rows.Defence.{Defence}
 use Rattle.suit_tree.specs.Trees.{allowing, counts_at, layout_places, moves_on}
 
 -- ---- lists
-
--- what a test keeps of images
-pub filter_of_map : {X Y : Type 0} (p : Y → Bool) (f : X → Y) (xs : List X) → filter p (map f xs) ≡ map f (filter (λ x. p (f x)) xs)
-filter_of_map p f [] = refl
-filter_of_map {X} {Y} p f (x ∷ xs) = ap (λ (l : List Y). cond (p (f x)) (f x ∷ l) l) (filter_of_map p f xs) ∙ either (p (f x))
-  where
-    either : (b : Bool) → cond b (f x ∷ map f (filter (λ y. p (f y)) xs)) (map f (filter (λ y. p (f y)) xs)) ≡ map f (cond b (x ∷ filter (λ y. p (f y)) xs) (filter (λ y. p (f y)) xs))
-    either true = refl
-    either false = refl
 
 -- whether an image passes a test
 pub any_of_map : {X Y : Type 0} (p : Y → Bool) (f : X → Y) (xs : List X) → list_any p (map f xs) ≡ list_any (λ x. p (f x)) xs
@@ -53,6 +48,13 @@ by_places {X} (x ∷ xs) d = ap (λ (l : List X). x ∷ l) (shifted (λ place. g
         ap (λ (l : List X). g (a + 1) ∷ l) (shifted g (a + 1) n) ∙ ap (λ (k : ℕ). g k ∷ map (λ j. g (suc j)) (range_with_len (a + 1) n)) next
 
 -- ---- class layouts
+
+-- a question has few class layouts
+pub layouts_few : (question : Question) → length (question_layouts question) ≤ 162
+unfolding question_layouts
+layouts_few question =
+    let hands = hands_of question in
+    class_layouts_few question (defence_sizes hands) (record { some = defence_sizes-some hands; filled = sum-defence_sizes hands; few = length-defence_sizes hands })
 
 -- the class layout at a place, with its weight
 abbrev pub layout_at : Question → ℕ → List ℕ × ℕ

@@ -6,7 +6,6 @@ use Rattle.std.proofs.lemmas.Int.{ints}
 use Rattle.std.proofs.lemmas.List.{length-append}
 use Rattle.std.proofs.lemmas.List.Elements.{All-contains_itself, All-filter, All-map, All-same, All-weaker, Contains-get_or}
 use Rattle.suit_game.specs.declared.question.Question.{Question}
-use Rattle.suit_game.proofs.EachElement.{Contains-first, Contains-later}
 use Rattle.suit_classes.specs.declared.class_moves.ClassMove.{ClassMove}
 use Rattle.suit_classes.specs.declared.class_turn.ClassTurn.{ClassTurn}
 use Rattle.suit_classes.specs.declared.class_turn.ClassTurn.TheVariants as turns
@@ -14,11 +13,10 @@ use Rattle.suit_classes.specs.AllowedHistories.{question_layouts}
 use Rattle.suit_classes.specs.ClassPlaces.{class_after}
 use Rattle.suit_plans.specs.Masses.{is_declarers, is_defences}
 use Rattle.suit_plans.specs.Orders.{InOrder, defence_row_before}
-use Rattle.suit_plans.specs.Properness.{IsProperDefence, defence_row_fault, total}
-use Rattle.suit_plans.specs.declared.defence_rows.Defence.{Defence}
+use Rattle.suit_plans.specs.Properness.{total}
 use Rattle.suit_plans.specs.declared.defence_rows.DefenceRow.{DefenceRow}
-use Rattle.suit_plans.proofs.ProperDefences.{defences_are_realised, proper_defence, told_order}
-use Rattle.suit_plans.proofs.RowOrder.{IsRowOrder-defences, faultless_in_order}
+use Rattle.suit_plans.proofs.ProperDefences.{defences_are_realised}
+use Rattle.suit_plans.proofs.ProperOrders.{defence_in_order}
 use Rattle.suit_tree.specs.declared.node.Node.{Node}
 use Rattle.suit_tree.specs.Nodes.{children_of, payoff_at, turn_at}
 use Rattle.suit_tree.specs.Trees.{AllFit, IsTreeAt, StandsAt, allowing, moves_on}
@@ -30,6 +28,7 @@ use Rattle.suit_reply.specs.NodeReplies.{holds_place, is_live, most_gathers, mov
 use Rattle.suit_reply.proofs.AllowingPlaces.{mass_at}
 use Rattle.suit_reply.proofs.FirstMasses.{place_weighs}
 use Rattle.suit_reply.proofs.HeldMoves.{Declarers, Defences, Over, WhoseTurn, whose_turn}
+use Rattle.suit_reply.proofs.FittedNodes.{fitted_at}
 use Rattle.suit_reply.proofs.LeastByNodes.{AreBelow}
 use Rattle.suit_reply.proofs.LeastCases.{west_at}
 use Rattle.suit_reply.proofs.LiveMasses.{held_at}
@@ -49,15 +48,10 @@ node_case layouts rows history masses node is = record {
   left = refl;
 }
 
--- the rows of a proper defence stand in order
-pub proper_order : (question : Question) (defence : Defence) → IsProperDefence question defence → InOrder defence_row_before defence.rows
-proper_order question defence proper =
-    faultless_in_order defence_row_before (defence_row_fault question defence.den) defence.rows IsRowOrder-defences (told_order question defence.den) (proper_defence question defence proper).2
-
--- so do those that a node is given
+-- the rows that a node is given stand in order
 pub node_order : (layouts : List (List ℕ × ℕ)) (rows : List DefenceRow) (history : List ClassMove) (masses : List (ℕ × ℤ)) (node : Node) → MostNode layouts rows history masses node
     → InOrder defence_row_before rows
-node_order layouts rows history masses node is = subst (InOrder defence_row_before) is.is_rows (proper_order is.question is.defence is.proper)
+node_order layouts rows history masses node is = subst (InOrder defence_row_before) is.is_rows (defence_in_order is.question is.defence is.proper)
 
 -- the masses that it is given stand at places of class layouts
 pub node_places : (layouts : List (List ℕ × ℕ)) (rows : List DefenceRow) (history : List ClassMove) (masses : List (ℕ × ℤ)) (node : Node) → MostNode layouts rows history masses node
@@ -87,18 +81,6 @@ node_payoff layouts rows history masses node is =
     node_pays (52 - length history) is.question is.defence history node (node_case layouts rows history masses node is) (tree_stands (52 - length history) is.question history node is.tree)
 
 -- ---- the nodes below
-
--- a node below stands there by a move
-pub fitted_at : (Fits : ClassMove → Node → Type 0) (moves : List ClassMove) (nodes : List Node) (i : ℕ) (d : Node) → AllFit Fits moves nodes → i < length nodes
-    → (move : ClassMove) × Contains moves move × Fits move (get_or nodes i d)
-unfolding AllFit
-fitted_at Fits [] [] i d fit below = absurd (omega (arith, below))
-fitted_at Fits [] (node ∷ nodes) i d fit below = absurd fit
-fitted_at Fits (move ∷ moves) [] i d fit below = absurd fit
-fitted_at Fits (move ∷ moves) (node ∷ nodes) zero d fit below = (move, Contains-first move moves, fit.0)
-fitted_at Fits (move ∷ moves) (node ∷ nodes) (suc i) d fit below =
-    let later = fitted_at Fits moves nodes i d fit.1 (omega (arith, below)) in
-    (later.0, Contains-later move moves later.0 later.1, later.2)
 
 -- the nodes below a node, which stand there with one move less
 pub record HasBelow (more : ℕ) (question : Question) (history : List ClassMove) (node : Node) : Type 0 where

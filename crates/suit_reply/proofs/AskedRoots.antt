@@ -13,8 +13,7 @@ use Rattle.suit_game.proofs.FilledPlaces.{total_at_most}
 use Rattle.suit_classes.specs.declared.class_moves.ClassMove.{ClassMove}
 use Rattle.suit_classes.specs.AllowedHistories.{question_layouts}
 use Rattle.suit_classes.specs.Classes.{defence_sizes, hands_of}
-use Rattle.suit_classes.proofs.DefenceSizes.{defence_sizes-some, length-defence_sizes, sum-defence_sizes}
-use Rattle.suit_layouts.proofs.FewCounts.{class_layouts_few}
+use Rattle.suit_classes.proofs.DefenceSizes.{sum-defence_sizes}
 use Rattle.suit_layouts.proofs.ListedCounts.{class_layouts_exact}
 use Rattle.suit_plans.specs.BestReplies.{reply_to_defence}
 use Rattle.suit_plans.specs.Masses.{weight_of}
@@ -41,14 +40,7 @@ use Rattle.suit_reply.proofs.ReplySteps.{found_from}
 
 -- ---- the class layouts of a question
 
--- they are few
-pub layouts_few : (question : Question) → length (question_layouts question) ≤ 162
-unfolding question_layouts
-layouts_few question =
-    class_layouts_few question (defence_sizes (hands_of question))
-    (record { some = defence_sizes-some (hands_of question); filled = sum-defence_sizes (hands_of question); few = length-defence_sizes (hands_of question) })
-
--- and so are their weights
+-- their weights are small
 pub layouts_weigh : (question : Question) → IsValid question → All (λ layout. layout.1 ≤ 10400600) (question_layouts question)
 unfolding question_layouts
 layouts_weigh question valid = λ k d below.

@@ -1,11 +1,10 @@
 -- The best reply to a defence is what one finds walking along it.
-use Rattle.std.proofs.Common.{◌≡◌, ◌⊎◌, ℕ, ◌<◌, Bool, true, false, List, [], ◌∷◌, ◌++◌, length, map, refl, sym, ap, ◌∙◌, subst, inl, inr, arith}
+use Rattle.std.proofs.Common.{◌≡◌, ◌⊎◌, ℕ, ◌<◌, Bool, true, false, List, [], ◌∷◌, ◌++◌, length, map, refl, sym, ap, ◌∙◌, inl, inr, arith}
 use Rattle.std.specs.Prelude.{Contains, filter, if◌then◌else◌, ℤ, pos, ◌≤ℤ◌, int_lt}
 use Rattle.std.specs.Int.{int_max}
 use Rattle.std.specs.List.{list_any}
 use Rattle.std.proofs.lemmas.Bool.{and_parts, false_from_ne_true, false≢true, or_cases, or_left, or_right}
 use Rattle.std.proofs.lemmas.List.{length-append}
-use Rattle.std.proofs.lemmas.List.Elements.{All-contains, All-contains_itself, All-filter, filter_passes}
 use Rattle.std.proofs.lemmas.Simd.{map-map}
 use Rattle.suit_game.specs.declared.question.Question.{Question}
 use Rattle.suit_game.specs.Validity.{IsValid}
@@ -21,7 +20,7 @@ use Rattle.suit_classes.proofs.DefenceSizes.{sum-defence_sizes}
 use Rattle.suit_classes.proofs.DistinctMoves.{once_filter, once_unless}
 use Rattle.suit_classes.proofs.SameMoves.{among-Contains}
 use Rattle.suit_classes.proofs.ToldHistories.{allows-push}
-use Rattle.suit_layouts.proofs.ListedCounts.{Contains-filter, class_layouts_exact}
+use Rattle.suit_layouts.proofs.ListedCounts.{Contains-filter, Contains-map, class_layouts_exact}
 use Rattle.suit_plans.specs.declared.moves.DeclarerMove.{DeclarerMove}
 use Rattle.suit_plans.specs.declared.defence_rows.Defence.{Defence}
 use Rattle.suit_plans.specs.BestReplies.{Reply, allowing_layouts, choices, most_reply, reply_to_defence}
@@ -29,6 +28,7 @@ use Rattle.suit_plans.specs.Masses.{defence_mass, defenders, weight_of}
 use Rattle.suit_plans.specs.Properness.{IsProperDefence, some_allows}
 use Rattle.suit_plans.proofs.MassBounds.{mass_falls}
 use Rattle.suit_plans.proofs.ProperDefences.{defences_are_realised}
+use Rattle.suit_tree.proofs.CountedNodes.{kept_parts}
 use Rattle.suit_tree.proofs.MovesOn.{once_every_move}
 use Rattle.suit_reply.specs.declared.found.Choice.{Choice}
 use Rattle.suit_reply.proofs.PlanReplies.{chosen_one, live_rises}
@@ -56,23 +56,10 @@ passing_some test (first ∷ xs) x found passes = elim (Contains-cons_cases firs
   | inr there ↦ or_right (test first) (list_any test xs) (passing_some test xs x there passes)
 ]
 
-kept_parts : {X : Type 0} (test : X → Bool) (xs : List X) (x : X) → Contains (filter test xs) x → Contains xs x × (test x ≡ true)
-kept_parts {X} test xs x found = (
-  All-contains (Contains xs) (filter test xs) x (All-filter test (Contains xs) xs (All-contains_itself xs)) found,
-  All-contains (λ (y : X). test y ≡ true) (filter test xs) x (filter_passes test xs) found,
-)
-
 none_passing : {X : Type 0} (test : X → Bool) (xs : List X) → ((x : X) → test x ≡ true → ⊥) → filter test xs ≡ []
 none_passing test [] none = refl
 none_passing {X} test (x ∷ xs) none =
     ap (λ (b : Bool). if b then x ∷ filter test xs else filter test xs) (false_from_ne_true (test x) (none x)) ∙ none_passing test xs none
-
-Contains-map_to : {X Y : Type 0} (f : X → Y) (xs : List X) (x : X) → Contains xs x → Contains (map f xs) (f x)
-Contains-map_to f [] x found = absurd (Contains-nil x found)
-Contains-map_to {X} {Y} f (first ∷ xs) x found = elim (Contains-cons_cases first xs x found) [
-  | inl here ↦ subst (λ (z : X). Contains (f first ∷ map f xs) (f z)) here (Contains-first (f first) (map f xs))
-  | inr there ↦ Contains-later (f first) (map f xs) (f x) (Contains-map_to f xs x there)
-]
 
 -- ---- class layouts
 
@@ -87,7 +74,7 @@ layout_weighs question layout found =
 layout_allows : (question : Question) (layout : List ℕ × ℕ) (history : List ClassMove) → IsValid question → Contains (question_layouts question) layout → allows question layout.0 history ≡ true
     → Allows question layout.0 history
 layout_allows question layout history valid found told =
-    (allows_tells question layout.0 history valid (Contains-map_to (λ (other : List ℕ × ℕ). other.0) (question_layouts question) layout found)).0 told
+    (allows_tells question layout.0 history valid (Contains-map (λ (other : List ℕ × ℕ). other.0) (question_layouts question) layout found)).0 told
 
 -- some class layout allows no history of more than 52 moves
 none_longer : (question : Question) (history : List ClassMove) (move : ClassMove) → IsValid question → length history ≡ 52 → some_allows question (history ++ move ∷ []) ≡ true → ⊥

@@ -6,7 +6,7 @@ use Rattle.std.specs.List.{take-map}
 use Rattle.std.proofs.lemmas.Int.{ints}
 use Rattle.std.proofs.lemmas.List.Elements.{All-contains, Contains-get_or}
 use Rattle.suit_plans.specs.Properness.{total}
-use Rattle.suit_reply.proofs.ExchangedTotals.{one_within}
+use Rattle.suit_plans.proofs.SharedSums.{within_total}
 use Rattle.suit_reply.proofs.LeastBounds.{IsPaid, first_sums, total_paid}
 use Rattle.suit_reply.proofs.MostBounds.{product_paid}
 
@@ -16,7 +16,7 @@ pub one_mass : (masses : List (ℕ × ℤ)) (i : ℕ) (d : ℕ × ℤ) (most : �
 one_mass masses i d most positive within below =
     let found : Contains masses (get_or masses i d) = Contains-get_or masses i d below in
     let each : (held : ℕ × ℤ) → Contains masses held → pos 0 ≤ℤ held.1 = λ held there. All-contains (λ (other : ℕ × ℤ). pos 0 ≤ℤ other.1) masses held positive there in
-    let one : (get_or masses i d).1 ≤ℤ total (map (λ held. held.1) masses) = one_within (λ (held : ℕ × ℤ). held.1) masses (get_or masses i d) each found in
+    let one : (get_or masses i d).1 ≤ℤ total (map (λ held. held.1) masses) = within_total (λ (held : ℕ × ℤ). held.1) masses (get_or masses i d) each found in
     (each (get_or masses i d) found, through (get_or masses i d).1 (total (map (λ held. held.1) masses)) most one within)
   where
     through : (a b c : ℤ) → a ≤ℤ b → b ≤ℤ c → a ≤ℤ c

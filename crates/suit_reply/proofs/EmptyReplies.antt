@@ -15,9 +15,9 @@ use Rattle.suit_plans.specs.Properness.{total}
 use Rattle.suit_plans.specs.declared.rows.Plan.{Plan}
 use Rattle.suit_reply.specs.Gathering.{nothing}
 use Rattle.suit_reply.proofs.GatheredWorths.{same_found}
-use Rattle.suit_reply.proofs.WalkedReplies.{walked}
+use Rattle.suit_reply.proofs.WalkedReplies.{walked, walked_none}
 use Rattle.suit_reply.proofs.LeastCases.{LeastCase, case_allows, case_next, reply_at, west_at}
-use Rattle.suit_reply.proofs.ReplySteps.{found_from, walked_none, worth_on}
+use Rattle.suit_reply.proofs.ReplySteps.{found_from, worth_on}
 
 -- numbers that are all 0 add up to 0
 pub total_none : {X : Type 0} (f : X → ℤ) (xs : List X) → ((x : X) → Contains xs x → f x ≡ pos 0) → total (map f xs) ≡ pos 0

@@ -1,11 +1,9 @@
 -- Finite sums of whole numbers, and double sums in either order.
-use Rattle.std.proofs.Common.{◌≡◌, Bool, true, false, cond, List, [], ◌∷◌, map, refl, sym, ap, ◌∙◌, inl, inr, arith}
-use Rattle.std.specs.Prelude.{Contains, filter, if◌then◌else◌, ℤ, pos, ◌+ℤ◌, ◌≤ℤ◌}
+use Rattle.std.proofs.Common.{◌≡◌, Bool, true, false, cond, List, [], ◌∷◌, map, refl, sym, ap, ◌∙◌, arith}
+use Rattle.std.specs.Prelude.{filter, if◌then◌else◌, ℤ, pos, ◌+ℤ◌}
 use Rattle.std.proofs.lemmas.Int.{ints}
-use Rattle.suit_game.proofs.EachElement.{Contains-cons_cases, Contains-first, Contains-later, Contains-nil}
 use Rattle.suit_plans.specs.Properness.{total}
 use Rattle.suit_reply.proofs.EmptyReplies.{total_none}
-use Rattle.suit_reply.proofs.LeastBounds.{first_sums}
 
 kept_case : {X : Type 0} (f : X → ℤ) (x : X) (kept : List X) (b : Bool) → total (map f (cond b (x ∷ kept) kept)) ≡ (if b then f x else pos 0) +ℤ total (map f kept)
 unfolding total
@@ -29,20 +27,3 @@ unfolding total
 totals_exchanged f [] ys = sym (total_none (λ y. pos 0) ys (λ y found. refl))
 totals_exchanged f (x ∷ xs) ys =
     ap (λ (z : ℤ). total (map (f x) ys) +ℤ z) (totals_exchanged f xs ys) ∙ sym (total_both (f x) (λ y. total (map (λ z. f z y) xs)) ys)
-
--- where no number is negative none is more than the sum
-pub one_within : {X : Type 0} (f : X → ℤ) (xs : List X) (x : X) → ((y : X) → Contains xs y → pos 0 ≤ℤ f y) → Contains xs x → f x ≤ℤ total (map f xs)
-unfolding total
-one_within f [] x positive found = absurd (Contains-nil x found)
-one_within {X} f (first ∷ xs) x positive found =
-    let head : pos 0 ≤ℤ f first = positive first (Contains-first first xs) in
-    let later : (y : X) → Contains xs y → pos 0 ≤ℤ f y = λ y there. positive y (Contains-later first xs y there) in
-    elim (Contains-cons_cases first xs x found) [
-      | inl here ↦
-          let same : f first ≡ f x = ap f here in
-          let rest : pos 0 ≤ℤ total (map f xs) = (first_sums f xs 0 later).2 in
-          omega (arith, ints, same, rest)
-      | inr there ↦
-          let within : f x ≤ℤ total (map f xs) = one_within f xs x later there in
-          omega (arith, ints, head, within)
-    ]

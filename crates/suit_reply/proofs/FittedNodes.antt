@@ -1,10 +1,29 @@
--- What is made of nodes that fit moves, told of the moves.
-use Rattle.std.proofs.Common.{◌≡◌, Bool, true, false, cond, List, [], ◌∷◌, map, refl, ap, ◌∙◌}
+-- The moves that nodes fit, and what is made of the nodes, told of the moves.
+use Rattle.std.proofs.Common.{◌≡◌, ℕ, zero, suc, ◌<◌, Bool, true, false, cond, List, [], ◌∷◌, length, get_or, map, refl, ap, ◌∙◌, subst, arith}
 use Rattle.std.specs.Prelude.{Contains, filter}
 use Rattle.suit_game.proofs.EachElement.{Contains-first, Contains-later}
 use Rattle.suit_classes.specs.declared.class_moves.ClassMove.{ClassMove}
 use Rattle.suit_tree.specs.declared.node.Node.{Node}
 use Rattle.suit_tree.specs.Trees.{AllFit}
+
+-- a node that stands at a place fits one of the moves
+pub fitted_at : (Fits : ClassMove → Node → Type 0) (moves : List ClassMove) (nodes : List Node) (i : ℕ) (d : Node) → AllFit Fits moves nodes → i < length nodes
+    → (move : ClassMove) × Contains moves move × Fits move (get_or nodes i d)
+unfolding AllFit
+fitted_at Fits [] [] i d fit below = absurd (omega (arith, below))
+fitted_at Fits [] (node ∷ nodes) i d fit below = absurd fit
+fitted_at Fits (move ∷ moves) [] i d fit below = absurd fit
+fitted_at Fits (move ∷ moves) (node ∷ nodes) zero d fit below = (move, Contains-first move moves, fit.0)
+fitted_at Fits (move ∷ moves) (node ∷ nodes) (suc i) d fit below =
+    let later = fitted_at Fits moves nodes i d fit.1 (omega (arith, below)) in
+    (later.0, Contains-later move moves later.0 later.1, later.2)
+
+-- so does a node that is one of them
+pub fitted_node : (Fits : ClassMove → Node → Type 0) (moves : List ClassMove) (nodes : List Node) (node : Node) → AllFit Fits moves nodes → Contains nodes node
+    → (move : ClassMove) × Contains moves move × Fits move node
+fitted_node Fits moves nodes node fit found =
+    let at = fitted_at Fits moves nodes found.0 node fit found.1 in
+    (at.0, at.1, subst (Fits at.0) found.2 at.2)
 
 first_with : {X : Type 0} (x y : X) (xs ys : List X) → x ≡ y → xs ≡ ys → x ∷ xs ≡ y ∷ ys
 first_with {X} x y xs ys same alike = ap (λ (z : X). z ∷ xs) same ∙ ap (λ (l : List X). y ∷ l) alike

@@ -7,11 +7,13 @@ use Rattle.std.specs.Ordering.{int_eq}
 use Rattle.std.proofs.lemmas.Bool.{cases_Bool, false_from_ne_true}
 use Rattle.std.proofs.lemmas.Bool.Decides.{Decides-int_eq, nat_tests, not_from_Decides}
 use Rattle.std.proofs.lemmas.Int.{ints, clamps}
-use Rattle.std.proofs.lemmas.List.{append-nil, append_assoc}
+use Rattle.std.proofs.lemmas.List.{append-nil, append_assoc, map-append}
+use Rattle.std.proofs.lemmas.List.Sums.{fold-append}
 use Rattle.suit_classes.specs.declared.class_moves.ClassMove.{ClassMove}
 use Rattle.suit_plans.specs.BestReplies.{best_of, first_of}
 use Rattle.suit_plans.specs.Properness.{total}
 use Rattle.suit_reply.specs.declared.found.Choice.{Choice}
+use Rattle.suit_reply.specs.declared.found.Gather.{Gather}
 use Rattle.suit_reply.specs.declared.found.Gather.TheVariants.{Sum, Least, Most}
 use Rattle.suit_reply.specs.Gathering.{FoundView, Gathered, finished, gathered, gathered_none, joined, taken}
 use Rattle.suit_reply.proofs.WalkedReplies.{choice_at}
@@ -61,6 +63,30 @@ sum_gathered found moves =
     let rest : List Choice = flat_map (λ move. (found move).choices) moves in
     summed_on found moves gathered_none
     ∙ same_found (pos 0 +ℤ later) later ([] ++ rest) rest (omega (arith, ints)) refl
+
+-- ---- one result more
+
+-- one result more is joined to those gathered
+pub gathered-push : {X : Type 0} (how : Gather) (told : X → ClassMove × FoundView) (xs : List X) (x : X)
+    → gathered how (map told (xs ++ x ∷ [])) ≡ joined how (gathered how (map told xs)) (told x).0 (told x).1
+unfolding gathered
+gathered-push {X} how told xs x =
+    let step : Gathered → ClassMove × FoundView → Gathered = λ so_far result. joined how so_far result.0 result.1 in
+    ap (fold step gathered_none) (map-append told xs (x ∷ [])) ∙ fold-append step gathered_none (map told xs) (told x ∷ [])
+
+taken_case : (b : Bool) (so_far : Gathered) (move : ClassMove) (found : FoundView)
+    → (if b then record { found = found; by = move; many = so_far.many + 1 } else record so_far { many = so_far.many + 1 }).many ≡ so_far.many + 1
+taken_case true so_far move found = refl
+taken_case false so_far move found = refl
+
+taken_many : (better : Bool) (so_far : Gathered) (move : ClassMove) (found : FoundView) → (taken better so_far move found).many ≡ so_far.many + 1
+taken_many better so_far move found = taken_case (so_far.many == 0 || better) so_far move found
+
+-- which makes one move more
+pub joined_many : (how : Gather) (so_far : Gathered) (move : ClassMove) (found : FoundView) → (joined how so_far move found).many ≡ so_far.many + 1
+joined_many Sum so_far move found = refl
+joined_many Least so_far move found = taken_many (int_lt found.worth so_far.found.worth) so_far move found
+joined_many Most so_far move found = taken_many (int_lt so_far.found.worth found.worth) so_far move found
 
 -- ---- the best
 

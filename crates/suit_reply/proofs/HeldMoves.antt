@@ -1,5 +1,5 @@
 -- The moves of the nodes below a node, against the class moves in a class layout that the node holds.
-use Rattle.std.proofs.Common.{◌≡◌, ◌⊎◌, ℕ, Bool, true, false, cond, List, [], ◌∷◌, ◌++◌, length, refl, sym, ap, ◌∙◌, subst, inl, inr, arith}
+use Rattle.std.proofs.Common.{◌≡◌, ◌⊎◌, ℕ, Bool, true, false, List, [], ◌∷◌, ◌++◌, length, refl, sym, ap, ◌∙◌, subst, inl, inr, arith}
 use Rattle.std.specs.Prelude.{◌↔◌, ◌&&◌, ◌==◌, Contains, filter, get_or, nat_lt, if◌then◌else◌}
 use Rattle.std.specs.Bool.{Decides}
 use Rattle.std.specs.List.{list_any}
@@ -23,6 +23,7 @@ use Rattle.suit_plans.specs.Masses.{is_declarers, is_defences}
 use Rattle.suit_plans.proofs.TurnMoves.{HasFirst, declarers_moves, some_move as first_move}
 use Rattle.suit_tree.specs.Trees.{allowing, counts_at, moves_on}
 use Rattle.suit_tree.proofs.CountedNodes.{kept_layouts}
+use Rattle.suit_tree.proofs.GrownTrees.{filter_both}
 use Rattle.suit_tree.proofs.MoveLists.{class_moves_listed}
 
 -- ---- whose turn it is
@@ -109,16 +110,6 @@ held_is question history move place valid held =
     let tells = held_decides place (allowing question (history ++ move ∷ [])) in
     same_from_decides (is_held place (allowing question (history ++ move ∷ []))) (is_among moves move)
     (λ told. goes.0 (tells.0 told), λ found. tells.1 (goes.1 found)) (among_decides moves move)
-
-filtered_either : (p q : ClassMove → Bool) (x : ClassMove) (xs : List ClassMove) (b : Bool)
-    → filter p (cond b (x ∷ filter q xs) (filter q xs)) ≡ cond (b && p x) (x ∷ filter p (filter q xs)) (filter p (filter q xs))
-filtered_either p q x xs true = refl
-filtered_either p q x xs false = refl
-
--- what two filters keep is what both tests pass
-filter_both : (p q : ClassMove → Bool) (xs : List ClassMove) → filter p (filter q xs) ≡ filter (λ x. q x && p x) xs
-filter_both p q [] = refl
-filter_both p q (x ∷ xs) = filtered_either p q x xs (q x) ∙ ap (λ (l : List ClassMove). cond (q x && p x) (x ∷ l) l) (filter_both p q xs)
 
 both_second : (b c : Bool) → (c ≡ true → b ≡ true) → (b && c) ≡ c
 both_second true c gives = refl

@@ -19,8 +19,8 @@ use Rattle.suit_classes.specs.AllowedHistories.{question_layouts}
 use Rattle.suit_tree.specs.Trees.{allowing, counts_at}
 use Rattle.suit_tree.proofs.CountedNodes.{kept_layouts}
 use Rattle.suit_reply.proofs.HeldMoves.{place_goes_on, some_move}
-use Rattle.suit_reply.proofs.WalkedReplies.{walked}
-use Rattle.suit_reply.proofs.ReplySteps.{walked_none, walked_on, worth_on}
+use Rattle.suit_reply.proofs.WalkedReplies.{walked, walked_none}
+use Rattle.suit_reply.proofs.ReplySteps.{walked_on, worth_on}
 
 -- what a node is asked for: the reply to a plan from a class history on, which the class layout at a place allows
 pub record LeastCase (more : ℕ) (question : Question) (plan : Plan) (place : ℕ) (history : List ClassMove) : Type 0 where

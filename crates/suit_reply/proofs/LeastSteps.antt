@@ -1,40 +1,39 @@
 -- How the defence's reply to a plan is found at a node, child by child.
 use Rattle.std.proofs.Common.{◌≡◌, ◌⊎◌, of_z, ℕ, zero, suc, ◌+◌, ◌-◌, ◌<◌, ◌≤◌, Bool, true, false, cond, List, [], ◌∷◌, ◌++◌, length, map, take, refl, sym, ap, ◌∙◌, subst, inl, inr, arith}
-use Rattle.std.specs.Prelude.{Contains, ◌^◌, ◌==◌, ◌||◌, int_lt, filter, fold, get_or, if◌then◌else◌, ℤ, pos, ◌*ℤ◌, ◌≤ℤ◌}
+use Rattle.std.specs.Prelude.{Contains, ◌^◌, filter, get_or, if◌then◌else◌, ℤ, pos, ◌*ℤ◌, ◌≤ℤ◌}
 use Rattle.std.specs.Ordering.{int_eq}
 use Rattle.std.proofs.lemmas.Bool.{false≢true, false_from_ne_true}
 use Rattle.std.proofs.lemmas.Bool.Decides.{Decides-int_eq}
 use Rattle.std.specs.Int.{w128}
 use Rattle.std.proofs.lemmas.Int.{ints}
-use Rattle.std.proofs.lemmas.List.{append-nil, length-append, map-append, take-append-le, take_all, take_more}
+use Rattle.std.proofs.lemmas.List.{append-nil, length-append, take_all, take_more}
 use Rattle.std.proofs.lemmas.List.Elements.{Contains-get_or, filter-append}
-use Rattle.std.proofs.lemmas.List.Sums.{fold-append}
 use Rattle.suit_cards.specs.declared.seats.Seat.{Seat}
 use Rattle.suit_game.specs.declared.question.Question.{Question}
-use Rattle.suit_game.proofs.EachElement.{Contains-cons_cases, Contains-first, Contains-later, Contains-nil}
+use Rattle.suit_game.proofs.EachElement.{Contains-nil}
 use Rattle.suit_classes.specs.declared.class_moves.ClassMove.{ClassMove}
 use Rattle.suit_classes.specs.declared.class_turn.ClassTurn.{ClassTurn}
 use Rattle.suit_classes.specs.declared.class_turn.ClassTurn.TheVariants as turns
 use Rattle.suit_classes.specs.ClassPlaces.{ClassView, class_after, class_decided, class_moves}
 use Rattle.suit_plans.specs.Masses.{declarer, is_declarers, is_defences, is_first, plan_counts_at, plan_mass, share}
 use Rattle.suit_plans.specs.Orders.{InOrder, plan_row_before}
-use Rattle.suit_plans.specs.Properness.{plan_row_fault}
 use Rattle.suit_plans.specs.declared.rows.Plan.{Plan}
 use Rattle.suit_plans.specs.declared.rows.Row.{Row}
 use Rattle.suit_plans.proofs.MassBounds.{mass_falls}
-use Rattle.suit_plans.proofs.ProperPlans.{plans_are_realised, proper_plan, told_order}
-use Rattle.suit_plans.proofs.RowOrder.{IsRowOrder-histories, faultless_in_order}
+use Rattle.suit_plans.proofs.ProperPlans.{plans_are_realised}
+use Rattle.suit_plans.proofs.ProperOrders.{plan_in_order}
 use Rattle.suit_plans.proofs.TurnMoves.{declarers_moves}
 use Rattle.suit_tree.specs.Nodes.{children_of, payoff_at, turn_at}
 use Rattle.suit_tree.specs.Trees.{AllFit, IsTreeAt, StandsAt, allowing, moves_on}
 use Rattle.suit_tree.specs.declared.node.Node.{Node}
 use Rattle.suit_tree.proofs.NodePaths.{tree_stands}
 use Rattle.suit_reply.specs.declared.found.Gather.{Gather}
-use Rattle.suit_reply.specs.declared.found.Gather.TheVariants.{Sum, Least, Most}
-use Rattle.suit_reply.specs.Gathering.{FoundView, Gathered, finished, gathered, gathered_none, joined, nothing, taken}
+use Rattle.suit_reply.specs.declared.found.Gather.TheVariants.{Sum, Least}
+use Rattle.suit_reply.specs.Gathering.{FoundView, Gathered, finished, gathered, gathered_none, joined, nothing}
 use Rattle.suit_reply.specs.LeastNodes.{LeastNode}
 use Rattle.suit_reply.specs.NodeReplies.{goes_to, holds_place, is_first_of, least_at, move_of, node_least, nodes_for, or_show_out, plan_share}
-use Rattle.suit_reply.proofs.GatheredWorths.{found_with}
+use Rattle.suit_reply.proofs.FittedNodes.{fitted_node}
+use Rattle.suit_reply.proofs.GatheredWorths.{found_with, gathered-push}
 use Rattle.suit_reply.proofs.HeldMoves.{Declarers, Defences, Over, WhoseTurn, held_decides, is_held, own_moves_on, place_goes_on, whose_turn}
 use Rattle.suit_reply.proofs.LeastByNodes.{AreBelow, moves_below, own_mass}
 use Rattle.suit_reply.proofs.LeastCases.{LeastCase, case_allows, west_at}
@@ -78,9 +77,7 @@ node_case rows place history mass node is = record {
 
 -- the rows of a proper plan stand in order
 pub node_rows : (rows : List Row) (place : ℕ) (history : List ClassMove) (mass : ℤ) (node : Node) → LeastNode rows place history mass node → InOrder plan_row_before rows
-node_rows rows place history mass node is =
-    subst (InOrder plan_row_before) is.is_rows
-    (faultless_in_order plan_row_before (plan_row_fault is.question is.plan.den) is.plan.rows IsRowOrder-histories (told_order is.question is.plan.den) (proper_plan is.question is.plan is.proper).2)
+node_rows rows place history mass node is = subst (InOrder plan_row_before) is.is_rows (plan_in_order is.question is.plan is.proper)
 
 -- ---- the children to which play goes on
 
@@ -108,16 +105,6 @@ pub gathered_first : (how : Gather) (rows : List Row) (place : ℕ) (history : L
     → gathered_none ≡ gathered_from how rows place history mass node (nodes_for turn place [])
 unfolding gathered
 gathered_first how rows place history mass node turn = ap (gathered_from how rows place history mass node) (sym (nodes_for-none turn place))
-
--- it joins what is found below it
-pub gathered-push : (how : Gather) (rows : List Row) (place : ℕ) (history : List ClassMove) (mass : ℤ) (node : Node) (nodes : List Node) (child : Node)
-    → gathered_from how rows place history mass node (nodes ++ child ∷ [])
-    ≡ joined how (gathered_from how rows place history mass node nodes) (child_found (52 - length history - 1) rows place history mass node child).0 (child_found (52 - length history - 1) rows place history mass node child).1
-unfolding gathered
-gathered-push how rows place history mass node nodes child =
-    let found : Node → ClassMove × FoundView = child_found (52 - length history - 1) rows place history mass node in
-    ap (λ (l : List (ClassMove × FoundView)). fold (λ so_far result. joined how so_far result.0 result.1) gathered_none l) (map-append found nodes (child ∷ []))
-    ∙ fold-append (λ so_far result. joined how so_far result.0 result.1) gathered_none (map found nodes) (found child ∷ [])
 
 -- what is gathered is what is found at the turn
 pub finished_at : (turn : ClassTurn) (how : Gather) (payoff : ℕ) (mass : ℤ) (history : List ClassMove) (results : List (ClassMove × FoundView)) → Gathers turn how
@@ -151,19 +138,7 @@ closed (suc more) rows place history mass node none =
     if b then nothing
     else least_at (turn_at node) (payoff_at node) mass history (map (child_found more rows place history mass node) (nodes_for (turn_at node) place (children_of node)))) none
 
--- ---- the node by a move
-
-fitted_node : (Fits : ClassMove → Node → Type 0) (moves : List ClassMove) (nodes : List Node) (node : Node) → AllFit Fits moves nodes → Contains nodes node
-    → (move : ClassMove) × Contains moves move × Fits move node
-unfolding AllFit
-fitted_node Fits moves [] node fit found = absurd (Contains-nil node found)
-fitted_node Fits [] (first ∷ nodes) node fit found = absurd fit
-fitted_node Fits (move ∷ moves) (first ∷ nodes) node fit found = elim (Contains-cons_cases first nodes node found) [
-  | inl here ↦ (move, Contains-first move moves, subst (Fits move) here fit.0)
-  | inr there ↦
-      let later = fitted_node Fits moves nodes node fit.1 there in
-      (later.0, Contains-later move moves later.0 later.1, later.2)
-]
+-- ---- a child of a node
 
 -- a child of a node of the tree, by a move with which the tree goes on
 pub record IsChild (more : ℕ) (question : Question) (history : List ClassMove) (node child : Node) : Type 0 where
@@ -386,7 +361,7 @@ goes_joined how rows place history mass node i child move part so_far after foun
     ∙ ap (λ (g : Gathered). joined how g move found) was
     ∙ ap (λ (m : ClassMove). joined how (gathered_from how rows place history mass node before) m found) on.moved
     ∙ ap (joined how (gathered_from how rows place history mass node before) (move_of child)) told
-    ∙ sym (gathered-push how rows place history mass node before child)
+    ∙ sym (gathered-push how (child_found (52 - length history - 1) rows place history mass node) before child)
     ∙ ap (gathered_from how rows place history mass node) (sym (ap (nodes_for (turn_at node) place) longer ∙ nodes_for-push (turn_at node) place (take i (children_of node)) child true on.goes))
 
 -- with one to which it does not
@@ -400,20 +375,6 @@ passed_by how rows place history mass node i child so_far within at stays was =
     ∙ ap (gathered_from how rows place history mass node)
     (sym (ap (nodes_for (turn_at node) place) longer ∙ nodes_for-push (turn_at node) place (take i (children_of node)) child false stays
     ∙ append-nil (nodes_for (turn_at node) place (take i (children_of node)))))
-
-taken_case : (b : Bool) (so_far : Gathered) (move : ClassMove) (found : FoundView)
-    → (if b then record { found = found; by = move; many = so_far.many + 1 } else record so_far { many = so_far.many + 1 }).many ≡ so_far.many + 1
-taken_case true so_far move found = refl
-taken_case false so_far move found = refl
-
-taken_many : (better : Bool) (so_far : Gathered) (move : ClassMove) (found : FoundView) → (taken better so_far move found).many ≡ so_far.many + 1
-taken_many better so_far move found = taken_case (so_far.many == 0 || better) so_far move found
-
--- one move more is counted
-pub joined_many : (how : Gather) (so_far : Gathered) (move : ClassMove) (found : FoundView) → (joined how so_far move found).many ≡ so_far.many + 1
-joined_many Sum so_far move found = refl
-joined_many Least so_far move found = taken_many (int_lt found.worth so_far.found.worth) so_far move found
-joined_many Most so_far move found = taken_many (int_lt so_far.found.worth found.worth) so_far move found
 
 -- all children told, that is what the node tells
 pub all_told : (how : Gather) (rows : List Row) (place : ℕ) (history : List ClassMove) (mass : ℤ) (node : Node) (i : ℕ) (so_far : Gathered) (found : FoundView) → LeastNode rows place history mass node
@@ -440,13 +401,3 @@ some_mass mass some = false_from_ne_true (int_eq mass (pos 0)) (λ none. some (a
 -- what a move is added to is the node's history
 pub added_to : (history kept after : List ClassMove) (move : ClassMove) → after ≡ kept ++ move ∷ [] → kept ≡ history → after ≡ history ++ move ∷ []
 added_to history kept after move pushed keeps = pushed ∙ ap (λ (h : List ClassMove). h ++ move ∷ []) keeps
-
--- and what the last move is taken from is the node's history again
-pub taken_back : (history before after : List ClassMove) (move : ClassMove) (n : ℕ) → before ≡ history ++ move ∷ [] → n ≡ length before → after ≡ take (n - 1) before → after ≡ history
-taken_back history before after move n pushed long popped =
-    let short : n - 1 ≡ length history = omega (arith, long, ap (λ (l : List ClassMove). length l) pushed, length-append history (move ∷ [])) in
-    popped
-    ∙ ap (λ (k : ℕ). take k before) short
-    ∙ ap (λ (l : List ClassMove). take (length history) l) pushed
-    ∙ take-append-le (length history) history (move ∷ []) (omega arith)
-    ∙ take_all (length history) history (omega arith)

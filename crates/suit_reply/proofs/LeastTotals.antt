@@ -4,10 +4,9 @@ use Rattle.std.specs.Prelude.{Contains, FitsSigned, ◌^◌, ℤ, pos, ◌+ℤ�
 use Rattle.std.specs.Int.{w128}
 use Rattle.std.specs.List.{flat_map, range_with_len}
 use Rattle.std.proofs.lemmas.Int.{fits_signed_from_abs, ints}
-use Rattle.std.proofs.lemmas.List.{append-nil, get_or_default, map-id}
+use Rattle.std.proofs.lemmas.List.{append-nil, get_or_default}
 use Rattle.std.proofs.lemmas.List.Concat.{flat_map-append}
-use Rattle.std.proofs.lemmas.List.Elements.{Contains-get_or}
-use Rattle.std.proofs.lemmas.List.FromFn.{get_or-range_with_len, length-range_with_len, map-range_with_len_more, take-map-range_with_len}
+use Rattle.std.proofs.lemmas.List.FromFn.{map-range_with_len_more, take-map-range_with_len}
 use Rattle.std.proofs.lemmas.Simd.{map-map}
 use Rattle.std.proofs.Math.IntN.{*ℤ_comm}
 use Rattle.suit_num.proofs.IntegerLaws.{le-mul_right, mul_left_comm, mul_not_negative}
@@ -17,9 +16,7 @@ use Rattle.suit_game.specs.Validity.{IsValid}
 use Rattle.suit_game.proofs.FilledPlaces.{total_at_most}
 use Rattle.suit_classes.specs.declared.class_moves.ClassMove.{ClassMove}
 use Rattle.suit_classes.specs.AllowedHistories.{question_layouts}
-use Rattle.suit_classes.specs.Classes.{defence_sizes, hands_of}
-use Rattle.suit_classes.proofs.DefenceSizes.{defence_sizes-some, length-defence_sizes, sum-defence_sizes}
-use Rattle.suit_layouts.proofs.FewCounts.{class_layouts_few}
+use Rattle.suit_layouts.proofs.ListedCounts.{Contains-range}
 use Rattle.suit_plans.specs.declared.moves.DefenceMove.{DefenceMove}
 use Rattle.suit_plans.specs.declared.rows.Plan.{Plan}
 use Rattle.suit_plans.specs.declared.rows.Row.{Row}
@@ -31,6 +28,8 @@ use Rattle.suit_plans.proofs.SharedSums.{int_le-true}
 use Rattle.suit_tree.specs.declared.node.Node.{Node}
 use Rattle.suit_tree.specs.declared.tree.Tree.{Tree}
 use Rattle.suit_tree.specs.Trees.{layout_places}
+use Rattle.suit_tree.proofs.CountedNodes.{in_range_below}
+use Rattle.suit_tree.proofs.GrowingSteps.{range_longer}
 use Rattle.suit_tree.proofs.GrownTrees.{allowing_first}
 use Rattle.suit_reply.specs.declared.found.Choice.{Choice}
 use Rattle.suit_reply.specs.Gathering.{FoundView}
@@ -41,36 +40,9 @@ use Rattle.suit_reply.proofs.FirstMasses.{weighed_total, weights_add}
 use Rattle.suit_reply.proofs.LeastBounds.{IsPaid, first_sums, total_paid, worth_paid}
 use Rattle.suit_reply.proofs.LeastByNodes.{least_by_nodes}
 use Rattle.suit_reply.proofs.LeastCases.{LeastCase, case_allows, reply_at, west_at}
+use Rattle.suit_reply.proofs.ListWalks.{total_push}
 use Rattle.suit_reply.proofs.PlanReplies.{least_reply_walked}
 use Rattle.suit_reply.proofs.ReplySteps.{found_from}
-
--- ---- places
-
-range_contains : (n place : ℕ) → place < n → Contains (range_with_len 0 n) place
-range_contains n place below =
-    let here : get_or (range_with_len 0 n) place 0 ≡ place = get_or-range_with_len 0 n place 0 below ∙ omega arith in
-    subst (Contains (range_with_len 0 n)) here (Contains-get_or (range_with_len 0 n) place 0 (omega (arith, below, length-range_with_len 0 n)))
-
-range_from : (n place : ℕ) → Contains (range_with_len 0 n) place → place < n
-range_from n place found =
-    let short : found.0 < n = omega (arith, found.1, length-range_with_len 0 n) in
-    omega (arith, short, sym found.2 ∙ get_or-range_with_len 0 n found.0 place short)
-
-range_push : (n : ℕ) → range_with_len 0 (n + 1) ≡ range_with_len 0 n ++ n ∷ []
-range_push n =
-    sym (map-id (range_with_len 0 (n + 1))) ∙ map-range_with_len_more (λ place. place) 0 n n (omega arith) ∙ ap (λ (l : List ℕ). l ++ n ∷ []) (map-id (range_with_len 0 n))
-
-total-push : (numbers : List ℤ) (last : ℤ) → total (numbers ++ last ∷ []) ≡ total numbers +ℤ last
-unfolding total
-total-push [] last = omega (arith, ints)
-total-push (number ∷ numbers) last = omega (arith, ints, total-push numbers last)
-
--- a question has few class layouts
-pub layouts_few : (question : Question) → length (question_layouts question) ≤ 162
-unfolding question_layouts
-layouts_few question =
-    let hands = hands_of question in
-    class_layouts_few question (defence_sizes hands) (record { some = defence_sizes-some hands; filled = sum-defence_sizes hands; few = length-defence_sizes hands })
 
 -- ---- one class layout
 
@@ -79,7 +51,7 @@ pub first_case : (question : Question) (plan : Plan) (place : ℕ) → IsValid q
 first_case question plan place valid proper below = record {
   valid = valid;
   realised = plans_are_realised question plan (west_at question place) valid proper;
-  held = subst (λ (l : List ℕ). Contains l place) (sym (allowing_first question)) (range_contains (length (question_layouts question)) place below);
+  held = subst (λ (l : List ℕ). Contains l place) (sym (allowing_first question)) (Contains-range 0 (length (question_layouts question)) place (omega arith) (omega (arith, below)));
   left = refl;
 }
 
@@ -176,12 +148,12 @@ one_more tree plan place case number after moves later weight found below weighs
       sum = adds
           ∙ ap (λ (z : ℤ). z +ℤ pos weight *ℤ found.worth) so_far.sum
           ∙ ap (λ (z : ℤ). total (map (weighed_worth question plan) (range_with_len 0 place)) +ℤ z) here
-          ∙ sym (total-push (map (weighed_worth question plan) (range_with_len 0 place)) (weighed_worth question plan place))
+          ∙ sym (total_push (map (weighed_worth question plan) (range_with_len 0 place)) (weighed_worth question plan place))
           ∙ sym (ap total (map-range_with_len_more (weighed_worth question plan) 0 place place (omega arith)));
       replies = joins
           ∙ ap (λ (l : List DefenceMove). l ++ map (named_at place) found.choices) so_far.replies
           ∙ ap (λ (l : List DefenceMove). flat_map replies (range_with_len 0 place) ++ l) choices
-          ∙ sym (ap (flat_map replies) (range_push place)
+          ∙ sym (ap (flat_map replies) (range_longer place)
           ∙ flat_map-append replies (range_with_len 0 place) (place ∷ [])
           ∙ ap (λ (l : List DefenceMove). flat_map replies (range_with_len 0 place) ++ l) (append-nil (replies place)));
     }
@@ -255,7 +227,7 @@ sum_bounds question plan count valid proper within =
     let masses : ℕ → ℤ = λ place. pos (layout_at question place).1 *ℤ plan.den in
     let bounds = den_bounds question plan proper in
     let paid : (place : ℕ) → Contains places place → IsPaid (masses place) (worths place) =
-    λ place found. weighed_paid question plan place valid proper (range_from (length (question_layouts question)) place found) in
+    λ place found. weighed_paid question plan place valid proper (in_range_below (length (question_layouts question)) place found) in
     let whole = total_paid worths masses places paid in
     let first = first_sums worths places count (λ place found. (paid place found).0) in
     let same : total (take count (map worths places)) ≡ total (map worths (range_with_len 0 count)) = ap total (take-map-range_with_len worths 0 (length (question_layouts question)) count within) in
@@ -295,7 +267,7 @@ part_fits tree plan place case weight found below weighs told =
     let after = sum_bounds question plan (place + 1) case.valid case.proper (omega (arith, below)) in
     let adds : total (map (weighed_worth question plan) (range_with_len 0 (place + 1))) ≡ total (map (weighed_worth question plan) (range_with_len 0 place)) +ℤ weighed_worth question plan place =
     ap total (map-range_with_len_more (weighed_worth question plan) 0 place place (omega arith))
-    ∙ total-push (map (weighed_worth question plan) (range_with_len 0 place)) (weighed_worth question plan place) in
+    ∙ total_push (map (weighed_worth question plan) (range_with_len 0 place)) (weighed_worth question plan place) in
     let positive : pos 0 ≤ℤ weighed_worth question plan place = (weighed_paid question plan place case.valid case.proper below).0 in
     subst (FitsSigned w128) (sym here)
     (fits_from (weighed_worth question plan place) positive

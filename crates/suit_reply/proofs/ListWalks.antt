@@ -53,7 +53,8 @@ one_off {X} before all after x n is long off =
 
 -- ---- sums
 
-total_push : (numbers : List ℤ) (number : ℤ) → total (numbers ++ number ∷ []) ≡ total numbers +ℤ number
+-- a number more is added to the sum
+pub total_push : (numbers : List ℤ) (number : ℤ) → total (numbers ++ number ∷ []) ≡ total numbers +ℤ number
 unfolding total
 total_push [] number = omega (arith, ints)
 total_push (first ∷ numbers) number = let later = total_push numbers number in omega (arith, ints, later)

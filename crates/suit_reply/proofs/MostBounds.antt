@@ -20,7 +20,7 @@ use Rattle.suit_tree.specs.Nodes.{payoff_at}
 use Rattle.suit_tree.specs.Trees.{StandsAt, allowing, moves_on}
 use Rattle.suit_reply.specs.NodeReplies.{is_live}
 use Rattle.suit_reply.proofs.AllowingPlaces.{earned_at, mass_at}
-use Rattle.suit_reply.proofs.ExchangedTotals.{one_within, total_kept, totals_exchanged}
+use Rattle.suit_reply.proofs.ExchangedTotals.{total_kept, totals_exchanged}
 use Rattle.suit_reply.proofs.HeldMoves.{Declarers, Defences, Over, WhoseTurn, held_is, held_moves, is_held, whose_turn}
 use Rattle.suit_reply.proofs.LeastBounds.{IsPaid, best_paid, first_sums, paid_most, total_paid}
 use Rattle.suit_reply.proofs.LeastCases.{west_at}
@@ -229,7 +229,7 @@ pub mass_paid : (more : ℕ) (question : Question) (defence : Defence) (history 
 mass_paid more question defence history node held is stands found =
     let masses : List (ℕ × ℤ) = masses_at question defence history in
     let one = product_paid (payoff_at node) held.1 (node_pays more question defence history node is stands) (live_positive question defence history held found) in
-    let within : held.1 ≤ℤ mass_sum question defence history = one_within (λ (other : ℕ × ℤ). other.1) masses held (λ other there. live_positive question defence history other there) found in
+    let within : held.1 ≤ℤ mass_sum question defence history = within_total (λ (other : ℕ × ℤ). other.1) masses held (λ other there. live_positive question defence history other there) found in
     within_bounds (pos (payoff_at node) *ℤ held.1) (pos 13 *ℤ held.1) (mass_sum question defence history) one.0 one.1 (thirteen held.1 (mass_sum question defence history) within)
   where
     thirteen : (a b : ℤ) → a ≤ℤ b → (pos 13 *ℤ a) ≤ℤ (pos 13 *ℤ b)

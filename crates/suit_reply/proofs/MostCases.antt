@@ -22,7 +22,7 @@ use Rattle.suit_plans.specs.declared.defence_rows.Defence.{Defence}
 use Rattle.suit_plans.proofs.MassBounds.{mass_falls}
 use Rattle.suit_plans.proofs.TurnMoves.{some_move}
 use Rattle.suit_tree.specs.Trees.{allowing, counts_at, layout_places, moves_on}
-use Rattle.suit_tree.proofs.CountedNodes.{kept_layouts}
+use Rattle.suit_tree.proofs.CountedNodes.{kept_layouts, some_of}
 use Rattle.suit_tree.proofs.MovesOn.{Contains-moves_on, moves_on-parts}
 use Rattle.suit_reply.specs.Gathering.{nothing}
 use Rattle.suit_reply.proofs.AllowingPlaces.{earned_at, live_at, mass_at, reply_goes_on}
@@ -31,8 +31,8 @@ use Rattle.suit_reply.proofs.GatheredWorths.{same_found}
 use Rattle.suit_reply.proofs.HeldMoves.{place_goes_on}
 use Rattle.suit_reply.proofs.LeastCases.{west_at}
 use Rattle.suit_reply.proofs.LiveMasses.{any_live, live_masses, none_live, not_above}
-use Rattle.suit_reply.proofs.ReplySteps.{found_from, walked_none, walked_on, worth_on}
-use Rattle.suit_reply.proofs.WalkedReplies.{walked}
+use Rattle.suit_reply.proofs.ReplySteps.{found_from, walked_on, worth_on}
+use Rattle.suit_reply.proofs.WalkedReplies.{walked, walked_none}
 
 -- what a node is asked for: the reply to a defence from a class history on, which some class layout allows
 pub record MostCase (more : ℕ) (question : Question) (defence : Defence) (history : List ClassMove) : Type 0 where
@@ -116,16 +116,13 @@ going_place more question defence history is going =
     let found : Contains (class_moves (class_after question history) west) first.first = subst (λ (l : List ClassMove). Contains l first.first) (sym first.parts) (Contains-first first.first first.more) in
     (first.first, place, (place_goes_on question history first.first place is.valid at.1).1 found)
 
-held_somewhere : (places : List ℕ) (place : ℕ) → Contains places place → 0 < length places
-held_somewhere places place found = omega (arith, found.1)
-
 -- so it has a move
 pub some_on : (more : ℕ) (question : Question) (defence : Defence) (history : List ClassMove) → MostCase more question defence history → class_decided (class_after question history) ≡ false
     → moves_on question history ≡ [] → ⊥
 some_on more question defence history is going none =
     let next = going_place more question defence history is going in
     Contains-nil next.0 (subst (λ (l : List ClassMove). Contains l next.0) none
-    (Contains-moves_on question history next.0 going (held_somewhere (allowing question (history ++ next.0 ∷ [])) next.1 next.2)))
+    (Contains-moves_on question history next.0 going (some_of (allowing question (history ++ next.0 ∷ [])) next.1 next.2)))
 
 -- and there is room for it
 pub most_last : (question : Question) (defence : Defence) (history : List ClassMove) → MostCase 0 question defence history → class_decided (class_after question history) ≡ false → ⊥

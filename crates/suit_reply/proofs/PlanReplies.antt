@@ -8,7 +8,7 @@ use Rattle.std.proofs.lemmas.List.{length-append}
 use Rattle.std.proofs.lemmas.Simd.{map-map}
 use Rattle.suit_game.specs.declared.question.Question.{Question}
 use Rattle.suit_game.specs.Validity.{IsValid}
-use Rattle.suit_game.proofs.EachElement.{Contains-first, Contains-nil}
+use Rattle.suit_game.proofs.EachElement.{Contains-first}
 use Rattle.suit_classes.specs.declared.class_moves.ClassMove.{ClassMove}
 use Rattle.suit_classes.specs.ClassGame.{Allows}
 use Rattle.suit_classes.specs.ClassPlaces.{ClassView, class_after, class_decided, class_moves}
@@ -23,6 +23,7 @@ use Rattle.suit_plans.specs.Properness.{IsProperPlan}
 use Rattle.suit_plans.proofs.MassBounds.{mass_falls}
 use Rattle.suit_plans.proofs.ProperPlans.{plans_are_realised}
 use Rattle.suit_plans.proofs.TurnMoves.{some_move}
+use Rattle.suit_tree.proofs.MovesOn.{unless_parts}
 use Rattle.suit_reply.specs.declared.found.Choice.{Choice}
 use Rattle.suit_reply.proofs.ReachedChoices.{IsSteady, choice_of, choices_walked}
 use Rattle.suit_reply.proofs.WalkedReplies.{walked}
@@ -39,11 +40,6 @@ chosen_one false one other = inr refl
 -- so is the lesser of two
 min_picks : (one other : ℤ) → (int_min one other ≡ one) ⊎ (int_min one other ≡ other)
 min_picks one other = elim (chosen_one (int_lt other one) other one) [ inl later ↦ inr later | inr first ↦ inl first ]
-
--- where a position has a move it is not decided, and the move is one of those that it has then
-pub unless_parts : (b : Bool) (moves : List ClassMove) (move : ClassMove) → Contains (if b then [] else moves) move → (b ≡ false) × Contains moves move
-unless_parts true moves move found = absurd (Contains-nil move found)
-unless_parts false moves move found = (refl, found)
 
 -- no class history of 52 moves goes on
 full_decided : (question : Question) (west : List ℕ) (history : List ClassMove) → Allows question west history → length history ≡ 52 → class_decided (class_after question history) ≡ true

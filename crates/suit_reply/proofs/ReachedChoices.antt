@@ -12,10 +12,11 @@ use Rattle.suit_classes.specs.declared.class_moves.ClassMove.{ClassMove}
 use Rattle.suit_classes.specs.ClassMoves.{same_class_move}
 use Rattle.suit_classes.proofs.DistinctMoves.{IsOnce}
 use Rattle.suit_classes.proofs.SameMoves.{same_move-itself, same_move_is}
+use Rattle.suit_classes.proofs.ToldHistories.{and-assoc, and-last}
 use Rattle.suit_plans.specs.BestReplies.{Reply, best_of, choices, first_of, follows, has_choice, histories_within, is_reached, reply_move, worth, worth_at, worth_within}
 use Rattle.suit_plans.specs.Properness.{total}
 use Rattle.suit_reply.specs.declared.found.Choice.{Choice}
-use Rattle.suit_reply.proofs.WalkedReplies.{choice_at, walked, walked_turn}
+use Rattle.suit_reply.proofs.WalkedReplies.{choice_at, walked, walked_none, walked_turn}
 
 -- a reply whose live class histories begin live, whose moves do not repeat, which takes one of two worths, and which has no move where 52 were made
 pub record IsSteady (Fits : List ClassMove → Type 0) (reply : Reply) : Type 0 where
@@ -79,14 +80,6 @@ kept_pieces {X} {Y} {Z} f test piece (x ∷ xs) =
 
 -- ---- the moves of the reply
 
-and_last : (b : Bool) → (b && true) ≡ b
-and_last true = refl
-and_last false = refl
-
-and_joined : (a b c : Bool) → (a && (b && c)) ≡ ((a && b) && c)
-and_joined true b c = refl
-and_joined false b c = refl
-
 -- whether a move is that of the reply, where it is on turn
 abbrev is_its_move : Reply → List ClassMove → ClassMove → Bool
 is_its_move reply history move = if reply.replies history then same_class_move (reply_move reply history) move else true
@@ -94,10 +87,10 @@ is_its_move reply history move = if reply.replies history then same_class_move (
 follows_from-push : (reply : Reply) (start moves : List ClassMove) (move : ClassMove)
     → follows reply start (moves ++ move ∷ []) ≡ (follows reply start moves && is_its_move reply (start ++ moves) move)
 unfolding follows
-follows_from-push reply start [] move = and_last (is_its_move reply start move) ∙ ap (λ (h : List ClassMove). is_its_move reply h move) (sym (append-nil start))
+follows_from-push reply start [] move = and-last (is_its_move reply start move) ∙ ap (λ (h : List ClassMove). is_its_move reply h move) (sym (append-nil start))
 follows_from-push reply start (first ∷ moves) move =
     ap (λ (b : Bool). is_its_move reply start first && b) (follows_from-push reply (start ++ first ∷ []) moves move)
-    ∙ and_joined (is_its_move reply start first) (follows reply (start ++ first ∷ []) moves) (is_its_move reply ((start ++ first ∷ []) ++ moves) move)
+    ∙ and-assoc (is_its_move reply start first) (follows reply (start ++ first ∷ []) moves) (is_its_move reply ((start ++ first ∷ []) ++ moves) move)
     ∙ ap (λ (h : List ClassMove). (is_its_move reply start first && follows reply (start ++ first ∷ []) moves) && is_its_move reply h move) (append_assoc start (first ∷ []) moves)
 
 -- a class history follows the reply where its beginning does and its last move is not another than the reply's
@@ -195,12 +188,6 @@ none_reached Fits reply (suc more) history steady fits none =
 
 -- ---- walking along it
 
--- no choices are found from a class history on to which no mass comes
-walked_dead : (reply : Reply) (more : ℕ) (history : List ClassMove) → reply.live history ≡ false → walked more reply history ≡ []
-unfolding walked
-walked_dead reply zero history dead = refl
-walked_dead reply (suc more) history dead = ap (λ (b : Bool). if not b then [] else walked_turn reply (walked more reply) history (reply.moves history)) dead
-
 walked_live : (reply : Reply) (more : ℕ) (history : List ClassMove) → reply.live history ≡ true
     → walked (suc more) reply history ≡ walked_turn reply (walked more reply) history (reply.moves history)
 unfolding walked
@@ -215,7 +202,7 @@ chosen_at : (reply : Reply) (history : List ClassMove) (own : Bool) (moves : Lis
     → is_chosen reply history ≡ (own && nat_lt 1 (length moves))
 chosen_at reply history own moves turn is reached =
     ap (λ (b : Bool). has_choice reply history && b) reached
-    ∙ and_last (has_choice reply history)
+    ∙ and-last (has_choice reply history)
     ∙ ap (λ (b : Bool). b && nat_lt 1 (length (reply.moves history))) turn
     ∙ ap (λ (l : List ClassMove). own && nat_lt 1 (length l)) is
 
@@ -279,7 +266,7 @@ choices_walked_from Fits reply (suc more) history steady fits left along = elim 
       (λ move found onto. choices_walked_from Fits reply more (history ++ move ∷ []) steady (steady.goes_on history move fits found)
       (omega (arith, left, length-append history (move ∷ []))) onto)
       ∙ sym (walked_live reply more history live)
-  | inr dead ↦ none_reached Fits reply (suc more) history steady fits (and_left (reply.live history) (follows reply [] history) dead) ∙ sym (walked_dead reply (suc more) history dead)
+  | inr dead ↦ none_reached Fits reply (suc more) history steady fits (and_left (reply.live history) (follows reply [] history) dead) ∙ sym (walked_none reply (suc more) history dead)
 ]
 
 -- the choices of a steady reply, each with its move, are those that one finds walking along it

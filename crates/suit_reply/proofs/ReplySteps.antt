@@ -1,5 +1,5 @@
 -- What a turn is worth to a reply, and the choices from it on, by its moves.
-use Rattle.std.proofs.Common.{◌≡◌, ℕ, zero, suc, ◌-◌, Bool, true, false, not, List, [], ◌∷◌, ◌++◌, length, map, refl, sym, ap, ◌∙◌, arith}
+use Rattle.std.proofs.Common.{◌≡◌, ℕ, suc, ◌-◌, Bool, true, false, not, List, [], ◌∷◌, ◌++◌, length, map, sym, ap, ◌∙◌, arith}
 use Rattle.std.specs.Prelude.{filter, if◌then◌else◌, ℤ}
 use Rattle.std.specs.List.{flat_map}
 use Rattle.std.specs.Ordering.{int_eq}
@@ -27,12 +27,6 @@ unfolding walked
 walked_on reply more history moves live is =
     ap (λ (b : Bool). if not b then [] else walked_turn reply (walked more reply) history (reply.moves history)) live
     ∙ ap (walked_turn reply (walked more reply) history) is
-
--- and where none does
-pub walked_none : (reply : Reply) (more : ℕ) (history : List ClassMove) → reply.live history ≡ false → walked more reply history ≡ []
-unfolding walked
-walked_none reply zero history dead = refl
-walked_none reply (suc more) history dead = ap (λ (b : Bool). if not b then [] else walked_turn reply (walked more reply) history (reply.moves history)) dead
 
 -- what the reply comes to from a class history on
 abbrev pub found_from : ℕ → Reply → List ClassMove → FoundView

@@ -1,12 +1,11 @@
 -- What a node tells, gathered from what the nodes below it tell.
-use Rattle.std.proofs.Common.{◌≡◌, ℕ, zero, suc, ◌-◌, ◌+◌, ◌<◌, Bool, true, false, List, [], ◌∷◌, ◌++◌, Option, Some, None, length, get_or, map, take, refl, sym, ap, ◌∙◌, subst, arith}
-use Rattle.std.specs.Prelude.{◌==◌, ◌||◌, if◌then◌else◌, int_lt, fold, ℤ, pos, ◌*◌, ◌^◌, ◌+ℤ◌, ◌*ℤ◌, ◌≤ℤ◌, unsigned_abs}
+use Rattle.std.proofs.Common.{◌≡◌, ℕ, zero, suc, ◌-◌, ◌+◌, ◌<◌, true, false, List, [], ◌∷◌, ◌++◌, Option, Some, None, length, get_or, map, take, refl, sym, ap, ◌∙◌, subst, arith}
+use Rattle.std.specs.Prelude.{◌==◌, ℤ, pos, ◌*◌, ◌^◌, ◌+ℤ◌, ◌*ℤ◌, ◌≤ℤ◌, unsigned_abs}
 use Rattle.std.specs.List.{take-map}
 use Rattle.std.proofs.lemmas.Bool.{false≢true}
 use Rattle.std.proofs.lemmas.Bool.Decides.{nat_tests}
 use Rattle.std.proofs.lemmas.Int.{ints}
-use Rattle.std.proofs.lemmas.List.{length-append, map-append, take_more}
-use Rattle.std.proofs.lemmas.List.Sums.{fold-append}
+use Rattle.std.proofs.lemmas.List.{length-append, take_more}
 use Rattle.suit_game.specs.declared.question.Question.{Question}
 use Rattle.suit_game.proofs.EachElement.{map_same}
 use Rattle.suit_classes.specs.declared.class_moves.ClassMove.{ClassMove}
@@ -24,12 +23,12 @@ use Rattle.suit_tree.specs.Trees.{IsTreeAt, moves_on}
 use Rattle.suit_tree.proofs.NodePaths.{tree_stands}
 use Rattle.suit_reply.specs.declared.found.Gather.{Gather}
 use Rattle.suit_reply.specs.declared.found.Gather.TheVariants.{Sum, Least, Most}
-use Rattle.suit_reply.specs.Gathering.{FoundView, Gathered, finished, gathered, gathered_none, joined, nothing}
+use Rattle.suit_reply.specs.Gathering.{FoundView, Gathered, finished, gathered, joined, nothing}
 use Rattle.suit_reply.specs.MostNodes.{MostNode}
 use Rattle.suit_reply.specs.NodeReplies.{if_live, most_at, most_gathers, move_of, node_most, or_show_out, shared_masses}
 use Rattle.suit_reply.proofs.AskedNodes.{HasBelow, IsStep, has_below, masses_below, node_case, none_gathered}
 use Rattle.suit_reply.proofs.FittedNodes.{map_fitted}
-use Rattle.suit_reply.proofs.GatheredWorths.{found_with, results_of, sum_gathered, worths_of}
+use Rattle.suit_reply.proofs.GatheredWorths.{found_with, gathered-push, results_of, sum_gathered, worths_of}
 use Rattle.suit_reply.proofs.HeldMoves.{Declarers, Defences, Over, WhoseTurn, whose_turn}
 use Rattle.suit_reply.proofs.LeastByNodes.{AreBelow, told_of}
 use Rattle.suit_reply.proofs.MostBounds.{mass_sum, most_sums_paid}
@@ -147,31 +146,11 @@ tells_gathered layouts rows history masses node how is some gathers =
 
 -- ---- gathering child by child
 
--- one result more is joined to those gathered
+-- the result at a place is joined to those gathered before it
 gathered_more : {X : Type 0} (how : Gather) (told : X → ClassMove × FoundView) (xs : List X) (i : ℕ) (d : X) → i < length xs
     → gathered how (map told (take (i + 1) xs)) ≡ joined how (gathered how (map told (take i xs))) (told (get_or xs i d)).0 (told (get_or xs i d)).1
-unfolding gathered
 gathered_more {X} how told xs i d below =
-    let step : Gathered → ClassMove × FoundView → Gathered = λ so_far result. joined how so_far result.0 result.1 in
-    ap (λ (l : List X). fold step gathered_none (map told l)) (take_more xs i d below)
-    ∙ ap (fold step gathered_none) (map-append told (take i xs) (get_or xs i d ∷ []))
-    ∙ fold-append step gathered_none (map told (take i xs)) (told (get_or xs i d) ∷ [])
-
--- which makes one move more
-pub joined_many : (how : Gather) (so_far : Gathered) (move : ClassMove) (next : FoundView) → (joined how so_far move next).many ≡ so_far.many + 1
-joined_many Sum so_far move next = refl
-joined_many Least so_far move next = one (so_far.many == 0) (int_lt next.worth so_far.found.worth)
-  where
-    one : (first better : Bool) → (if first || better then record { found = next; by = move; many = so_far.many + 1 } else record so_far { many = so_far.many + 1 }).many ≡ so_far.many + 1
-    one true better = refl
-    one false true = refl
-    one false false = refl
-joined_many Most so_far move next = one (so_far.many == 0) (int_lt so_far.found.worth next.worth)
-  where
-    one : (first better : Bool) → (if first || better then record { found = next; by = move; many = so_far.many + 1 } else record so_far { many = so_far.many + 1 }).many ≡ so_far.many + 1
-    one true better = refl
-    one false true = refl
-    one false false = refl
+    ap (λ (l : List X). gathered how (map told l)) (take_more xs i d below) ∙ gathered-push how told (take i xs) (get_or xs i d)
 
 -- ---- sums
 

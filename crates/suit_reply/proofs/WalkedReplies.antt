@@ -1,4 +1,5 @@
 -- The choices of a reply, walked along the reply.
+use Rattle.std.proofs.Common.{◌≡◌, Bool, false, refl, ap}
 use Rattle.std.specs.Prelude.{ℕ, zero, suc, nat_lt, not, List, [], ◌∷◌, ◌++◌, length, if◌then◌else◌}
 use Rattle.std.specs.List.{flat_map}
 use Rattle.suit_classes.specs.declared.class_moves.ClassMove.{ClassMove}
@@ -20,3 +21,9 @@ walked_turn reply onward history (move ∷ moves) =
 unfoldable pub walked : ℕ → Reply → List ClassMove → List Choice
 walked zero reply history = []
 walked (suc more) reply history = if not (reply.live history) then [] else walked_turn reply (walked more reply) history (reply.moves history)
+
+-- none are found from a class history on to which no mass comes
+pub walked_none : (reply : Reply) (more : ℕ) (history : List ClassMove) → reply.live history ≡ false → walked more reply history ≡ []
+unfolding walked
+walked_none reply zero history dead = refl
+walked_none reply (suc more) history dead = ap (λ (b : Bool). if not b then [] else walked_turn reply (walked more reply) history (reply.moves history)) dead

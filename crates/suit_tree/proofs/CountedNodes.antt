@@ -1,11 +1,10 @@
 -- Which class layouts a node holds, and at which paths a tree has a node.
-use Rattle.std.proofs.Common.{◌≡◌, ℕ, zero, suc, ◌+◌, ◌-◌, ◌<◌, Bool, true, false, cond, List, [], ◌∷◌, ◌++◌, length, get_or, map, refl, sym, ap, ◌∙◌, subst, inl, inr, arith}
+use Rattle.std.proofs.Common.{◌≡◌, ℕ, zero, suc, ◌-◌, ◌<◌, Bool, true, false, cond, List, [], ◌∷◌, ◌++◌, length, get_or, map, refl, sym, ap, ◌∙◌, subst, inl, inr, arith}
 use Rattle.std.specs.Prelude.{◌↔◌, Contains, Some, filter, sum_by}
 use Rattle.std.specs.List.{AllByRecursion, flat_map, range_with_len}
 use Rattle.std.proofs.lemmas.Bool.{cases_lt}
 use Rattle.std.proofs.lemmas.List.{get_or-map, length-map}
 use Rattle.std.proofs.lemmas.List.Elements.{All-contains, All-contains_itself, All-filter, Contains-get_or, filter_passes}
-use Rattle.std.proofs.lemmas.List.FromFn.{get_or-range_with_len, length-range_with_len}
 use Rattle.suit_game.specs.declared.question.Question.{Question}
 use Rattle.suit_game.specs.Validity.{IsValid}
 use Rattle.suit_game.proofs.EachElement.{Contains-first}
@@ -14,9 +13,9 @@ use Rattle.suit_classes.specs.Classes.{hands_of, defence_sizes}
 use Rattle.suit_classes.specs.ClassGame.{Allows}
 use Rattle.suit_classes.specs.ClassPlaces.{class_after, class_decided, class_start}
 use Rattle.suit_classes.proofs.DecidedPlays.{class_histories_are_short}
-use Rattle.suit_classes.proofs.DefenceSizes.{sum-defence_sizes}
+use Rattle.suit_classes.proofs.DefenceSizes.{range_below, sum-defence_sizes}
 use Rattle.suit_layouts.proofs.ClassWeights.{class_weights_add_up}
-use Rattle.suit_layouts.proofs.ListedCounts.{Contains-filter}
+use Rattle.suit_layouts.proofs.ListedCounts.{Contains-filter, Contains-range}
 use Rattle.suit_tree.specs.declared.node.Node.{Node}
 use Rattle.suit_classes.specs.AllowedHistories.{allows, question_layouts}
 use Rattle.suit_tree.specs.Nodes.{children_of, move_to}
@@ -27,24 +26,15 @@ use Rattle.suit_classes.proofs.AllowedLayouts.{allows_tells, layouts_allow}
 use Rattle.suit_tree.proofs.ListedHistories.{GoesOn, goes_on, goes_past}
 use Rattle.suit_tree.proofs.NodePaths.{IsOpen, no_node, one_node, tree_stands}
 
--- a number of those below one is one of them
-Contains-range : (count place : ℕ) → place < count → Contains (range_with_len 0 count) place
-Contains-range count place below = (place, omega (arith, below, length-range_with_len 0 count), get_or-range_with_len 0 count place place below ∙ none)
-  where
-    none : 0 + place ≡ place
-    none = omega arith
-
--- and each of them is below it
-range_below : (count place : ℕ) → Contains (range_with_len 0 count) place → place < count
-range_below count place found =
-    let below : found.0 < count = omega (arith, found.1, length-range_with_len 0 count) in
-    omega (arith, found.2, get_or-range_with_len 0 count found.0 place below, below)
+-- a number of those below one is below it
+pub in_range_below : (count place : ℕ) → Contains (range_with_len 0 count) place → place < count
+in_range_below count place found = All-contains (λ (k : ℕ). k < count) (range_with_len 0 count) place (range_below count) found
 
 -- what a filter keeps was there, and passes
-kept_parts : (test : ℕ → Bool) (xs : List ℕ) (x : ℕ) → Contains (filter test xs) x → Contains xs x × (test x ≡ true)
-kept_parts test xs x found = (
+pub kept_parts : {X : Type 0} (test : X → Bool) (xs : List X) (x : X) → Contains (filter test xs) x → Contains xs x × (test x ≡ true)
+kept_parts {X} test xs x found = (
   All-contains (Contains xs) (filter test xs) x (All-filter test (Contains xs) xs (All-contains_itself xs)) found,
-  All-contains (λ (y : ℕ). test y ≡ true) (filter test xs) x (filter_passes test xs) found,
+  All-contains (λ (y : X). test y ≡ true) (filter test xs) x (filter_passes test xs) found,
 )
 
 -- the counts at a place are those of a class layout
@@ -64,14 +54,15 @@ kept_layouts question history place valid =
     let test : ℕ → Bool = λ at. allows question (counts_at layouts at) history in (
       λ found.
           let parts = kept_parts test (layout_places layouts) place found in
-          let below = range_below (length layouts) place parts.0 in
+          let below = in_range_below (length layouts) place parts.0 in
           (below, (allows_tells question (counts_at layouts place) history valid (counts_listed question place below)).0 parts.1),
       λ is.
-          Contains-filter test (layout_places layouts) place (Contains-range (length layouts) place is.0)
+          Contains-filter test (layout_places layouts) place (Contains-range 0 (length layouts) place (omega arith) (omega (arith, is.0)))
           ((allows_tells question (counts_at layouts place) history valid (counts_listed question place is.0)).1 is.1),
     )
 
-some_of : (xs : List ℕ) (x : ℕ) → Contains xs x → 0 < length xs
+-- a list with an element is not empty
+pub some_of : (xs : List ℕ) (x : ℕ) → Contains xs x → 0 < length xs
 some_of xs x found = omega (arith, found.1)
 
 -- counts of a class layout stand at some place

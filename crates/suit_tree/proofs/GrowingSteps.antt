@@ -1,11 +1,10 @@
 -- A node grows child by child, in the order of all class moves.
-use Rattle.std.proofs.Common.{◌≡◌, ◌<◌, ◌≤◌, All, ℕ, zero, suc, ◌+◌, ◌-◌, Bool, true, false, cond, List, [], ◌∷◌, ◌++◌, length, take, refl, sym, ap, ◌∙◌, arith, Some}
+use Rattle.std.proofs.Common.{◌≡◌, ◌<◌, ◌≤◌, ℕ, zero, suc, ◌+◌, ◌-◌, Bool, true, false, cond, List, [], ◌∷◌, ◌++◌, length, refl, sym, ap, ◌∙◌, arith, Some}
 use Rattle.std.specs.Prelude.{filter, sum_by, nat_lt, ◌==◌}
 use Rattle.std.proofs.lemmas.List.{append-nil, length-append}
 use Rattle.std.proofs.lemmas.Bool.Decides.{nat_tests}
 use Rattle.std.proofs.lemmas.List.Elements.{filter-append}
 use Rattle.std.specs.List.{range_with_len}
-use Rattle.std.proofs.lemmas.List.FromFn.{get_or-range_with_len, length-range_with_len}
 use Rattle.std.proofs.lemmas.List.Sums.{sum_by-append, sum_by-cons}
 use Rattle.suit_game.specs.declared.question.Question.{Question}
 use Rattle.suit_classes.specs.declared.class_moves.ClassMove.{ClassMove}
@@ -163,19 +162,14 @@ is_some n k same h = grind (arith, nat_tests)
 pub is_none : (n k : ℕ) → n ≡ k → true ≡ (n == 0) → nat_lt 0 k ≡ false
 is_none n k same h = grind (arith, nat_tests)
 
-pub take_whole : (moves : List ClassMove) (i : ℕ) → length moves ≤ i → take i moves ≡ moves
-take_whole [] zero past = refl
-take_whole [] (suc i) past = refl
-take_whole (move ∷ moves) zero past = absurd (omega (arith, past))
-take_whole (move ∷ moves) (suc i) past = ap (λ (l : List ClassMove). move ∷ l) (take_whole moves i (omega (arith, past)))
-
 range_end : (n a : ℕ) → range_with_len a (suc n) ≡ range_with_len a n ++ (a + n) ∷ []
 range_end zero a = ap (λ (k : ℕ). k ∷ []) (omega arith)
 range_end (suc n) a =
     let turned : a + 1 + n ≡ a + suc n = omega arith in
     ap (λ (l : List ℕ). a ∷ l) (range_end n (a + 1) ∙ ap (λ (k : ℕ). range_with_len (a + 1) n ++ k ∷ []) turned)
 
-range_longer : (n : ℕ) → range_with_len 0 (n + 1) ≡ range_with_len 0 n ++ n ∷ []
+-- the numbers below the next, with one more at the end
+pub range_longer : (n : ℕ) → range_with_len 0 (n + 1) ≡ range_with_len 0 n ++ n ∷ []
 range_longer n =
     let same : n + 1 ≡ suc n = omega arith in
     let last : 0 + n ≡ n = omega arith in
@@ -184,7 +178,3 @@ range_longer n =
 -- one number more at the end
 pub one_place : (before after : List ℕ) (n : ℕ) → before ≡ range_with_len 0 n → after ≡ before ++ n ∷ [] → after ≡ range_with_len 0 (n + 1)
 one_place before after n was now = now ∙ ap (λ (l : List ℕ). l ++ n ∷ []) was ∙ sym (range_longer n)
-
--- places below a number
-pub all_below : (n : ℕ) → All (λ place. place < n) (range_with_len 0 n)
-all_below n = λ k d less. rw (get_or-range_with_len 0 n k d (omega (arith, less, length-range_with_len 0 n))) (omega (arith, less, length-range_with_len 0 n))

@@ -13,16 +13,16 @@ use Rattle.suit_tree.specs.Growing.{IsGrown, StandsFor, keeping, moves_from}
 use Rattle.suit_tree.specs.Nodes.{children_of, move_to}
 use Rattle.suit_tree.specs.Trees.{AllFit, IsTreeAt, StandsAt, allowing, counts_at, layout_places, moves_on}
 
-filtered_either : (p q : ℕ → Bool) (x : ℕ) (xs : List ℕ) (b : Bool)
+filtered_either : {X : Type 0} (p q : X → Bool) (x : X) (xs : List X) (b : Bool)
     → filter p (cond b (x ∷ filter q xs) (filter q xs)) ≡ cond (b && p x) (x ∷ filter p (filter q xs)) (filter p (filter q xs))
 filtered_either p q x xs true = refl
 filtered_either p q x xs false = refl
 
 -- what two filters keep is what both tests pass
-filter_both : (p q : ℕ → Bool) (xs : List ℕ) → filter p (filter q xs) ≡ filter (λ x. q x && p x) xs
+pub filter_both : {X : Type 0} (p q : X → Bool) (xs : List X) → filter p (filter q xs) ≡ filter (λ x. q x && p x) xs
 filter_both p q [] = refl
-filter_both p q (x ∷ xs) =
-    filtered_either p q x xs (q x) ∙ ap (λ (l : List ℕ). cond (q x && p x) (x ∷ l) l) (filter_both p q xs)
+filter_both {X} p q (x ∷ xs) =
+    filtered_either p q x xs (q x) ∙ ap (λ (l : List X). cond (q x && p x) (x ∷ l) l) (filter_both p q xs)
 
 -- of the places that allow a history, those at which a move may be made allow it with this move
 pub kept_allowing : (question : Question) (history : List ClassMove) (move : ClassMove)

@@ -1,18 +1,18 @@
 -- Which class histories are counted: each that counts allow and that goes past no decided position, once.
-use Rattle.std.proofs.Common.{◌≡◌, ℕ, zero, suc, ◌≤◌, Bool, true, false, List, [], ◌∷◌, ◌++◌, length, map, refl, sym, ap, ◌∙◌, subst, inl, inr, arith}
+use Rattle.std.proofs.Common.{◌≡◌, ℕ, zero, suc, ◌≤◌, Bool, true, false, List, [], ◌∷◌, ◌++◌, length, map, refl, sym, ap, ◌∙◌, subst, arith}
 use Rattle.std.specs.Prelude.{◌↔◌, ◌≢◌, AllPairs, Contains, fold, if◌then◌else◌}
 use Rattle.std.specs.List.{AllByRecursion, flat_map}
 use Rattle.std.proofs.lemmas.Bool.{and_from, and_parts}
 use Rattle.std.proofs.lemmas.List.{append-nil, append_assoc, append_cancel_left, length-append}
-use Rattle.std.proofs.lemmas.List.Elements.{Contains-append_left, Contains-append_right}
 use Rattle.suit_game.specs.declared.question.Question.{Question}
 use Rattle.suit_game.specs.Validity.{IsValid}
-use Rattle.suit_game.proofs.EachElement.{Contains-cons_cases, Contains-first, Contains-later, Contains-nil, each_at, each_gives}
+use Rattle.suit_game.proofs.EachElement.{Contains-first, Contains-later, each_at, each_gives}
 use Rattle.suit_classes.specs.declared.class_moves.ClassMove.{ClassMove}
 use Rattle.suit_classes.specs.ClassPlaces.{ClassView, class_after, class_decided, class_moves, class_start, class_step}
 use Rattle.suit_classes.proofs.DecidedPlays.{class_histories_are_short}
 use Rattle.suit_classes.proofs.SmallCounts.{class_after_move}
 use Rattle.suit_classes.specs.AllowedHistories.{allows, allows_from, is_among, question_layouts}
+use Rattle.suit_layouts.proofs.ListedCounts.{Contains-flat_map}
 use Rattle.suit_tree.specs.CountedHistories.{continued, counted_histories}
 use Rattle.suit_tree.specs.Paths.{IsCounted}
 use Rattle.suit_classes.proofs.SameMoves.{among-Contains, among_contained}
@@ -87,14 +87,6 @@ continued_go (suc more) question counts before =
           (λ move found. each_gives (Continues more question counts (before ++ move ∷ [])) (Continues (suc more) question counts before) (next move)
           (λ history goes. continues_more more question counts before move history found undecided goes) (continued_go more question counts (before ++ move ∷ [])))),
     )
-
-Contains-flat_map : (piece : ClassMove → List (List ClassMove)) (moves : List ClassMove) (move : ClassMove) (history : List ClassMove)
-    → Contains moves move → Contains (piece move) history → Contains (flat_map piece moves) history
-Contains-flat_map piece [] move history found within = absurd (Contains-nil move found)
-Contains-flat_map piece (first ∷ others) move history found within = elim (Contains-cons_cases first others move found) [
-  | inl here ↦ Contains-append_left (piece first) (flat_map piece others) history (subst (λ (m : ClassMove). Contains (piece m) history) (sym here) within)
-  | inr there ↦ Contains-append_right (piece first) (flat_map piece others) history (Contains-flat_map piece others move history there within)
-]
 
 -- and each that goes on so is listed
 pub Contains-continued : (more : ℕ) (question : Question) (counts : List ℕ) (before moves : List ClassMove) → length moves ≤ more

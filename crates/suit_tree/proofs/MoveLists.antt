@@ -11,6 +11,7 @@ use Rattle.suit_classes.specs.declared.class_moves.ClassMove.{ClassMove}
 use Rattle.suit_classes.specs.declared.class_moves.ClassMove.TheVariants.{Lead, Follow, ShowOut}
 use Rattle.suit_classes.specs.ClassMoves.{same_class_move}
 use Rattle.suit_classes.specs.ClassPlaces.{ClassTrick, Closed, Open, ClassView, class_moves, class_moves_in, class_numbers, classes_left, counted_classes, left, may_lead, or_show_out}
+use Rattle.suit_classes.proofs.MovesOnce.{filter_of_map}
 use Rattle.suit_classes.proofs.SameMoves.{among_contained, same_move_is}
 use Rattle.suit_layouts.proofs.ListedCounts.{Contains-filter}
 use Rattle.suit_classes.specs.AllowedHistories.{is_among, every_move}
@@ -48,14 +49,6 @@ pub kept_by_among : (may : ClassMove → Bool) (moves : List ClassMove) → filt
 kept_by_among may moves =
     filter_alike may (is_among (filter may moves)) moves
     (each_in (λ move. may move ≡ is_among (filter may moves) move) moves (λ move found. sym (among_kept may moves move found)))
-
-filter_of_map : {X Y : Type 0} (p : Y → Bool) (f : X → Y) (xs : List X) → filter p (map f xs) ≡ map f (filter (λ x. p (f x)) xs)
-filter_of_map p f [] = refl
-filter_of_map {X} {Y} p f (x ∷ xs) =
-    elim (p (f x)) as (λ b. cond b (f x ∷ filter p (map f xs)) (filter p (map f xs)) ≡ map f (cond b (x ∷ filter (λ y. p (f y)) xs) (filter (λ y. p (f y)) xs))) [
-      | true ↦ ap (λ (l : List Y). f x ∷ l) (filter_of_map p f xs)
-      | false ↦ filter_of_map p f xs
-    ]
 
 filter_none : {X : Type 0} (xs : List X) → filter (λ x. false) xs ≡ []
 filter_none [] = refl

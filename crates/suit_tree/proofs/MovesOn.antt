@@ -1,29 +1,23 @@
 -- The moves by which the tree goes on from a class history.
-use Rattle.std.proofs.Common.{◌≡◌, ℕ, ◌<◌, Bool, true, false, cond, List, [], ◌∷◌, ◌++◌, length, map, refl, sym, ap, ◌∙◌, subst, inl, inr, arith}
+use Rattle.std.proofs.Common.{◌≡◌, ℕ, ◌<◌, Bool, true, false, cond, List, [], ◌∷◌, ◌++◌, length, map, refl, sym, ap, ◌∙◌, subst, arith}
 use Rattle.std.specs.Prelude.{Contains, filter, nat_lt, slice_index, if◌then◌else◌}
 use Rattle.std.specs.List.{AllByRecursion, range_with_len}
 use Rattle.std.proofs.lemmas.Bool.{and_from, and_parts, ltb-true, lt-ltb}
 use Rattle.std.proofs.lemmas.List.Elements.{All-contains, Contains-append_left, Contains-append_right, filter_passes}
 use Rattle.suit_cards.specs.declared.seats.Seat.TheVariants.{N, S}
 use Rattle.suit_game.specs.declared.question.Question.{Question}
-use Rattle.suit_game.proofs.EachElement.{Contains-cons_cases, Contains-first, Contains-later, Contains-nil, each_append, each_at, each_filter, each_gives, each_in, each_map, each_of}
+use Rattle.suit_game.proofs.EachElement.{Contains-first, Contains-nil, each_append, each_at, each_filter, each_gives, each_in, each_map, each_of}
 use Rattle.suit_classes.specs.declared.class_moves.ClassMove.{ClassMove}
 use Rattle.suit_classes.specs.declared.class_moves.ClassMove.TheVariants.{Lead, Follow, ShowOut}
 use Rattle.suit_classes.specs.ClassMoves.{class_named, kind_of}
 use Rattle.suit_classes.specs.ClassPlaces.{ClassTrick, ClassView, Closed, Open, class_after, class_decided, class_moves, class_moves_in, class_numbers, class_start, class_step, classes_left, counted_classes, left, may_lead, or_show_out}
-use Rattle.suit_layouts.proofs.ListedCounts.{Contains-filter}
+use Rattle.suit_layouts.proofs.ListedCounts.{Contains-filter, Contains-map}
 use Rattle.suit_classes.specs.AllowedHistories.{allows, allows_from, is_among, every_move, question_layouts}
 use Rattle.suit_tree.specs.Trees.{allowing, counts_at, layout_places, moves_on}
+use Rattle.suit_classes.proofs.ClassNumbers.{kept_some}
 use Rattle.suit_classes.proofs.SameMoves.{among-Contains}
 use Rattle.suit_classes.proofs.DistinctMoves.{IsOnce, each_if, once_append, once_filter, once_map, once_range, once_unless}
 use Rattle.suit_classes.proofs.ToldHistories.{allows-push}
-
-Contains-map : (f : ℕ → ClassMove) (xs : List ℕ) (x : ℕ) → Contains xs x → Contains (map f xs) (f x)
-Contains-map f [] x found = absurd (Contains-nil x found)
-Contains-map f (y ∷ ys) x found = elim (Contains-cons_cases y ys x found) [
-  | inl here ↦ subst (λ (z : ℕ). Contains (map f (y ∷ ys)) (f z)) here (Contains-first (f y) (map f ys))
-  | inr there ↦ Contains-later (f y) (map f ys) (f x) (Contains-map f ys x there)
-]
 
 abbrev leads_n : List ClassMove
 leads_n = map (Lead N) class_numbers
@@ -124,10 +118,6 @@ once_moves_on question history =
     let test : ClassMove → Bool = λ move. nat_lt 0 (length (allowing question (history ++ move ∷ []))) in
     once_unless (class_decided (class_after question history)) (filter test every_move) (once_filter test every_move once_every_move)
 
-some_more : (b : Bool) (x : ℕ) (xs : List ℕ) → 0 < length xs → 0 < length (cond b (x ∷ xs) xs)
-some_more true x xs some = omega arith
-some_more false x xs some = some
-
 some_here : (b : Bool) (x : ℕ) (xs : List ℕ) → b ≡ true → 0 < length (cond b (x ∷ xs) xs)
 some_here b x xs is = rw is (omega arith)
 
@@ -143,7 +133,7 @@ some_passes p (x ∷ xs) some = passing_case p x (filter p xs) (p x) refl some (
 some_case : (p q : ℕ → Bool) (x : ℕ) (kept others : List ℕ) (b : Bool) → p x ≡ b → (p x ≡ true → q x ≡ true) → 0 < length (cond b (x ∷ kept) kept)
     → (0 < length kept → 0 < length others) → 0 < length (cond (q x) (x ∷ others) others)
 some_case p q x kept others true is gives some later = some_here (q x) x others (gives is)
-some_case p q x kept others false is gives some later = some_more (q x) x others (later some)
+some_case p q x kept others false is gives some later = kept_some (q x) x others (later some)
 
 -- a weaker test keeps something too
 some_kept : (p q : ℕ → Bool) (xs : List ℕ) → ((x : ℕ) → p x ≡ true → q x ≡ true) → 0 < length (filter p xs) → 0 < length (filter q xs)
@@ -186,7 +176,8 @@ Contains-moves_on question history move undecided some =
     subst (λ (b : Bool). Contains (if b then [] else filter test every_move) move) (sym undecided)
     (Contains-filter test every_move move (allowing_move question history move some) (lt-ltb 0 (length (allowing question (history ++ move ∷ []))) some))
 
-unless_parts : (b : Bool) (moves : List ClassMove) (move : ClassMove) → Contains (if b then [] else moves) move → (b ≡ false) × Contains moves move
+-- where a position has a move it is not decided, and the move is one of those that it has then
+pub unless_parts : (b : Bool) (moves : List ClassMove) (move : ClassMove) → Contains (if b then [] else moves) move → (b ≡ false) × Contains moves move
 unless_parts true moves move found = absurd (Contains-nil move found)
 unless_parts false moves move found = (refl, found)
 

@@ -4,7 +4,8 @@ use Rattle.std.proofs.lemmas.Int.{to_z-of_z, to_z_pos}
 use Rattle.suit_classes.specs.AllowedHistories.{question_layouts}
 use Rattle.suit_reply.specs.Gathering.{FoundView}
 use Rattle.suit_reply.specs.NodeReplies.{node_least}
-use Rattle.suit_reply.proofs.LeastTotals.{all_moves, all_numbers, asked_at_root, layouts_few, next_fits, none_so_far, one_more, part_fits, told_at_root, weighs_at}
+use Rattle.suit_reply.proofs.AllowingPlaces.{layouts_few}
+use Rattle.suit_reply.proofs.LeastTotals.{all_moves, all_numbers, asked_at_root, next_fits, none_so_far, one_more, part_fits, told_at_root, weighs_at}
 use Rattle.suit_reply.proofs.leasts.least.Goals as goal
 
 pub loop-place-init : goal.loop-place-init

@@ -8,7 +8,8 @@ use Rattle.suit_reply.specs.declared.found.Choice.{Choice}
 use Rattle.suit_reply.specs.MostNodes.{IsDefenceFor}
 use Rattle.suit_reply.proofs.ReplySteps.{found_from}
 use Rattle.suit_reply.specs.Gathering.{FoundView}
-use Rattle.suit_reply.proofs.AskedRoots.{den_within, layouts_few, layouts_weigh, root_asked, root_told, weighed_masses}
+use Rattle.suit_reply.proofs.AllowingPlaces.{layouts_few}
+use Rattle.suit_reply.proofs.AskedRoots.{den_within, layouts_weigh, root_asked, root_told, weighed_masses}
 use Rattle.suit_reply.proofs.DefenceReplies.{most_reply_walked}
 use Rattle.suit_reply.proofs.mosts.most.Goals as goal
 

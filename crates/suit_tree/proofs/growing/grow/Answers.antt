@@ -4,7 +4,8 @@ use Rattle.suit_classes.specs.AllowedHistories.{question_layouts}
 use Rattle.suit_tree.specs.CountedHistories.{node_count}
 use Rattle.suit_tree.specs.TreeEnds.{IsPastBudget}
 use Rattle.suit_tree.specs.Trees.{layout_places}
-use Rattle.suit_tree.proofs.GrowingSteps.{all_below, past_more}
+use Rattle.suit_classes.proofs.DefenceSizes.{range_below}
+use Rattle.suit_tree.proofs.GrowingSteps.{past_more}
 use Rattle.suit_tree.proofs.GrownTrees.{allowing_first, grown_is_tree}
 use Rattle.suit_tree.proofs.PairCounts.{all_pairs_counted}
 use Rattle.suit_tree.proofs.growing.grow.Goals as goal
@@ -15,7 +16,7 @@ node-requires-clause-room c = record { question = c.args.question.now; history =
 pub node-requires-clause-places : goal.node-requires-clause-places
 node-requires-clause-places c =
     let long : length c.deref.result.now ≡ c.len.result = omega (arith, c.deref.ensures.len, c.len.ensures) in
-    rw (c.in_ok-all.ensures.places, long) (all_below c.len.result)
+    rw (c.in_ok-all.ensures.places, long) (range_below c.len.result)
 
 pub returns-in_err-root-clause-end : goal.returns-in_err-root-clause-end
 returns-in_err-root-clause-end c =

@@ -8,9 +8,10 @@ use Rattle.suit_tree.specs.declared.node.Node.{Node, out-Node}
 use Rattle.suit_tree.specs.Nodes.{children_of, turn_at}
 use Rattle.suit_reply.specs.Gathering.{Gathered, finished, joined}
 use Rattle.suit_reply.specs.NodeReplies.{goes_to, node_least}
-use Rattle.suit_reply.proofs.GatheredWorths.{found_with}
-use Rattle.suit_reply.proofs.LeastSteps.{Gathers, Goes, added_to, all_told, closed, first_gathered, gathered_first, gathers_own, gathers_their, goes_asked, goes_at, goes_joined, goes_shorter, goes_told, joined_many, node_rows, over_told, passed_by, some_mass, taken_back}
+use Rattle.suit_reply.proofs.GatheredWorths.{found_with, joined_many}
+use Rattle.suit_reply.proofs.LeastSteps.{Gathers, Goes, added_to, all_told, closed, first_gathered, gathered_first, gathers_own, gathers_their, goes_asked, goes_at, goes_joined, goes_shorter, goes_told, node_rows, over_told, passed_by, some_mass}
 use Rattle.suit_reply.proofs.LeastSums.{earned_fits, goes_sum}
+use Rattle.suit_reply.proofs.ListWalks.{one_off}
 use Rattle.suit_reply.proofs.leasts.Leasts.+below.Goals as goal
 use Rattle.suit_reply.proofs.leasts.Leasts.+below.Goals.{in-Lead, in-Defence, then-goes_to+in_ok-push+in_ok-found+in_ok-gathering, else-goes_to}
 
@@ -132,7 +133,7 @@ loop-child-preserved t c =
                 (goes_joined c.match-turn.how rows c.args.place history mass node c.loop-child.child-index c.child-item.result w.move_of-mv.result part c.loop-child.gathering w.in_ok-gathering.gathering w.in_ok-found.found on was told joins);
             many = omega (arith, ap (λ (gathering : Gathered). gathering.many) (w.gathering-is ∙ joins), joined_many c.match-turn.how c.loop-child.gathering w.move_of-mv.result w.in_ok-found.found, c.loop-child.invariant.many);
             kept = ap (λ v. v.items) w.history-is
-                ∙ taken_back history w.below.new.history.items w.pop.new.self.items w.move_of-mv.result _ (w.in_ok-found.ensures.kept ∙ pushed) w.below.new.history.ok.0 w.pop.ensures.rest;
+                ∙ one_off history w.below.new.history.items w.pop.new.self.items w.move_of-mv.result _ (w.in_ok-found.ensures.kept ∙ pushed) w.below.new.history.ok.0 w.pop.ensures.rest;
           }
       | else-goes_to w ↦
           let stays : goes_to (turn_at node) c.args.place c.child-item.result ≡ false = ap (λ (turn : ClassTurn). goes_to turn c.args.place c.child-item.result) (sym c.turn-in-loop-child.ensures) ∙ sym w.if-goes_to.ensures in

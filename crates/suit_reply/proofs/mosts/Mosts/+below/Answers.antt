@@ -10,9 +10,9 @@ use Rattle.suit_tree.specs.Nodes.{children_of, turn_at}
 use Rattle.suit_reply.specs.Gathering.{FoundView, Gathered, finished, gathered}
 use Rattle.suit_reply.specs.NodeReplies.{most_gathers, move_of, shared_masses}
 use Rattle.suit_reply.proofs.AskedNodes.{asked_below, node_order, node_payoff, node_places, node_positive, room_falls, step_from}
-use Rattle.suit_reply.proofs.GatheredWorths.{found_with}
+use Rattle.suit_reply.proofs.GatheredWorths.{found_with, joined_many}
 use Rattle.suit_reply.proofs.ListWalks.{one_off}
-use Rattle.suit_reply.proofs.ToldNodes.{joined_is, joined_many, sum_fits, tells_earned, tells_gathered, tells_none, told_at}
+use Rattle.suit_reply.proofs.ToldNodes.{joined_is, sum_fits, tells_earned, tells_gathered, tells_none, told_at}
 use Rattle.suit_reply.proofs.mosts.Mosts.+below.Goals as goal
 
 pub returns-then-is_empty-clause-found : goal.returns-then-is_empty-clause-found

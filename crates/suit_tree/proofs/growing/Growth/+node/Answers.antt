@@ -1,6 +1,6 @@
 use Rattle.std.proofs.Common.{rules, ◌≡◌, ◌∙◌, ◌+◌, ◌-◌, ◌<◌, ℕ, true, false, List, ◌++◌, length, take, drop, refl, sym, ap, arith}
 use Rattle.std.specs.Prelude.{map, nat_lt, if◌then◌else◌}
-use Rattle.std.proofs.lemmas.List.{length-map, take-append-drop, take_more}
+use Rattle.std.proofs.lemmas.List.{length-map, take-append-drop, take_more, take_all}
 use Rattle.suit_tree.proofs.KeptPlaces.{all_kept, kept_keeping, length_lists}
 use Rattle.suit_classes.specs.declared.class_moves.ClassMove.{ClassMove}
 use Rattle.suit_classes.specs.ClassPlaces.{class_decided, class_payoff}
@@ -8,7 +8,7 @@ use Rattle.suit_tree.specs.declared.node.Node.TheViews.{roll-Node, out-roll-Node
 use Rattle.suit_tree.specs.Growing.{HasRoom, StandsFor, move_lists, pairs_from}
 use Rattle.suit_tree.specs.TreeEnds.{IsPastBudget}
 use Rattle.suit_classes.specs.AllowedHistories.{every_move}
-use Rattle.suit_tree.proofs.GrowingSteps.{none_grown, one_grown, none_kept, all_grown, all_counted, so_far_below, no_more, decided_grown, decided_counted, no_more_counted, at_least_places, past_more, past_told, room_next, step_next, is_some, is_none, take_whole}
+use Rattle.suit_tree.proofs.GrowingSteps.{none_grown, one_grown, none_kept, all_grown, all_counted, so_far_below, no_more, decided_grown, decided_counted, no_more_counted, at_least_places, past_more, past_told, room_next, step_next, is_some, is_none}
 use Rattle.suit_tree.proofs.growing.Growth.+node.Goals as goal
 use Rattle.suit_tree.proofs.growing.Growth.+node.Goals.{then-not-is_empty+in_ok-child+in_ok-add, else-not-is_empty, then-more-gt0+then-not-decided+in_ok-lists+else-loop-mv-test, else-more-gt0, else-more-gt0-via-then-more-gt0+else-not-decided, else-more-gt0-via-else-more-gt0, then-decided, else-decided}
 
@@ -96,7 +96,7 @@ returns-clause-grown t c =
     elim c.if-more-gt0.branch [
       | then-more-gt0+then-not-decided+in_ok-lists+else-loop-mv-test w ↦
           let moves = w.as_slice-mv-items.result.now in
-          let all = rw (take_whole moves w.loop-mv.mv-index (omega (arith, w.loop-mv-test.false)), w.as_slice-mv-items.ensures.value, w.every_move.ensures) at w.loop-mv.invariant.grown in
+          let all = rw (take_all w.loop-mv.mv-index moves (omega (arith, w.loop-mv-test.false)), w.as_slice-mv-items.ensures.value, w.every_move.ensures) at w.loop-mv.invariant.grown in
           all_grown c.args.more (c.args.more - 1) layouts c.args.position places w.loop-mv.children.items _ _ _ (omega (arith, w.if-more-gt0.true)) (sym w.if-not-decided.ensures.value) stands (ap (λ node. node.children.items) opened ∙ ap (λ v. v.items) w.children-is ∙ w.shrink_to_fit.ensures.items) all
       | else-more-gt0 w ↦
           let none = ap (λ node. node.children.items) opened ∙ ap (λ v. v.items) w.children-is ∙ c.new-children.ensures.items in
@@ -114,7 +114,7 @@ returns-clause-counted t c =
     elim c.if-more-gt0.branch [
       | then-more-gt0+then-not-decided+in_ok-lists+else-loop-mv-test w ↦
           let moves = w.as_slice-mv-items.result.now in
-          let all = rw (take_whole moves w.loop-mv.mv-index (omega (arith, w.loop-mv-test.false)), w.as_slice-mv-items.ensures.value, w.every_move.ensures) at w.loop-mv.invariant.grown in
+          let all = rw (take_all w.loop-mv.mv-index moves (omega (arith, w.loop-mv-test.false)), w.as_slice-mv-items.ensures.value, w.every_move.ensures) at w.loop-mv.invariant.grown in
           w.pairs-is ∙ all_counted c.args.more (c.args.more - 1) layouts c.args.position places w.loop-mv.children.items c.args.pairs.now _ _ (omega (arith, w.if-more-gt0.true)) (sym w.if-not-decided.ensures.value) refl all
       | else-more-gt0 w ↦ w.pairs-is ∙ first ∙ ap (λ k. c.args.pairs.now + k) (sym (elim w.else-more-gt0.branch [
         | else-more-gt0-via-then-more-gt0+else-not-decided w' ↦ decided_counted c.args.more layouts c.args.position places (sym w'.if-not-decided.ensures.value)
