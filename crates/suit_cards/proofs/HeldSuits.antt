@@ -3,6 +3,7 @@ use Rattle.std.specs.List.{filter}
 use Rattle.std.proofs.lemmas.Bool.{cases_eq, eq-eqb, ne_eqb, eqb-true, or_cases, cases_Bool, false≢true, true≢false}
 use Rattle.std.specs.Prelude.{All, Contains}
 use Rattle.std.proofs.lemmas.List.Elements.{All-weaker, All-contains_itself}
+use Rattle.std.proofs.Math.Bool.{and-false}
 use Rattle.suit_cards.proofs.HeldRanks.{holds_tells}
 use Rattle.suit_cards.specs.Ranks.{IsRank}
 use Rattle.suit_cards.specs.Holdings.{FallsBelow, IsHolding, holds, suit, without_rank, others_of}
@@ -13,7 +14,11 @@ use Rattle.suit_cards.proofs.SuitRuns.{filter_lowest-agree, filter_suit-agree, I
 pub holds-above : (top : ℕ) (ranks : List ℕ) (rank : ℕ) → FallsBelow top ranks → top ≤ rank → holds ranks rank ≡ false
 holds-above top [] rank falls high = refl
 holds-above top (first ∷ rest) rank falls high =
-    rw (ne_eqb rank first (λ e. omega (arith, falls.1)), holds-above first rest rank falls.2 (omega (arith, falls.1))) refl
+    rw (
+      ne_eqb rank first (λ e. omega (arith, falls.1)),
+      holds-above first rest rank falls.2
+          (omega (arith, falls.1)),
+    ) refl
 
 -- no rank is among none
 pub filter-nothing : (n : ℕ) → filter (holds []) (lowest n) ≡ []
@@ -48,20 +53,18 @@ filter_suit-holds ranks is = rw suit_is (filter_lowest-holds 13 ranks is)
 pub same_holding : (here there : List ℕ) → IsHolding here → IsHolding there
     → ((rank : ℕ) → 2 ≤ rank → rank < 15 → holds here rank ≡ holds there rank) → here ≡ there
 same_holding here there is_here is_there same =
-    sym (filter_suit-holds here is_here) ∙ filter_suit-agree (holds here) (holds there) same ∙ filter_suit-holds there is_there
-
--- a test and false is false
-and_false : (b : Bool) → (b && false) ≡ false
-and_false true = refl
-and_false false = refl
+    sym (filter_suit-holds here is_here) ∙ filter_suit-agree (holds here) (holds there) same
+    ∙ filter_suit-holds there is_there
 
 -- a rank held below a top is from 2 to below it
-held_within : (top : ℕ) (ranks : List ℕ) (rank : ℕ) → FallsBelow top ranks → holds ranks rank ≡ true → (2 ≤ rank) × (rank < top)
+held_within : (top : ℕ) (ranks : List ℕ) (rank : ℕ) → FallsBelow top ranks → holds ranks rank ≡ true
+    → (2 ≤ rank) × (rank < top)
 held_within top [] rank falls held = absurd (false≢true held)
 held_within top (first ∷ rest) rank falls held =
     elim (or_cases (nat_eq rank first) (holds rest rank) held) [
       | inl same ↦ let is : rank ≡ first = eqb-true rank first same in (omega (arith, falls.0), omega (arith, falls.1))
-      | inr later ↦ let within = held_within first rest rank falls.2 later in (within.0, omega (arith, falls.1, within.1))
+      | inr later ↦ let within =
+          held_within first rest rank falls.2 later in (within.0, omega (arith, falls.1, within.1))
     ]
 
 -- a rank of a holding is one of a card
@@ -74,12 +77,14 @@ FallsBelow-later low top [] le falls = tt
 FallsBelow-later low top (first ∷ rest) le falls = (falls.0, omega (arith, falls.1), falls.2)
 
 -- what a test keeps falls below the same top
-FallsBelow-filter : (test : ℕ → Bool) (top : ℕ) (ranks : List ℕ) → FallsBelow top ranks → FallsBelow top (filter test ranks)
+FallsBelow-filter : (test : ℕ → Bool) (top : ℕ) (ranks : List ℕ) → FallsBelow top ranks
+    → FallsBelow top (filter test ranks)
 FallsBelow-filter test top [] falls = tt
 FallsBelow-filter test top (first ∷ rest) falls =
     elim (test first) as (λ b. FallsBelow top (cond b (first ∷ filter test rest) (filter test rest))) [
       | true ↦ (falls.0, falls.1, FallsBelow-filter test first rest falls.2)
-      | false ↦ FallsBelow-later first top (filter test rest) (omega (arith, falls.1)) (FallsBelow-filter test first rest falls.2)
+      | false ↦ FallsBelow-later first top (filter test rest) (omega (arith, falls.1))
+          (FallsBelow-filter test first rest falls.2)
     ]
 
 -- what a test keeps of a holding is one
@@ -101,11 +106,12 @@ holds-others_of here there rank is =
     holds-filter_suit (λ other. not (holds here other || holds there other)) rank is.0 (omega (arith, is.1))
 
 -- a filter holds the first rank where the test passes it
-kept-first : (test : ℕ → Bool) (first : ℕ) (rest : List ℕ) → holds (filter test rest) first ≡ (holds rest first && test first)
+kept-first : (test : ℕ → Bool) (first : ℕ) (rest : List ℕ)
+    → holds (filter test rest) first ≡ (holds rest first && test first)
     → holds (cond (test first) (first ∷ filter test rest) (filter test rest)) first ≡ test first
 kept-first test first rest later = elim (cases_Bool (test first)) [
   | inl passes ↦ rw (passes, eq-eqb first first refl) refl
-  | inr fails ↦ rw fails (later ∙ rw fails (and_false (holds rest first)))
+  | inr fails ↦ rw fails (later ∙ rw fails (and-false (holds rest first)))
 ]
 
 -- a filter holds another rank where it holds it of the rest
@@ -118,7 +124,8 @@ kept-other test first rest rank differs later = elim (cases_Bool (test first)) [
 ]
 
 -- what a test keeps of a list holds what the list holds and the test passes
-pub holds-filter : (test : ℕ → Bool) (ranks : List ℕ) (rank : ℕ) → holds (filter test ranks) rank ≡ (holds ranks rank && test rank)
+pub holds-filter : (test : ℕ → Bool) (ranks : List ℕ) (rank : ℕ)
+    → holds (filter test ranks) rank ≡ (holds ranks rank && test rank)
 holds-filter test [] rank = refl
 holds-filter test (first ∷ rest) rank = elim (cases_eq rank first) [
   | inl same ↦ rw (eq-eqb rank first same, same) (kept-first test first rest (holds-filter test rest first))
@@ -156,4 +163,6 @@ length-without_rank ranks rank is held = length-without_top 15 ranks rank is hel
 
 -- each rank of a holding is one of a card
 pub All-IsRank : (ranks : List ℕ) → IsHolding ranks → All IsRank ranks
-All-IsRank ranks is = All-weaker (Contains ranks) IsRank (λ rank held. IsRank-held ranks rank is ((holds_tells ranks rank).1 held)) ranks (All-contains_itself ranks)
+All-IsRank ranks is =
+    All-weaker (Contains ranks) IsRank (λ rank held. IsRank-held ranks rank is ((holds_tells ranks rank).1 held)) ranks
+    (All-contains_itself ranks)

@@ -14,11 +14,11 @@ use Rattle.suit_cards.proofs.HeldRanks.{list_any-filter}
 use Rattle.suit_cards.proofs.SuitRuns.{filter-filter, length-marked_lowest, filter_suit-agree, holds-filter_suit}
 
 -- the bit of a rank, shifted down, tells whether the rank is held
-pub holds-ranks_of : (mask place rank : ℕ) → place + 2 ≡ rank → place < 13
-    → nat_eq (bit_and (mask / 2 ^ place) 1) 1 ≡ holds (ranks_of mask) rank
-holds-ranks_of mask place rank at below =
-    let back : rank - 2 ≡ place = omega arith in
-    rw (shr_and_one mask place) (sym (holds-filter_suit (marks mask) rank (omega arith) (omega arith) ∙ rw back refl))
+pub holds-ranks_of : (mask index rank : ℕ) → index + 2 ≡ rank → index < 13
+    → nat_eq (bit_and (mask / 2 ^ index) 1) 1 ≡ holds (ranks_of mask) rank
+holds-ranks_of mask index rank at below =
+    let back : rank - 2 ≡ index = omega arith in
+    rw (shr_and_one mask index) (sym (holds-filter_suit (marks mask) rank (omega arith) (omega arith) ∙ rw back refl))
 
 -- as many ranks are held as bits are set
 pub length-ranks_of : (mask : ℕ) → mask < 2 ^ 13 → count_ones mask ≡ length (ranks_of mask)
@@ -27,33 +27,37 @@ length-ranks_of mask small =
     sym (rw suit_is (length-marked_lowest mask 13 ∙ rw whole refl))
 
 -- a set bit adds its rank
-pub ranks_of-set : (mask place rank : ℕ) → place + 2 ≡ rank → place < 13
-    → ranks_of (bit_or mask (1 * 2 ^ place % 65536)) ≡ with_rank (ranks_of mask) rank
-ranks_of-set mask place rank at below =
+pub ranks_of-set : (mask index rank : ℕ) → index + 2 ≡ rank → index < 13
+    → ranks_of (bit_or mask (1 * 2 ^ index % 65536)) ≡ with_rank (ranks_of mask) rank
+ranks_of-set mask index rank at below =
     filter_suit-agree _ _ (λ other low high.
     rw (holds-filter_suit (marks mask) other low high)
     (elim (cases_eq rank other) [
       | inl same ↦
-          let back : other - 2 ≡ place = omega arith in
-          rw (eq-eqb rank other same, back, bit_at_set_same w16 mask place (omega arith)) refl
+          let back : other - 2 ≡ index = omega arith in
+          rw (eq-eqb rank other same, back, bit_at_set_same w16 mask index (omega arith)) refl
       | inr differs ↦
-          let apart : other - 2 ≡ place → ⊥ = λ e. differs (omega arith) in
-          rw (ne_eqb rank other differs, bit_at_set_other w16 mask place (omega arith) (other - 2) apart) refl
+          let apart : other - 2 ≡ index → ⊥ = λ e. differs (omega arith) in
+          rw (ne_eqb rank other differs, bit_at_set_other w16 mask index (omega arith) (other - 2) apart) refl
     ]))
 
 -- a cleared bit takes its rank away
-pub ranks_of-clear : (mask place rank : ℕ) → place + 2 ≡ rank → place < 13
-    → ranks_of (bit_and mask (65535 - 1 * 2 ^ place % 65536)) ≡ without_rank (ranks_of mask) rank
-ranks_of-clear mask place rank at below =
+pub ranks_of-clear : (mask index rank : ℕ) → index + 2 ≡ rank → index < 13
+    → ranks_of (bit_and mask (65535 - 1 * 2 ^ index % 65536)) ≡ without_rank (ranks_of mask) rank
+ranks_of-clear mask index rank at below =
     filter_suit-agree _ (λ other. marks mask other && not (nat_eq rank other)) (λ other low high.
     elim (cases_eq rank other) [
       | inl same ↦
-          let back : other - 2 ≡ place = omega arith in
-          rw (eq-eqb rank other same, back, bit_at_clear_same w16 mask place (omega arith))
-          (elim (nat_eq (bit_at mask place) 1) as (λ b. false ≡ (b && false)) [ true ↦ refl | false ↦ refl ])
+          let back : other - 2 ≡ index = omega arith in
+          rw (eq-eqb rank other same, back, bit_at_clear_same w16 mask index (omega arith))
+          (elim (nat_eq (bit_at mask index) 1) as (λ b. false ≡ (b && false)) [ true ↦ refl | false ↦ refl ])
       | inr differs ↦
-          let apart : other - 2 ≡ place → ⊥ = λ e. differs (omega arith) in
-          rw (ne_eqb rank other differs, bit_at_clear_other w16 mask place (omega arith) (other - 2) (omega arith) apart)
+          let apart : other - 2 ≡ index → ⊥ = λ e. differs (omega arith) in
+          rw (
+            ne_eqb rank other differs,
+            bit_at_clear_other w16 mask index (omega arith) (other - 2)
+                (omega arith) apart,
+          )
           (elim (marks mask other) as (λ b. b ≡ (b && true)) [ true ↦ refl | false ↦ refl ])
     ])
     ∙ sym (filter-filter (marks mask) (λ other. not (nat_eq rank other)) suit)
@@ -115,10 +119,10 @@ unfolding suit
 ranks_of-zero = refl
 
 -- a set bit of a rank stays within the thirteen
-pub set_small : (mask place : ℕ) → mask < 2 ^ 13 → place < 13 → bit_or mask (1 * 2 ^ place % 65536) < 2 ^ 13
-set_small mask place small below =
-    let bound : 2 ^ place < 2 ^ 13 = pow_below place 13 below in
-    or_lt 13 mask (1 * 2 ^ place % 65536) small (omega arith)
+pub set_small : (mask index : ℕ) → mask < 2 ^ 13 → index < 13 → bit_or mask (1 * 2 ^ index % 65536) < 2 ^ 13
+set_small mask index small below =
+    let bound : 2 ^ index < 2 ^ 13 = pow_below index 13 below in
+    or_lt 13 mask (1 * 2 ^ index % 65536) small (omega arith)
 
 -- the bits of both are none where no rank is in both
 pub shared_bits : (here there : ℕ) → here < 2 ^ 13
@@ -129,7 +133,8 @@ shared_bits here there small =
     (λ zero_bits. sym (ranks_of-both here there) ∙ ap ranks_of zero_bits ∙ ranks_of-zero)
 
 -- masks are the same where their ranks are
-pub same_masks : (here there : ℕ) → here < 2 ^ 13 → there < 2 ^ 13 → nat_eq here there ≡ bytes_eq (ranks_of here) (ranks_of there)
+pub same_masks : (here there : ℕ) → here < 2 ^ 13 → there < 2 ^ 13
+    → nat_eq here there ≡ bytes_eq (ranks_of here) (ranks_of there)
 same_masks here there small_here small_there =
     same_from_decides (nat_eq here there) (bytes_eq (ranks_of here) (ranks_of there)) (Decides-eqb here there)
     (Decides-like (bytes_eq (ranks_of here) (ranks_of there))

@@ -79,14 +79,15 @@ each_letter = All-from_recursion (λ rank. IsLetterOf (letter_of rank) rank) sui
 pub letter_of_is : (rank : ℕ) → IsRank rank → IsLetterOf (letter_of rank) rank
 letter_of_is rank is = All-contains (λ r. IsLetterOf (letter_of r) r) suit rank each_letter (Contains-suit rank is)
 
--- where a letter is found, its place tells a rank
-found_rank : (byte rank : ℕ) (found : Option ℕ) → position (λ letter. nat_eq letter (to_ascii_uppercase byte)) letters ≡ found
-    → option_map (λ place. place + 2) found ≡ Some rank → IsRank rank
+-- where a letter is found, its index tells a rank
+found_rank : (byte rank : ℕ) (found : Option ℕ)
+    → position (λ letter. nat_eq letter (to_ascii_uppercase byte)) letters ≡ found
+    → option_map (λ index. index + 2) found ≡ Some rank → IsRank rank
 unfolding letters
 found_rank byte rank None is named = absurd cc
-found_rank byte rank (Some place) is named =
-    let within = (position-Some (λ letter. nat_eq letter (to_ascii_uppercase byte)) letters place 0 is).0 in
-    let at : place + 2 ≡ rank = cc in
+found_rank byte rank (Some index) is named =
+    let within = (position-Some (λ letter. nat_eq letter (to_ascii_uppercase byte)) letters index 0 is).0 in
+    let at : index + 2 ≡ rank = cc in
     (omega arith, omega arith)
 
 -- what a byte stands for is a rank
@@ -102,7 +103,7 @@ some_if : (b : Bool) (n : ℕ) → is_some (cond b (Some n) None) ≡ b
 some_if true n = refl
 some_if false n = refl
 
--- a place is found where an element passes
+-- an index is found where an element passes
 found_if : (test : ℕ → Bool) (xs : List ℕ) → nat_lt (position_or_len test xs) (length xs) ≡ list_any test xs
 found_if test [] = refl
 found_if test (x ∷ xs) = elim (cases_Bool (test x)) [
@@ -111,7 +112,7 @@ found_if test (x ∷ xs) = elim (cases_Bool (test x)) [
 ]
 
 -- what is mapped is there where it was
-some_mapped : (place : Option ℕ) → is_some (option_map (λ n. n + 2) place) ≡ is_some place
+some_mapped : (index : Option ℕ) → is_some (option_map (λ n. n + 2) index) ≡ is_some index
 some_mapped None = refl
 some_mapped (Some n) = refl
 
@@ -124,9 +125,9 @@ same_either_way capital (x ∷ xs) = rw (nat_eq_equiv.symm x capital, same_eithe
 pub IsSome-rank_named : (byte : ℕ) → IsSome (rank_named byte) ↔ Contains letters (to_ascii_uppercase byte)
 IsSome-rank_named byte =
     let capital = to_ascii_uppercase byte in
-    let place = position (λ letter. nat_eq letter capital) letters in
+    let index = position (λ letter. nat_eq letter capital) letters in
     let same : is_some (rank_named byte) ≡ holds letters capital =
-    some_mapped place
+    some_mapped index
     ∙ some_if (nat_lt (position_or_len (λ letter. nat_eq letter capital) letters) (length letters)) _
     ∙ found_if (λ letter. nat_eq letter capital) letters
     ∙ same_either_way capital letters in

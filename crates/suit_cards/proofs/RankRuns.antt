@@ -6,32 +6,33 @@ use Rattle.suit_cards.specs.Masks.{marks, lowest}
 
 -- what is marked of one rank more
 run_step : (mask below : ℕ) → filter (marks mask) (lowest (suc below))
-    ≡ cond (nat_eq (bit_and (mask / 2 ^ below) 1) 1) ((below + 2) ∷ filter (marks mask) (lowest below)) (filter (marks mask) (lowest below))
+    ≡ cond (nat_eq (bit_and (mask / 2 ^ below) 1) 1) ((below + 2) ∷ filter (marks mask) (lowest below))
+    (filter (marks mask) (lowest below))
 unfolding lowest
 run_step mask below = let back : below + 2 - 2 ≡ below = omega arith in rw (shr_and_one mask below, back) refl
 
 -- the next rank down is marked
-pub run-marked : (mask place rank : ℕ) (items whole : List ℕ) → 0 < place → rank ≡ place - 1 + 2
-    → bit_and (mask / 2 ^ (place - 1)) 1 ≡ 1
-    → items ++ filter (marks mask) (lowest place) ≡ whole
-    → (items ++ rank ∷ []) ++ filter (marks mask) (lowest (place - 1)) ≡ whole
+pub run-marked : (mask index rank : ℕ) (items whole : List ℕ) → 0 < index → rank ≡ index - 1 + 2
+    → bit_and (mask / 2 ^ (index - 1)) 1 ≡ 1
+    → items ++ filter (marks mask) (lowest index) ≡ whole
+    → (items ++ rank ∷ []) ++ filter (marks mask) (lowest (index - 1)) ≡ whole
 run-marked mask zero rank items whole pos is set so_far = absurd (omega arith)
 run-marked mask (suc below) rank items whole pos is set so_far =
     let back : suc below - 1 ≡ below = omega arith in
     rw (append_assoc, is, back) (rw (run_step mask below, eq-eqb _ 1 (rw back at set)) at so_far)
 
 -- the next rank down is not marked
-pub run-unmarked : (mask place : ℕ) (items whole : List ℕ) → 0 < place
-    → (bit_and (mask / 2 ^ (place - 1)) 1 ≡ 1 → ⊥)
-    → items ++ filter (marks mask) (lowest place) ≡ whole
-    → items ++ filter (marks mask) (lowest (place - 1)) ≡ whole
+pub run-unmarked : (mask index : ℕ) (items whole : List ℕ) → 0 < index
+    → (bit_and (mask / 2 ^ (index - 1)) 1 ≡ 1 → ⊥)
+    → items ++ filter (marks mask) (lowest index) ≡ whole
+    → items ++ filter (marks mask) (lowest (index - 1)) ≡ whole
 run-unmarked mask zero items whole pos clear so_far = absurd (omega arith)
 run-unmarked mask (suc below) items whole pos clear so_far =
     let back : suc below - 1 ≡ below = omega arith in
     rw back (rw (run_step mask below, ne_eqb _ 1 (rw back at clear)) at so_far)
 
 -- no rank is left
-pub run-over : (mask place : ℕ) (items whole : List ℕ) → place ≡ 0
-    → items ++ filter (marks mask) (lowest place) ≡ whole → items ≡ whole
+pub run-over : (mask index : ℕ) (items whole : List ℕ) → index ≡ 0
+    → items ++ filter (marks mask) (lowest index) ≡ whole → items ≡ whole
 unfolding lowest
-run-over mask place items whole over so_far = sym (append-nil items) ∙ rw over at so_far
+run-over mask index items whole over so_far = sym (append-nil items) ∙ rw over at so_far

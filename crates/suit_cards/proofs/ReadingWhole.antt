@@ -21,57 +21,65 @@ use Rattle.suit_cards.proofs.RankLetters.{IsRank-named}
 unfoldable pub read_on : List ℕ → List Spot → Result (List ℕ) CardFault
 read_on held [] = Ok held
 read_on held (spot ∷ rest) =
-    option_map_or (λ rank. cond (holds held rank) (Err (Twice spot.place)) (read_on (with_rank held rank) rest))
-    spot.rank (Err (NotRank spot.place))
+    option_map_or (λ rank. cond (holds held rank) (Err (Twice spot.index)) (read_on (with_rank held rank) rest))
+    spot.rank (Err (NotRank spot.index))
 
 -- the spots stand at rising places from one on, and each rank is one of a card
 abbrev pub Rise : ℕ → List Spot → Type 0
-Rise place [] = Unit {0}
-Rise place (spot ∷ rest) = (place ≤ spot.place) × ((rank : ℕ) → spot.rank ≡ Some rank → IsRank rank) × Rise (spot.place + 1) rest
+Rise index [] = Unit {0}
+Rise index (spot ∷ rest) =
+    (index ≤ spot.index) × ((rank : ℕ) → spot.rank ≡ Some rank → IsRank rank) × Rise (spot.index + 1) rest
 
--- the spots stand before a place
+-- the spots stand before an index
 abbrev pub Precede : ℕ → List Spot → Type 0
-Precede place [] = Unit {0}
-Precede place (spot ∷ rest) = (spot.place < place) × Precede place rest
+Precede index [] = Unit {0}
+Precede index (spot ∷ rest) = (spot.index < index) × Precede index rest
 
--- spots that rise from one place on rise from a lower one on
+-- spots that rise from one index on rise from a lower one on
 Rise-later : (low high : ℕ) (spots : List Spot) → low ≤ high → Rise high spots → Rise low spots
 Rise-later low high [] le rise = tt
 Rise-later low high (spot ∷ rest) le rise = (omega (arith, rise.0), rise.1, rise.2)
 
--- spots before one place stand before a higher one
+-- spots before one index stand before a higher one
 Precede-later : (low high : ℕ) (spots : List Spot) → low ≤ high → Precede low spots → Precede high spots
 Precede-later low high [] le h = tt
 Precede-later low high (spot ∷ rest) le h = (omega (arith, h.0), Precede-later low high rest le h.1)
 
--- with one more spot before a place, all stand before it
-Precede-push : (place : ℕ) (spots : List Spot) (spot : Spot) → Precede place spots → spot.place < place → Precede place (spots ++ spot ∷ [])
-Precede-push place [] spot h last = (last, tt)
-Precede-push place (first ∷ rest) spot h last = (h.0, Precede-push place rest spot h.1 last)
+-- with one more spot before an index, all stand before it
+Precede-push : (index : ℕ) (spots : List Spot) (spot : Spot) → Precede index spots → spot.index < index
+    → Precede index (spots ++ spot ∷ [])
+Precede-push index [] spot h last = (last, tt)
+Precede-push index (first ∷ rest) spot h last = (h.0, Precede-push index rest spot h.1 last)
 
--- of spots before a place, all are before it
-before-all : (place : ℕ) (spots : List Spot) → Precede place spots → before place spots ≡ spots
-before-all place [] h = refl
-before-all place (spot ∷ rest) h = rw (lt-ltb spot.place place h.0, before-all place rest h.1) refl
+-- of spots before an index, all are before it
+before-all : (index : ℕ) (spots : List Spot) → Precede index spots → before index spots ≡ spots
+before-all index [] h = refl
+before-all index (spot ∷ rest) h = rw (lt-ltb spot.index index h.0, before-all index rest h.1) refl
 
--- of spots from a place on, none is before it
-before-none : (place from : ℕ) (spots : List Spot) → place ≤ from → Rise from spots → before place spots ≡ []
-before-none place from [] le rise = refl
-before-none place from (spot ∷ rest) le rise =
-    rw (le-ltb spot.place place (omega (arith, rise.0)), before-none place (spot.place + 1) rest (omega (arith, rise.0)) rise.2) refl
+-- of spots from an index on, none is before it
+before-none : (index from : ℕ) (spots : List Spot) → index ≤ from → Rise from spots → before index spots ≡ []
+before-none index from [] le rise = refl
+before-none index from (spot ∷ rest) le rise =
+    rw (
+      le-ltb spot.index index (omega (arith, rise.0)),
+      before-none index (spot.index + 1) rest
+          (omega (arith, rise.0)) rise.2,
+    ) refl
 
--- the spots before a place are those done where the others stand from it on
-before-split : (place : ℕ) (done rest : List Spot) → Precede place done → Rise place rest → before place (done ++ rest) ≡ done
-before-split place done rest precede rise =
-    filter-append (λ (spot : Spot). nat_lt spot.place place) done rest
-    ∙ rw (before-all place done precede, before-none place place rest (omega arith) rise) (append-nil done)
+-- the spots before an index are those done where the others stand from it on
+before-split : (index : ℕ) (done rest : List Spot) → Precede index done → Rise index rest
+    → before index (done ++ rest) ≡ done
+before-split index done rest precede rise =
+    filter-append (λ (spot : Spot). nat_lt spot.index index) done rest
+    ∙ rw (before-all index done precede, before-none index index rest (omega arith) rise) (append-nil done)
 
 -- two lists together hold what either holds
 holds-append : (here more : List ℕ) (rank : ℕ) → holds (here ++ more) rank ≡ (holds here rank || holds more rank)
 holds-append [] more rank = refl
 holds-append (first ∷ rest) more rank =
     rw (holds-append rest more rank)
-    (elim (nat_eq rank first) as (λ b. (b || (holds rest rank || holds more rank)) ≡ ((b || holds rest rank) || holds more rank))
+    (elim (nat_eq rank first) as (λ b. (b || (holds rest rank || holds more rank))
+    ≡ ((b || holds rest rank) || holds more rank))
     [ true ↦ refl | false ↦ refl ])
 
 -- the holding of the ranks that begin at spots
@@ -110,24 +118,26 @@ told done rest =
     option_map_or (λ spot. Err (fault_at spot)) (find (is_at_fault (done ++ rest)) rest) (Ok (held_by (done ++ rest)))
 
 -- where no rank begins at the next spot, that is told
-told-no_rank : (done rest : List Spot) (spot : Spot) → spot.rank ≡ None → told done (spot ∷ rest) ≡ Err (NotRank spot.place)
+told-no_rank : (done rest : List Spot) (spot : Spot) → spot.rank ≡ None
+    → told done (spot ∷ rest) ≡ Err (NotRank spot.index)
 unfolding told
 told-no_rank done rest spot is = rw is refl
 
 -- a spot after those done is at fault where its rank is held
-at_fault : (done rest : List Spot) (spot : Spot) (place rank : ℕ) → Precede place done → Rise place (spot ∷ rest)
+at_fault : (done rest : List Spot) (spot : Spot) (index rank : ℕ) → Precede index done → Rise index (spot ∷ rest)
     → spot.rank ≡ Some rank → is_at_fault (done ++ spot ∷ rest) spot ≡ holds (held_by done) rank
-at_fault done rest spot place rank precede rise is =
+at_fault done rest spot index rank precede rise is =
     let own = rise.1 rank is in
-    let seen = before spot.place (done ++ spot ∷ rest) in
+    let seen = before spot.index (done ++ spot ∷ rest) in
     ap (λ (begun : Option ℕ). option_map_or (holds (ranks_read seen)) begun true) is
     ∙ ap (λ (spots : List Spot). holds (ranks_read spots) rank)
-    (before-split spot.place done (spot ∷ rest) (Precede-later place spot.place done rise.0 precede) (omega arith, rise.1, rise.2))
+    (before-split spot.index done (spot ∷ rest) (Precede-later index spot.index done rise.0 precede)
+    (omega arith, rise.1, rise.2))
     ∙ sym (holds-filter_suit (holds (ranks_read done)) rank own.0 (omega (arith, own.1)))
 
 -- where the next spot is at fault and a rank begins, it is told as read twice
 told-twice : (done rest : List Spot) (spot : Spot) (rank : ℕ) → spot.rank ≡ Some rank
-    → is_at_fault (done ++ spot ∷ rest) spot ≡ true → told done (spot ∷ rest) ≡ Err (Twice spot.place)
+    → is_at_fault (done ++ spot ∷ rest) spot ≡ true → told done (spot ∷ rest) ≡ Err (Twice spot.index)
 unfolding told
 told-twice done rest spot rank is fault = rw fault (rw is refl)
 
@@ -139,18 +149,20 @@ told-more done rest spot sound = rw (sound, append_assoc) refl
 
 -- reading on where no rank begins at the next spot
 read_on-no_rank : (held : List ℕ) (spot : Spot) (rest : List Spot) → spot.rank ≡ None
-    → read_on held (spot ∷ rest) ≡ Err (NotRank spot.place)
+    → read_on held (spot ∷ rest) ≡ Err (NotRank spot.index)
 unfolding read_on
 read_on-no_rank held spot rest is = rw is refl
 
 -- reading on where the rank at the next spot is held
-read_on-twice : (held : List ℕ) (spot : Spot) (rest : List Spot) (rank : ℕ) → spot.rank ≡ Some rank → holds held rank ≡ true
-    → read_on held (spot ∷ rest) ≡ Err (Twice spot.place)
+read_on-twice : (held : List ℕ) (spot : Spot) (rest : List Spot) (rank : ℕ) → spot.rank ≡ Some rank
+    → holds held rank ≡ true
+    → read_on held (spot ∷ rest) ≡ Err (Twice spot.index)
 unfolding read_on
 read_on-twice held spot rest rank is twice = rw (is, twice) refl
 
 -- reading on where the rank at the next spot is not held
-read_on-more : (held : List ℕ) (spot : Spot) (rest : List Spot) (rank : ℕ) → spot.rank ≡ Some rank → holds held rank ≡ false
+read_on-more : (held : List ℕ) (spot : Spot) (rest : List Spot) (rank : ℕ) → spot.rank ≡ Some rank
+    → holds held rank ≡ false
     → read_on held (spot ∷ rest) ≡ read_on (with_rank held rank) rest
 unfolding read_on
 read_on-more held spot rest rank is new = rw (is, new) refl
@@ -161,13 +173,13 @@ unfolding read_on told
 read_on-over spots = rw (append-nil spots) refl
 
 -- one step of `read_on-told`, from the rank at the next spot
-read_on-spot : (done rest : List Spot) (spot : Spot) (place : ℕ) → Precede place done → Rise place (spot ∷ rest)
+read_on-spot : (done rest : List Spot) (spot : Spot) (index : ℕ) → Precede index done → Rise index (spot ∷ rest)
     → read_on (held_by (done ++ spot ∷ [])) rest ≡ told (done ++ spot ∷ []) rest
     → (begun : Option ℕ) → spot.rank ≡ begun → read_on (held_by done) (spot ∷ rest) ≡ told done (spot ∷ rest)
-read_on-spot done rest spot place precede rise later None is =
+read_on-spot done rest spot index precede rise later None is =
     read_on-no_rank (held_by done) spot rest is ∙ sym (told-no_rank done rest spot is)
-read_on-spot done rest spot place precede rise later (Some rank) is =
-    let fault = at_fault done rest spot place rank precede rise is in
+read_on-spot done rest spot index precede rise later (Some rank) is =
+    let fault = at_fault done rest spot index rank precede rise is in
     elim (cases_Bool (holds (held_by done) rank)) [
       | inl twice ↦
           read_on-twice (held_by done) spot rest rank is twice ∙ sym (told-twice done rest spot rank is (fault ∙ twice))
@@ -178,12 +190,14 @@ read_on-spot done rest spot place precede rise later (Some rank) is =
     ]
 
 -- reading on from the ranks held by what is done tells the first fault of all
-read_on-told : (rest done : List Spot) (place : ℕ) → Precede place done → Rise place rest → read_on (held_by done) rest ≡ told done rest
-read_on-told [] done place precede rise = read_on-over done
-read_on-told (spot ∷ rest) done place precede rise =
-    read_on-spot done rest spot place precede rise
-    (read_on-told rest (done ++ spot ∷ []) (spot.place + 1)
-    (Precede-push (spot.place + 1) done spot (Precede-later place (spot.place + 1) done (omega (arith, rise.0)) precede) (omega arith))
+read_on-told : (rest done : List Spot) (index : ℕ) → Precede index done → Rise index rest
+    → read_on (held_by done) rest ≡ told done rest
+read_on-told [] done index precede rise = read_on-over done
+read_on-told (spot ∷ rest) done index precede rise =
+    read_on-spot done rest spot index precede rise
+    (read_on-told rest (done ++ spot ∷ []) (spot.index + 1)
+    (Precede-push (spot.index + 1) done spot (Precede-later index (spot.index + 1) done (omega (arith, rise.0)) precede)
+    (omega arith))
     rise.2)
     spot.rank refl
 
@@ -191,17 +205,22 @@ read_on-told (spot ∷ rest) done place precede rise =
 ten_is_rank : (rank : ℕ) → Some 10 ≡ Some rank → IsRank rank
 ten_is_rank rank is = let same : 10 ≡ rank = cc in (omega arith, omega arith)
 
--- the spots of a text rise from its place on
-Rise-spots_from : (place : ℕ) (text : List ℕ) → Rise place (spots_from place text)
+-- the spots of a text rise from its index on
+Rise-spots_from : (index : ℕ) (text : List ℕ) → Rise index (spots_from index text)
 unfolding spots_from
-Rise-spots_from place [] = tt
-Rise-spots_from place (byte ∷ []) = (omega arith, IsRank-named byte, tt)
-Rise-spots_from place (byte ∷ next ∷ rest) =
-    elim (bytes_eq (byte ∷ next ∷ []) (codes "10")) as (λ b. Rise place (cond b
-    (record { place = place; rank = Some 10 } ∷ spots_from (place + 2) rest)
-    (record { place = place; rank = rank_named byte } ∷ spots_from (place + 1) (next ∷ rest)))) [
-      | true ↦ (omega arith, ten_is_rank, Rise-later (place + 1) (place + 2) _ (omega arith) (Rise-spots_from (place + 2) rest))
-      | false ↦ (omega arith, IsRank-named byte, Rise-spots_from (place + 1) (next ∷ rest))
+Rise-spots_from index [] = tt
+Rise-spots_from index (byte ∷ []) = (omega arith, IsRank-named byte, tt)
+Rise-spots_from index (byte ∷ next ∷ rest) =
+    elim (bytes_eq (byte ∷ next ∷ []) (codes "10")) as (λ b. Rise index (cond b
+    (record { index = index; rank = Some 10 } ∷ spots_from (index + 2) rest)
+    (record { index = index; rank = rank_named byte } ∷ spots_from (index + 1) (next ∷ rest)))) [
+      | true ↦ (
+        omega arith,
+        ten_is_rank,
+        Rise-later (index + 1) (index + 2) _ (omega arith)
+            (Rise-spots_from (index + 2) rest),
+      )
+      | false ↦ (omega arith, IsRank-named byte, Rise-spots_from (index + 1) (next ∷ rest))
     ]
 
 -- no spot reads no rank
@@ -209,38 +228,43 @@ held_by-none : held_by [] ≡ []
 held_by-none = rw suit_is (filter-nothing 13)
 
 -- reading goes on from the whole text with no card held
-pub read_whole : (text : List ℕ) → bytes_eq text (codes "-") ≡ false → read_on [] (spots_from 0 text) ≡ holding_read text
+pub read_whole : (text : List ℕ) → bytes_eq text (codes "-") ≡ false
+    → read_on [] (spots_from 0 text) ≡ holding_read text
 unfolding holding_read told
 read_whole text not_dash =
     rw not_dash (rw held_by-none at (read_on-told (spots_from 0 text) [] 0 tt (Rise-spots_from 0 text)))
 
 -- reading on where no rank begins
-pub read_on-none_begins : (held text : List ℕ) (place : ℕ) → BeginsNoRank text → read_on held (spots_from place text) ≡ Err (NotRank place)
-read_on-none_begins held text place begins =
-    rw (begins place).1 (read_on-no_rank held (record { place = place; rank = None }) (begins place).0 refl)
+pub read_on-none_begins : (held text : List ℕ) (index : ℕ) → BeginsNoRank text
+    → read_on held (spots_from index text) ≡ Err (NotRank index)
+read_on-none_begins held text index begins =
+    rw (begins index).1 (read_on-no_rank held (record { index = index; rank = None }) (begins index).0 refl)
 
 -- reading on where a rank begins that is held
-pub read_on-held_begins : (held text : List ℕ) (place rank width : ℕ) → BeginsRank text rank width → holds held rank ≡ true
-    → read_on held (spots_from place text) ≡ Err (Twice place)
-read_on-held_begins held text place rank width begins twice =
-    rw (begins.cut place) (read_on-twice held (record { place = place; rank = Some rank }) _ rank refl twice)
+pub read_on-held_begins : (held text : List ℕ) (index rank width : ℕ) → BeginsRank text rank width
+    → holds held rank ≡ true
+    → read_on held (spots_from index text) ≡ Err (Twice index)
+read_on-held_begins held text index rank width begins twice =
+    rw (begins.cut index) (read_on-twice held (record { index = index; rank = Some rank }) _ rank refl twice)
 
 -- reading on where a rank begins that is not held
-pub read_on-new_begins : (held text : List ℕ) (place rank width : ℕ) → BeginsRank text rank width → holds held rank ≡ false
-    → read_on held (spots_from place text) ≡ read_on (with_rank held rank) (spots_from (place + width) (drop width text))
-read_on-new_begins held text place rank width begins new =
-    rw (begins.cut place) (read_on-more held (record { place = place; rank = Some rank }) _ rank refl new)
+pub read_on-new_begins : (held text : List ℕ) (index rank width : ℕ) → BeginsRank text rank width
+    → holds held rank ≡ false
+    → read_on held (spots_from index text)
+    ≡ read_on (with_rank held rank) (spots_from (index + width) (drop width text))
+read_on-new_begins held text index rank width begins new =
+    rw (begins.cut index) (read_on-more held (record { index = index; rank = Some rank }) _ rank refl new)
 
 -- reading on at the end
-pub read_on-end : (held text : List ℕ) (place : ℕ) → text ≡ [] → read_on held (spots_from place text) ≡ Ok held
+pub read_on-end : (held text : List ℕ) (index : ℕ) → text ≡ [] → read_on held (spots_from index text) ≡ Ok held
 unfolding read_on spots_from
-read_on-end held text place over = rw over refl
+read_on-end held text index over = rw over refl
 
 -- a dash alone is read as no card
 pub read_dash : (text : List ℕ) → bytes_eq text (codes "-") ≡ true → holding_read text ≡ Ok []
 unfolding holding_read
 read_dash text dash = rw dash refl
 
--- what is left of a text from a place on
-pub rest_is : (text : List ℕ) (place : ℕ) → take (length text - place) (drop place text) ≡ drop place text
-rest_is text place = rw (← length-drop place text) (take-length (drop place text))
+-- what is left of a text from an index on
+pub rest_is : (text : List ℕ) (index : ℕ) → take (length text - index) (drop index text) ≡ drop index text
+rest_is text index = rw (← length-drop index text) (take-length (drop index text))

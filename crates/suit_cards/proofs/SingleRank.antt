@@ -3,7 +3,7 @@ use Rattle.std.proofs.Common.{◌≡◌, ℕ, zero, suc, ◌+◌, ◌-◌, ◌<�
 use Rattle.suit_cards.specs.Ranks.{IsRank}
 use Rattle.suit_cards.specs.Holdings.{with_rank, suit}
 
-pub with_rank-none : (place : ℕ) → place < 13 → with_rank [] (place + 2) ≡ (place + 2) ∷ []
+pub with_rank-none : (index : ℕ) → index < 13 → with_rank [] (index + 2) ≡ (index + 2) ∷ []
 unfolding suit
 with_rank-none zero below = refl
 with_rank-none (suc zero) below = refl
@@ -18,7 +18,8 @@ with_rank-none (suc (suc (suc (suc (suc (suc (suc (suc (suc zero))))))))) below 
 with_rank-none (suc (suc (suc (suc (suc (suc (suc (suc (suc (suc zero)))))))))) below = refl
 with_rank-none (suc (suc (suc (suc (suc (suc (suc (suc (suc (suc (suc zero))))))))))) below = refl
 with_rank-none (suc (suc (suc (suc (suc (suc (suc (suc (suc (suc (suc (suc zero)))))))))))) below = refl
-with_rank-none (suc (suc (suc (suc (suc (suc (suc (suc (suc (suc (suc (suc (suc n))))))))))))) below = absurd (omega arith)
+with_rank-none (suc (suc (suc (suc (suc (suc (suc (suc (suc (suc (suc (suc (suc n))))))))))))) below =
+    absurd (omega arith)
 
 -- so a rank alone is its holding
 pub with_rank-alone : (rank : ℕ) → IsRank rank → with_rank [] rank ≡ rank ∷ []

@@ -55,7 +55,8 @@ absent-filter_lowest p (suc n) rank high =
     (elim (p (n + 2)) as (λ b. ((b && false) || false) ≡ false) [ true ↦ refl | false ↦ refl ])
 
 -- what a test keeps of the lowest ranks holds a rank where the test passes it
-pub holds-filter_lowest : (p : ℕ → Bool) (n rank : ℕ) → 2 ≤ rank → rank < n + 2 → holds (filter p (lowest n)) rank ≡ p rank
+pub holds-filter_lowest : (p : ℕ → Bool) (n rank : ℕ) → 2 ≤ rank → rank < n + 2
+    → holds (filter p (lowest n)) rank ≡ p rank
 unfolding lowest
 holds-filter_lowest p zero rank low high = absurd (omega arith)
 holds-filter_lowest p (suc n) rank low high =
@@ -96,15 +97,16 @@ unfolding lowest
 length-marked_lowest mask zero =
     let none : mask % 2 ^ 0 ≡ 0 = omega arith in rw none (sym no_ones)
 length-marked_lowest mask (suc n) =
-    let place : n + 2 - 2 ≡ n = omega arith in
+    let index : n + 2 - 2 ≡ n = omega arith in
     let next : 1 + n ≡ suc n = omega arith in
     let split : mask % 2 ^ suc n ≡ bit_at mask n * 2 ^ n + mask % 2 ^ n = rw next at (mod-pow-add mask 1 n) in
     length-cond (marks mask (n + 2)) (n + 2) (filter (marks mask) (lowest n))
-    ∙ rw (place, ones_bit (bit_at mask n) (bit_at-lt mask n), length-marked_lowest mask n, split)
+    ∙ rw (index, ones_bit (bit_at mask n) (bit_at-lt mask n), length-marked_lowest mask n, split)
     (sym (ones_cat n (bit_at mask n) (mask % 2 ^ n) (omega (arith, pow_pos n))))
 
 -- two tests that agree on each rank keep the same ranks of the suit
-pub filter_suit-agree : (p q : ℕ → Bool) → ((rank : ℕ) → 2 ≤ rank → rank < 15 → p rank ≡ q rank) → filter p suit ≡ filter q suit
+pub filter_suit-agree : (p q : ℕ → Bool) → ((rank : ℕ) → 2 ≤ rank → rank < 15 → p rank ≡ q rank)
+    → filter p suit ≡ filter q suit
 filter_suit-agree p q agree = rw suit_is (filter_lowest-agree p q 13 agree)
 
 -- what a test keeps of the suit is a holding

@@ -14,25 +14,25 @@ use Rattle.suit_cards.proofs.ReadingWhole.{read_on, read_whole}
 
 -- the spots of ranks that are written a byte each
 abbrev spots_of : ℕ → List ℕ → List Spot
-spots_of place [] = []
-spots_of place (rank ∷ rest) = record { place = place; rank = Some rank } ∷ spots_of (place + 1) rest
+spots_of index [] = []
+spots_of index (rank ∷ rest) = record { index = index; rank = Some rank } ∷ spots_of (index + 1) rest
 
 -- from 2 to below a top that is at most 15 is a rank
 rank_below : (top rank : ℕ) → top ≤ 15 → 2 ≤ rank → rank < top → IsRank rank
 rank_below top rank within low high = (low, omega arith)
 
 -- the letters of ranks that fall are cut byte by byte
-spots_from-letters : (place top : ℕ) (ranks : List ℕ) → top ≤ 15 → FallsBelow top ranks
-    → spots_from place (map letter_of ranks) ≡ spots_of place ranks
+spots_from-letters : (index top : ℕ) (ranks : List ℕ) → top ≤ 15 → FallsBelow top ranks
+    → spots_from index (map letter_of ranks) ≡ spots_of index ranks
 unfolding spots_from
-spots_from-letters place top [] within falls = refl
-spots_from-letters place top (rank ∷ []) within falls =
+spots_from-letters index top [] within falls = refl
+spots_from-letters index top (rank ∷ []) within falls =
     rw (letter_of_is rank (rank_below top rank within falls.0 falls.1)).back refl
-spots_from-letters place top (rank ∷ next ∷ rest) within falls =
+spots_from-letters index top (rank ∷ next ∷ rest) within falls =
     let letter = letter_of_is rank (rank_below top rank within falls.0 falls.1) in
     rw (letter.not_one, letter.back)
-    (ap (λ (more : List Spot). record { place = place; rank = Some rank } ∷ more)
-    (spots_from-letters (place + 1) rank (next ∷ rest) (omega (arith, falls.1)) falls.2))
+    (ap (λ (more : List Spot). record { index = index; rank = Some rank } ∷ more)
+    (spots_from-letters (index + 1) rank (next ∷ rest) (omega (arith, falls.1)) falls.2))
 
 -- a test or false is the test
 or_false : (b : Bool) → (b || false) ≡ b
@@ -56,15 +56,17 @@ held_then held rest rank =
     (or_moved (nat_eq other rank) (holds held other) (holds rest other)))
 
 -- reading on over ranks that fall, and of which none is held, adds them
-read_on-spots_of : (place top : ℕ) (held ranks : List ℕ) → top ≤ 15 → FallsBelow top ranks → IsHolding held
+read_on-spots_of : (index top : ℕ) (held ranks : List ℕ) → top ≤ 15 → FallsBelow top ranks → IsHolding held
     → ((rank : ℕ) → 2 ≤ rank → rank < top → holds held rank ≡ false)
-    → read_on held (spots_of place ranks) ≡ Ok (filter (λ rank. holds held rank || holds ranks rank) suit)
+    → read_on held (spots_of index ranks) ≡ Ok (filter (λ rank. holds held rank || holds ranks rank) suit)
 unfolding read_on
-read_on-spots_of place top held [] within falls is apart =
-    ap Ok (sym (filter_suit-agree _ (holds held) (λ rank low high. or_false (holds held rank)) ∙ filter_suit-holds held is))
-read_on-spots_of place top held (rank ∷ rest) within falls is apart =
+read_on-spots_of index top held [] within falls is apart =
+    ap Ok (sym (filter_suit-agree _ (holds held) (λ rank low high. or_false (holds held rank))
+    ∙ filter_suit-holds held is))
+read_on-spots_of index top held (rank ∷ rest) within falls is apart =
     rw (apart rank falls.0 falls.1)
-    (read_on-spots_of (place + 1) rank (with_rank held rank) rest (omega (arith, falls.1)) falls.2 (IsHolding-filter_suit _)
+    (read_on-spots_of (index + 1) rank (with_rank held rank) rest (omega (arith, falls.1)) falls.2
+    (IsHolding-filter_suit _)
     (λ other low high.
     holds-filter_suit (λ x. nat_eq rank x || holds held x) other low (omega (arith, falls.1))
     ∙ rw (ne_eqb rank other (λ e. omega arith), apart other low (omega (arith, falls.1))) refl)

@@ -1,3 +1,4 @@
+pub mod Cards
 pub mod Holdings
 pub mod Masks
 pub mod Ranks

@@ -6,52 +6,57 @@ use Rattle.suit_cards.specs.Ranks.{rank_named}
 use Rattle.suit_cards.specs.Holdings.{holds, suit}
 use Rattle.suit_cards.specs.declared.holdings.CardFault.{CardFault}
 use Rattle.suit_cards.specs.declared.holdings.CardFault.TheVariants.{NotRank, Twice}
+use Rattle.suit_cards.specs.Cards.{Cards, Text}
 
--- a place of a text where a rank is to begin, and the rank that begins there, if one does
+-- the index of a byte of a text where a rank is to begin, and the rank that begins there, if one does
 pub record Spot : Type 0 where
-  pub place : ℕ
+  pub index : ℕ
   pub rank : Option ℕ
 
--- a text from a place on, cut where ranks are to begin: the two bytes 10 stand together, and every other byte alone
-unfoldable pub spots_from : ℕ → List ℕ → List Spot
-spots_from place [] = []
-spots_from place (byte ∷ []) = record { place = place; rank = rank_named byte } ∷ []
-spots_from place (byte ∷ next ∷ rest) =
+-- a text from an index on, cut where ranks are to begin: the two bytes 10 stand together, and every other byte alone
+unfoldable pub spots_from : ℕ → Text → List Spot
+spots_from index [] = []
+spots_from index (byte ∷ []) = record { index = index; rank = rank_named byte } ∷ []
+spots_from index (byte ∷ next ∷ rest) =
     if bytes_eq (byte ∷ next ∷ []) (codes "10")
-    then record { place = place; rank = Some 10 } ∷ spots_from (place + 2) rest
-    else record { place = place; rank = rank_named byte } ∷ spots_from (place + 1) (next ∷ rest)
+    then record { index = index; rank = Some 10 } ∷ spots_from (index + 2) rest
+    else record { index = index; rank = rank_named byte } ∷ spots_from (index + 1) (next ∷ rest)
 
 -- the ranks that begin at spots
-abbrev pub ranks_read : List Spot → List ℕ
+abbrev pub ranks_read : List Spot → Cards
 ranks_read spots = filter_map (λ (spot : Spot). spot.rank) spots
 
--- the spots before a place
+-- the spots before an index
 abbrev pub before : ℕ → List Spot → List Spot
-before place spots = filter (λ (spot : Spot). nat_lt spot.place place) spots
+before index spots = filter (λ (spot : Spot). nat_lt spot.index index) spots
 
 -- a spot is at fault where no rank begins, or one that begins at a spot before it too
 abbrev pub is_at_fault : List Spot → Spot → Bool
-is_at_fault spots spot = option_map_or (holds (ranks_read (before spot.place spots))) spot.rank true
+is_at_fault spots spot = option_map_or (holds (ranks_read (before spot.index spots))) spot.rank true
 
 -- what is told of a spot at fault
 abbrev pub fault_at : Spot → CardFault
-fault_at spot = option_map_or (λ _. Twice spot.place) spot.rank (NotRank spot.place)
+fault_at spot = option_map_or (λ _. Twice spot.index) spot.rank (NotRank spot.index)
 
 -- the first spot at fault decides, and with none the holding has the ranks read, falling
-abbrev pub holding_at : List Spot → Result (List ℕ) CardFault
+abbrev pub holding_at : List Spot → Result Cards CardFault
 holding_at spots =
-    option_map_or (λ spot. Err (fault_at spot)) (find (is_at_fault spots) spots) (Ok (filter (holds (ranks_read spots)) suit))
+    option_map_or (λ spot. Err (fault_at spot)) (find (is_at_fault spots) spots)
+    (Ok (filter (holds (ranks_read spots)) suit))
 
 -- the holding that a text stands for: a dash alone stands for no cards
-unfoldable pub holding_read : List ℕ → Result (List ℕ) CardFault
+unfoldable pub holding_read : Text → Result Cards CardFault
 holding_read text = if bytes_eq text (codes "-") then Ok [] else holding_at (spots_from 0 text)
 
 -- no rank begins where the text does
-abbrev pub BeginsNoRank : List ℕ → Type 0
-BeginsNoRank text = (place : ℕ) → (rest : List Spot) × (spots_from place text ≡ record { place = place; rank = None } ∷ rest)
+abbrev pub BeginsNoRank : Text → Type 0
+BeginsNoRank text = (index : ℕ)
+    → (rest : List Spot) × (spots_from index text ≡ record { index = index; rank = None } ∷ rest)
 
 -- a rank begins where the text does, and so many bytes stand for it
-pub record BeginsRank (text : List ℕ) (rank width : ℕ) : Type 0 where
+pub record BeginsRank (text : Text) (rank width : ℕ) : Type 0 where
   pub some : 0 < width
   pub within : width ≤ length text
-  pub cut : (place : ℕ) → spots_from place text ≡ record { place = place; rank = Some rank } ∷ spots_from (place + width) (drop width text)
+  pub cut : (index : ℕ)
+      → spots_from index text
+      ≡ record { index = index; rank = Some rank } ∷ spots_from (index + width) (drop width text)

@@ -8,16 +8,19 @@ ghost use Rattle.suit_cards.specs.Reading.{holding_read, BeginsNoRank, BeginsRan
 use crate::ranks::Rank;
 use arrayvec::{ArrayString, ArrayVec};
 use std::marker::Model;
+use thiserror::Error;
 
 /// The bits of all thirteen ranks.
 const SUIT: u16 = 0x1fff;
 
 /// Why a text is no holding.
-#[derive(Clone, Copy, PartialEq, Eq, Debug)]
+#[derive(Clone, Copy, Debug, PartialEq, Eq, Error)]
 pub enum CardFault {
-    /// No rank begins at the byte at this place, counted from 0.
+    /// No rank begins at the byte at this index, counted from 0.
+    #[error("no rank begins at byte {at}")]
     NotRank { at: usize },
-    /// The rank that begins at this place, counted from 0, was read before.
+    /// The rank that begins at this index, counted from 0, was read before.
+    #[error("the rank at byte {at} was read before")]
     Twice { at: usize },
 }
 
@@ -29,9 +32,10 @@ pub struct Holding {
 }
 
 impl Model for Holding {
-    ghost use Rattle.std.specs.Prelude.{ℕ, List, ◌<◌, ◌^◌};
+    ghost use Rattle.std.specs.Prelude.{◌<◌, ◌^◌};
+    ghost use Rattle.suit_cards.specs.Cards.{Cards};
 
-    ghost Value = { List ℕ };
+    ghost Value = { Cards };
 
     ghost use Rattle.suit_cards.specs.Masks.{ranks_of, mask_of, mask_of-ranks_of};
 
@@ -45,11 +49,11 @@ impl Model for Holding {
 }
 
 impl PartialEq for Holding {
-    ghost use Rattle.std.specs.Str.{bytes_eq};
     ghost use Rattle.std.specs.Cmp.{partial_equiv_from_equiv};
     ghost use Rattle.std.specs.Cmp.Lexicographic.{nat_list_eq_equiv};
+    ghost use Rattle.suit_cards.specs.Cards.{same_numbers};
 
-    ghost eq = { λ here there. bytes_eq here there };
+    ghost eq = { λ here there. same_numbers here there };
 
     ghost laws = { partial_equiv_from_equiv nat_list_eq_equiv };
 
@@ -90,7 +94,7 @@ impl Holding {
         ensures held { IsTrue result ↔ Contains self rank }
         ensures holding { IsHolding self }
     {
-        self.mask >> rank.place() & 1 == 1
+        self.mask >> rank.index() & 1 == 1
     }
 
     /// The holding with the rank, which it may have already.
@@ -99,7 +103,7 @@ impl Holding {
         ensures rank { IsRank rank }
     {
         Holding {
-            mask: self.mask | 1 << rank.place(),
+            mask: self.mask | 1 << rank.index(),
         }
     }
 
@@ -109,7 +113,7 @@ impl Holding {
         ensures holding { IsHolding result }
     {
         Holding {
-            mask: self.mask & !(1 << rank.place()),
+            mask: self.mask & !(1 << rank.index()),
         }
     }
 
@@ -154,9 +158,9 @@ impl Holding {
         ensures holding { IsHolding self }
     {
         let mut ranks = ArrayVec::new();
-        for place in (0..13).rev() {
-            if self.mask >> place & 1 == 1 {
-                ranks.push(Rank::at(place));
+        for index in (0..13).rev() {
+            if self.mask >> index & 1 == 1 {
+                ranks.push(Rank::at(index));
             }
         }
         ranks
@@ -178,8 +182,8 @@ impl Holding {
         text
     }
 
-    /// Reads a holding as players write it: its letters as they come, capital or small, the ten as `T` or `10`. A dash, or
-    /// nothing at all, is an empty hand. A fault is told at the first place that spells no further rank.
+    /// Reads a holding as players write it: its letters as they come, capital or small, the ten as `T` or `10`. A dash,
+    /// or nothing at all, is an empty hand. A fault is told at the first index that spells no further rank.
     pub fn read(text: &[u8]) -> Result<Holding, CardFault>
         ensures value { result ≡ holding_read text.now }
         ensures holding { IfOk result IsHolding }

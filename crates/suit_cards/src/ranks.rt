@@ -47,9 +47,9 @@ impl Rank {
         ensures known { IsSome result ↔ Contains letters (to_ascii_uppercase letter) }
         ensures rank { IfSome result IsRank }
     {
-        let place = place_of(letter.to_ascii_uppercase())?;
+        let index = index_of(letter.to_ascii_uppercase())?;
         Some(Rank {
-            number: place as u8 + LOWEST,
+            number: index as u8 + LOWEST,
         })
     }
 
@@ -83,7 +83,7 @@ impl Rank {
     }
 
     /// How many ranks are below this one.
-    pub(crate) fn place(self) -> u8
+    pub(crate) fn index(self) -> u8
         ensures value { result + 2 ≡ self }
         ensures below { result < 13 }
     {
@@ -91,21 +91,21 @@ impl Rank {
     }
 
     /// The rank with so many below it.
-    pub(crate) fn at(place: u8) -> Rank
-        requires { place < 13 }
-        ensures { result ≡ place + 2 }
+    pub(crate) fn at(index: u8) -> Rank
+        requires { index < 13 }
+        ensures { result ≡ index + 2 }
     {
         Rank {
-            number: place + LOWEST,
+            number: index + LOWEST,
         }
     }
 }
 
-/// The place of a capital letter among the letters of the ranks.
+/// The index of a capital letter among the letters of the ranks.
 #[tactic(auto, unfolding(crate::specs::Ranks::letters))]
-fn place_of(capital: u8) -> Option<usize>
+fn index_of(capital: u8) -> Option<usize>
     ensures value { result ≡ position (λ letter. letter == capital) letters }
-    ensures below { IfSome result (λ place. place < 13) }
+    ensures below { IfSome result (λ index. index < 13) }
 {
     LETTERS.iter().position(|letter| *letter == capital)
 }

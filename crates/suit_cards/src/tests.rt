@@ -2,8 +2,6 @@ use super::{CardFault, Holding, Rank, Seat};
 use std::process::Abort;
 use std::test::Fail;
 
-fn are_shared<T: Send + Sync>(_: &T) {}
-
 fn holding(rt: &impl Abort, text: &str) -> Holding {
     Holding::read(text.as_bytes()).expect(rt, "a holding")
 }
@@ -83,9 +81,5 @@ fn answers_about_cards(rt: HostRuntime) -> Result<(), Fail> {
         [Seat::N, Seat::E, Seat::S, Seat::W].map(Seat::next),
         [Seat::E, Seat::S, Seat::W, Seat::N]
     );
-    are_shared(&north);
-    are_shared(&queen);
-    are_shared(&Seat::N);
-    are_shared(&CardFault::NotRank { at: 0 });
     Ok(())
 }

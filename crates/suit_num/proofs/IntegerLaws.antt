@@ -1,6 +1,7 @@
--- Laws of whole numbers with a sign, which std lacks. That the product is commutative is `*ℤ_comm` of std's `Math.IntN`.
-use Rattle.std.proofs.Common.{◌≡◌, ℕ, ◌+◌, ◌*◌, ◌<◌, ◌≤◌, sym, ap, ◌∙◌, arith, subst}
-use Rattle.std.specs.Prelude.{ℤ, pos, negsuc, ◌+ℤ◌, ◌-ℤ◌, ◌*ℤ◌, neg_ℤ, ◌≤ℤ◌, ◌<ℤ◌, unsigned_abs, int_div, int_rem}
+-- Laws of whole numbers with a sign, which std lacks. That the product is commutative is `*ℤ_comm` of std's
+-- `Math.IntN`.
+use Rattle.std.proofs.Common.{◌≡◌, ℕ, true, false, ◌+◌, ◌*◌, ◌<◌, ◌≤◌, sym, ap, ◌∙◌, arith, subst}
+use Rattle.std.specs.Prelude.{ℤ, pos, negsuc, ◌+ℤ◌, ◌-ℤ◌, ◌*ℤ◌, neg_ℤ, ◌≤ℤ◌, ◌<ℤ◌, unsigned_abs, int_div, int_rem, int_lt, int_le}
 use Rattle.std.specs.Int.{◌∣◌}
 use Rattle.std.proofs.lemmas.Int.{ints, quot-rem, unsigned_abs-mul}
 use Rattle.std.proofs.lemmas.Nat.Gcd.{mod-eq-zero_of_dvd}
@@ -29,13 +30,17 @@ pub mul-one : (a : ℤ) → a *ℤ pos 1 ≡ a
 mul-one a = same_in _ _ (simp (up-mul, down-mul) (omega arith))
 
 pub mul-neg_left : (a b : ℤ) → neg_ℤ a *ℤ b ≡ neg_ℤ (a *ℤ b)
-mul-neg_left a b = same_in _ _ (rw ((neg_is (a *ℤ b)).0, (neg_is (a *ℤ b)).1) (simp (up-mul, down-mul) (rw ((neg_is a).0, (neg_is a).1) (omega arith))))
+mul-neg_left a b =
+    same_in _ _ (rw ((neg_is (a *ℤ b)).0, (neg_is (a *ℤ b)).1)
+    (simp (up-mul, down-mul) (rw ((neg_is a).0, (neg_is a).1) (omega arith))))
 
 pub mul-add_left : (a b c : ℤ) → a *ℤ (b +ℤ c) ≡ a *ℤ b +ℤ a *ℤ c
-mul-add_left a b c = omega (arith, ints, ap (λ (n : ℕ). up a * n) (sum_is_lem b c), ap (λ (n : ℕ). down a * n) (sum_is_lem b c))
+mul-add_left a b c =
+    omega (arith, ints, ap (λ (n : ℕ). up a * n) (sum_is_lem b c), ap (λ (n : ℕ). down a * n) (sum_is_lem b c))
 
 pub mul-add_right : (a b c : ℤ) → (a +ℤ b) *ℤ c ≡ a *ℤ c +ℤ b *ℤ c
-mul-add_right a b c = omega (arith, ints, ap (λ (n : ℕ). n * up c) (sum_is_lem a b), ap (λ (n : ℕ). n * down c) (sum_is_lem a b))
+mul-add_right a b c =
+    omega (arith, ints, ap (λ (n : ℕ). n * up c) (sum_is_lem a b), ap (λ (n : ℕ). n * down c) (sum_is_lem a b))
 
 pub mul-neg_right : (a b : ℤ) → a *ℤ neg_ℤ b ≡ neg_ℤ (a *ℤ b)
 mul-neg_right a b = *ℤ_comm a (neg_ℤ b) ∙ mul-neg_left b a ∙ ap neg_ℤ (*ℤ_comm b a)
@@ -45,6 +50,20 @@ mul-sub_left a b c = mul-add_left a b (neg_ℤ c) ∙ ap (λ (z : ℤ). a *ℤ b
 
 pub mul-sub_right : (a b c : ℤ) → (a -ℤ b) *ℤ c ≡ a *ℤ c -ℤ b *ℤ c
 mul-sub_right a b c = mul-add_right a (neg_ℤ b) c ∙ ap (λ (z : ℤ). a *ℤ c +ℤ z) (mul-neg_left b c)
+
+-- ---- tests of the order
+
+-- a number that is told to be less is less
+pub int_lt-true : (a b : ℤ) → int_lt a b ≡ true → a <ℤ b
+int_lt-true a b told = grind (arith, ints)
+
+-- and one that is told not to be less is not
+pub int_lt-false : (a b : ℤ) → int_lt a b ≡ false → b ≤ℤ a
+int_lt-false a b told = grind (arith, ints)
+
+-- a number that is told to be at most another is
+pub int_le-true : (a b : ℤ) → int_le a b ≡ true → a ≤ℤ b
+int_le-true a b told = grind (arith, ints)
 
 -- ---- products and the order
 
@@ -109,7 +128,8 @@ div-mul a d h =
 -- the exact quotient is the only number that multiplies back
 pub div_is : (a d q : ℤ) → pos 0 <ℤ d → q *ℤ d ≡ a → int_div a d ≡ q
 div_is a d q some e =
-    same_from_mul (int_div a d) q d (div-mul a d (subst (λ (z : ℤ). unsigned_abs d ∣ unsigned_abs z) e (divides-mul d q)) ∙ sym e) some
+    same_from_mul (int_div a d) q d
+    (div-mul a d (subst (λ (z : ℤ). unsigned_abs d ∣ unsigned_abs z) e (divides-mul d q)) ∙ sym e) some
   where
     divides-mul : (d q : ℤ) → unsigned_abs d ∣ unsigned_abs (q *ℤ d)
     divides-mul d q = rw (unsigned_abs-mul q d) (dvd-mul_left (unsigned_abs d) (unsigned_abs q))
@@ -117,14 +137,18 @@ div_is a d q some e =
 -- a product is divided by dividing a factor
 pub mul-div : (a b d : ℤ) → pos 0 <ℤ d → unsigned_abs d ∣ unsigned_abs a → int_div (a *ℤ b) d ≡ int_div a d *ℤ b
 mul-div a b d some h =
-    div_is (a *ℤ b) d (int_div a d *ℤ b) some (mul_right_comm (int_div a d) b d ∙ ap (λ (z : ℤ). z *ℤ b) (div-mul a d h))
+    div_is (a *ℤ b) d (int_div a d *ℤ b) some
+    (mul_right_comm (int_div a d) b d ∙ ap (λ (z : ℤ). z *ℤ b) (div-mul a d h))
 
 -- a divisor of two numbers divides each difference of their multiples
-pub divides_combination : (d a b x y : ℤ) → unsigned_abs d ∣ unsigned_abs a → unsigned_abs d ∣ unsigned_abs b → unsigned_abs d ∣ unsigned_abs (a *ℤ x -ℤ b *ℤ y)
+pub divides_combination : (d a b x y : ℤ) → unsigned_abs d ∣ unsigned_abs a → unsigned_abs d ∣ unsigned_abs b
+    → unsigned_abs d ∣ unsigned_abs (a *ℤ x -ℤ b *ℤ y)
 divides_combination d a b x y p q =
     let m : ℤ = int_div a d *ℤ x -ℤ int_div b d *ℤ y in
     let e : m *ℤ d ≡ a *ℤ x -ℤ b *ℤ y =
     mul-sub_right (int_div a d *ℤ x) (int_div b d *ℤ y) d
-    ∙ ap (λ (z : ℤ). z -ℤ int_div b d *ℤ y *ℤ d) (mul_right_comm (int_div a d) x d ∙ ap (λ (z : ℤ). z *ℤ x) (div-mul a d p))
+    ∙ ap (λ (z : ℤ). z -ℤ int_div b d *ℤ y *ℤ d)
+    (mul_right_comm (int_div a d) x d ∙ ap (λ (z : ℤ). z *ℤ x) (div-mul a d p))
     ∙ ap (λ (z : ℤ). a *ℤ x -ℤ z) (mul_right_comm (int_div b d) y d ∙ ap (λ (z : ℤ). z *ℤ y) (div-mul b d q)) in
-    subst (λ (z : ℤ). unsigned_abs d ∣ unsigned_abs z) e (rw (unsigned_abs-mul m d) (dvd-mul_left (unsigned_abs d) (unsigned_abs m)))
+    subst (λ (z : ℤ). unsigned_abs d ∣ unsigned_abs z) e
+    (rw (unsigned_abs-mul m d) (dvd-mul_left (unsigned_abs d) (unsigned_abs m)))

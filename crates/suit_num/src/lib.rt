@@ -8,6 +8,7 @@ mod fraction;
 mod halving;
 pub mod laws;
 mod narrow;
+mod sharing;
 
 pub use binomials::choose;
 pub use divisors::{gcd, lcm};

@@ -1,7 +1,8 @@
 //! Where bytes go.
-ghost use Rattle.std.specs.Prelude.{◌≡◌, ℕ, ◌<◌, List, Option, Some, IsSome, OnErr};
+ghost use Rattle.std.specs.Prelude.{◌≡◌, ℕ, ◌<◌, Option, Some, IsSome, OnErr};
 ghost use Rattle.std.specs.Io.{WritesAtMost};
 ghost use Rattle.std.specs.Io.KnownBytes.{WriteAppends};
+ghost use Rattle.suit_ports.specs.Bytes.{Bytes};
 ghost use Rattle.suit_ports.specs.Counts.{Counts, Rose};
 ghost use Rattle.suit_ports.specs.Room.{KeepsRoom, IsFull, TookNone};
 
@@ -10,7 +11,7 @@ use super::PortFault;
 /// A port that takes bytes.
 pub trait Sink {
     /// The bytes written so far, where the sink tells them.
-    ghost written: { Self → Option (List ℕ) };
+    ghost written: { Self → Option Bytes };
 
     /// How many bytes it can hold in all, where it tells that.
     ghost room: { Self → Option ℕ };
@@ -40,6 +41,7 @@ pub trait Sink {
         ensures only_empty { empties self.old < empties self.new → TookNone result from.now }
         ensures full { TookNone result from.now → IsFull (written self.new) (room self.new) };
 
-    /// Who knows the room knows the bytes.
+    /// Who knows the room knows the bytes. So `full` asks something of every sink that tells its room, and a sink that
+    /// tells no bytes tells no room that it could break.
     ghost room_with_bytes: { (sink : Self) (whole : ℕ) → room sink ≡ Some whole → IsSome (written sink) };
 }

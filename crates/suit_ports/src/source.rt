@@ -1,17 +1,21 @@
 //! Where bytes come from.
-ghost use Rattle.std.specs.Prelude.{ℕ, List, Option, OnErr};
+ghost use Rattle.std.specs.Prelude.{ℕ, Option, OnErr};
 ghost use Rattle.std.specs.Io.{ReadsAtMost};
 ghost use Rattle.std.specs.Io.KnownBytes.{ReadConsumes};
+ghost use Rattle.suit_ports.specs.Bytes.{Bytes};
 ghost use Rattle.suit_ports.specs.Counts.{Counts, Rose};
 
+use thiserror::Error;
+
 /// A call of a port failed. The port's count of faults tells of it.
-#[derive(Clone, Copy, Debug, PartialEq, Eq)]
+#[derive(Clone, Copy, Debug, PartialEq, Eq, Error)]
+#[error("a call of a port failed")]
 pub struct PortFault;
 
 /// A port that gives bytes.
 pub trait Source {
     /// The bytes that are left, where the source tells them.
-    ghost left: { Self → Option (List ℕ) };
+    ghost left: { Self → Option Bytes };
 
     /// How many faults there were, up to the last value of a `u64`.
     ghost faults: { Self → ℕ };

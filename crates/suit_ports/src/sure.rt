@@ -1,5 +1,5 @@
 //! Ports in memory that never fail.
-ghost use Rattle.std.specs.Prelude.{◌≡◌, ℕ, ◌+◌, ◌-◌, ◌<◌, ◌^◌, ◌++◌, List, [], Ok, IfOk, OnErr, length, min, take, drop};
+ghost use Rattle.std.specs.Prelude.{◌≡◌, ℕ, ◌+◌, ◌-◌, ◌<◌, ◌^◌, ◌++◌, [], Ok, IfOk, OnErr, length, min, take, drop};
 ghost use Rattle.std.specs.Io.{ReadsAtMost, WritesAtMost};
 ghost use Rattle.std.specs.Io.KnownBytes.{ReadConsumes, WriteAppends};
 ghost use Rattle.suit_ports.specs.Counts.{Counts, Rose};
@@ -18,9 +18,10 @@ pub struct SureSource {
 }
 
 impl Model for SureSource {
-    ghost use Rattle.std.specs.Prelude.{ℕ, ◌≤◌, List, vec_len, drop};
+    ghost use Rattle.std.specs.Prelude.{◌≤◌, vec_len, drop};
+    ghost use Rattle.suit_ports.specs.Bytes.{Bytes};
 
-    ghost Value = { List ℕ };
+    ghost Value = { Bytes };
 
     ghost view = { λ s. drop s.given s.bytes.items };
 

@@ -1,47 +1,54 @@
-//! The ports over std's readers and writers, and in memory, on texts worked out by hand.
+//! The ports in memory, and what `read_all` asks of a source, on cases worked out by hand.
+ghost use Rattle.std.specs.Prelude.{None};
+
 use super::*;
-use std::io;
-use std::io::Read;
 use std::test::Fail;
 
-/// A reader that gives one byte a call, and fails at its third call.
+/// A source that notes the length of each slice that it is lent.
 #[derive(Drop)]
-struct FailsAtThree {
-    calls: u32,
+struct Noting {
+    left: usize,
+    piece: usize,
+    lent: [usize; 4],
+    calls: usize,
 }
 
-impl Read for FailsAtThree {
-    fn read(&mut self, buf: &mut [u8]) -> io::Result<usize> {
-        self.calls = self.calls.saturating_add(1);
-        if self.calls == 3 {
-            return Err(io::Error::from(io::ErrorKind::Other));
+impl Source for Noting {
+    ghost left = { λ _. None };
+
+    ghost faults = { λ _. 0 };
+
+    fn take(&mut self, into: &mut [u8]) -> Result<usize, PortFault> {
+        if self.calls < 4 {
+            self.lent[self.calls] = into.len();
+            self.calls += 1;
         }
-        if buf.is_empty() {
-            return Ok(0);
-        }
-        buf[0] = b'a';
-        Ok(1)
+        let count = into.len().min(self.left).min(self.piece);
+        self.left -= count;
+        Ok(count)
     }
 }
 
 #[test]
-fn std_ports(rt: HostRuntime) -> Result<(), Fail> {
-    let text = b"answer 1\n".as_slice();
-    let mut source = StdSource::of(text);
-    let read = read_all(rt.alloc(), &mut source, 9).ok().ok_or("read")?;
-    assert_eq!(rt; read.as_slice(), text);
-    let mut source = StdSource::of(text);
-    assert!(rt; matches!(read_all(rt.alloc(), &mut source, 8), Err(ReadEnd::Long)));
-    let mut source = StdSource::of(FailsAtThree { calls: 0 });
-    assert!(rt; matches!(read_all(rt.alloc(), &mut source, 9), Err(ReadEnd::Fault)));
-
-    let mut written = Vec::new(rt.alloc());
-    let mut sink = StdSink::of(&mut written);
-    assert_eq!(rt; write_all_of(&mut sink, text), Ok(()));
-    assert_eq!(rt; written.as_slice(), text);
-    let mut room = [0; 3];
-    let mut sink = StdSink::of(room.as_mut_slice());
-    assert_eq!(rt; write_all_of(&mut sink, text), Err(WriteEnd { sent: 3 }));
+fn read_all_asks_for_one_byte_past_the_limit(rt: HostRuntime) -> Result<(), Fail> {
+    for (left, piece, limit, lent, count) in [
+        (0, 1, 0, [1, 0, 0, 0], Some(0)),
+        (1, 1, 0, [1, 0, 0, 0], None),
+        (9, 4, 9, [10, 6, 2, 1], Some(9)),
+        (5000, 3000, 6000, [4096, 3001, 1001, 0], Some(5000)),
+        (5000, 3000, 4999, [4096, 2000, 0, 0], None),
+        (9000, 9000, 9000, [4096, 4096, 809, 1], Some(9000)),
+    ] {
+        let mut source = Noting {
+            left,
+            piece,
+            lent: [0; 4],
+            calls: 0,
+        };
+        let read = read_all(rt.alloc(), &mut source, limit);
+        assert_eq!(rt; source.lent, lent, "limit {limit}");
+        assert_eq!(rt; read.ok().map(|bytes| bytes.len()), count, "limit {limit}");
+    }
     Ok(())
 }
 

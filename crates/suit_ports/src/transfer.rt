@@ -1,24 +1,29 @@
 //! All bytes of a source, and all bytes of a text to a sink.
-ghost use Rattle.std.specs.Prelude.{◌≡◌, ℕ, ◌<◌, ◌≤◌, List, OnOk, OnErr, IfErr, IsErr, IsErrOf, length, take, ◌⊎◌};
+ghost use Rattle.std.specs.Prelude.{◌≡◌, ℕ, ◌<◌, ◌≤◌, OnOk, OnErr, IfErr, IsErr, IsErrOf, length, take, ◌⊎◌};
 ghost use Rattle.std.specs.Io.KnownBytes.{Appends, Consumes, IsAtEnd};
+ghost use Rattle.suit_ports.specs.Bytes.{Bytes};
 ghost use Rattle.suit_ports.specs.Counts.{Counts, Rose};
 ghost use Rattle.suit_ports.specs.Room.{KeepsRoom, IsFull};
 ghost use Rattle.suit_ports.specs.Reading.{Took};
 
 use super::{PortFault, Sink, Source};
 use std::alloc::{AllocError, Global};
+use thiserror::Error;
 
 /// The most bytes that one call of a source is asked for.
 const PIECE: usize = 4096;
 
 /// Why a source was not read to its end.
-#[derive(Clone, Copy, Debug, PartialEq, Eq)]
+#[derive(Clone, Copy, Debug, PartialEq, Eq, Error)]
 pub enum ReadEnd {
     /// A call of the source failed.
+    #[error("a call of the source failed")]
     Fault,
     /// The source has more bytes than the limit.
+    #[error("the source has more bytes than the limit")]
     Long,
     /// There was no memory for the bytes.
+    #[error("there was no memory for the bytes")]
     Memory,
 }
 
@@ -45,7 +50,8 @@ impl From<AllocError> for ReadEnd {
 }
 
 /// A sink stopped before it had taken all bytes.
-#[derive(Clone, Copy, Debug, PartialEq, Eq)]
+#[derive(Clone, Copy, Debug, PartialEq, Eq, Error)]
+#[error("the sink stopped after {sent} bytes")]
 pub struct WriteEnd {
     /// How many bytes it had taken.
     pub sent: usize,
@@ -63,7 +69,7 @@ pub struct WriteEnd {
 /// then is gone.
 pub fn read_all<S: Source>(alloc: Global, source: &mut S, limit: usize) -> Result<Vec<u8>, ReadEnd>
     requires { limit < usize.MAX }
-    ensures taken { (taken : List ℕ) × Took limit result taken × Consumes (S.left source.old) (S.left source.new) taken }
+    ensures taken { (taken : Bytes) × Took limit result taken × Consumes (S.left source.old) (S.left source.new) taken }
     ensures whole { OnOk result (IsAtEnd (S.left source.new)) }
     ensures counts { Counts (S.faults source.old) (S.faults source.new) }
     ensures fault { IsErrOf result ReadEnd.Fault → Rose (S.faults source.old) (S.faults source.new) }

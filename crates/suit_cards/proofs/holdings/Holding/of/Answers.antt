@@ -1,4 +1,4 @@
-use Rattle.std.proofs.Common.{◌≡◌, List, ℕ, [], ◌∷◌, ◌<◌, sym, ap, ◌∙◌, subst, arith}
+use Rattle.std.proofs.Common.{◌≡◌, List, ℕ, [], ◌∷◌, sym, ap, ◌∙◌, subst, arith}
 use Rattle.suit_cards.specs.Ranks.{IsRank}
 use Rattle.suit_cards.specs.Holdings.{IsHolding, with_rank}
 use Rattle.suit_cards.proofs.SingleRank.{with_rank-alone}
