@@ -8,7 +8,7 @@ use Rattle.suit_cards.proofs.HeldRanks.{holds_tells}
 use Rattle.suit_game.specs.declared.question.Question.{Question}
 use Rattle.suit_game.specs.declared.moves.Move.{Move}
 use Rattle.suit_game.specs.declared.moves.Move.TheVariants.{Lead, Follow, ShowOut}
-use Rattle.suit_game.specs.Places.{Place, hand, leads_at, follows_of}
+use Rattle.suit_game.specs.Positions.{Position, leads_at, follows_of, declarer_hand}
 use Rattle.suit_game.proofs.EachElement.{each_map, each_in}
 use Rattle.suit_game.proofs.HeldCards.{IsFirst, holds-first, each_held}
 use Rattle.suit_game.proofs.LegalPlays.{lead_cases}
@@ -24,18 +24,20 @@ pub each_follow : (P : Move → Type 0) (firsts turn : Bool) (cards : List ℕ) 
     → AllByRecursion P (allowed_in firsts turn (follows_of cards))
 each_follow P firsts turn [] out card = allowed_each P firsts turn (ShowOut ∷ []) (out refl, tt)
 each_follow P false turn (first ∷ cards) out card =
-    each_map P Follow (first ∷ cards) (each_held (λ (x : ℕ). P (Follow x)) (first ∷ cards) (λ x held. card x (held, λ e _. absurd (false≢true e))))
+    each_map P Follow (first ∷ cards)
+    (each_held (λ (x : ℕ). P (Follow x)) (first ∷ cards) (λ x held. card x (held, λ e _. absurd (false≢true e))))
 each_follow P true true (first ∷ cards) out card =
-    each_map P Follow (first ∷ cards) (each_held (λ (x : ℕ). P (Follow x)) (first ∷ cards) (λ x held. card x (held, λ _ e. absurd (true≢false e))))
+    each_map P Follow (first ∷ cards)
+    (each_held (λ (x : ℕ). P (Follow x)) (first ∷ cards) (λ x held. card x (held, λ _ e. absurd (true≢false e))))
 each_follow P true false (first ∷ cards) out card = (card first (holds-first first cards, λ _ _. refl), tt)
 
 -- what holds of the lead of each card of North's and of South's holds of each lead
-pub each_lead : (P : Move → Type 0) (question : Question) (place : Place)
-    → ((card : ℕ) → holds (hand question [] place N) card ≡ true → P (Lead N card))
-    → ((card : ℕ) → holds (hand question [] place S) card ≡ true → P (Lead S card))
+pub each_lead : (P : Move → Type 0) (question : Question) (place : Position)
+    → ((card : ℕ) → holds (declarer_hand question place N) card ≡ true → P (Lead N card))
+    → ((card : ℕ) → holds (declarer_hand question place S) card ≡ true → P (Lead S card))
     → AllByRecursion P (leads_at question place)
 each_lead P question place north south =
     each_in P (leads_at question place) (λ move found. elim (lead_cases question place move found) [
-      | inl card ↦ subst P card.2 (north card.0 ((holds_tells (hand question [] place N) card.0).1 card.1))
-      | inr card ↦ subst P card.2 (south card.0 ((holds_tells (hand question [] place S) card.0).1 card.1))
+      | inl card ↦ subst P card.2 (north card.0 ((holds_tells (declarer_hand question place N) card.0).1 card.1))
+      | inr card ↦ subst P card.2 (south card.0 ((holds_tells (declarer_hand question place S) card.0).1 card.1))
     ])

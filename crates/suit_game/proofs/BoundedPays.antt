@@ -5,7 +5,7 @@ use Rattle.std.specs.List.{AllByRecursion}
 use Rattle.suit_game.specs.declared.question.Question.{Question}
 use Rattle.suit_game.specs.declared.moves.Move.{Move}
 use Rattle.suit_game.specs.Fractions.{Fraction, whole, mean, total_weight}
-use Rattle.suit_game.specs.Places.{Place, after, step, legal_at, has_ended, payoff}
+use Rattle.suit_game.specs.Positions.{Position, after, step, legal_at, has_ended, payoff}
 use Rattle.suit_game.specs.Strategies.{Way, DefenceWay, Weighed, chosen}
 use Rattle.suit_game.specs.Gains.{is_declarer_turn, played, pay_within}
 use Rattle.suit_game.proofs.LegalPlays.{after_move}
@@ -19,7 +19,7 @@ allowed_in false turn moves = moves
 allowed_in true true moves = moves
 allowed_in true false moves = first_of moves
 
-abbrev pub allowed : Bool → Question → List ℕ → Place → List Move
+abbrev pub allowed : Bool → Question → List ℕ → Position → List Move
 allowed firsts question west place = allowed_in firsts (is_declarer_turn place.trick) (legal_at question west place)
 
 -- what holds of each legal move holds of those that are allowed
@@ -29,12 +29,12 @@ allowed_each P true true moves each = each
 allowed_each P true false moves each = first_of_each P moves each
 
 -- play has ended, with so many tricks won
-pub record IsOver (Fine : ℕ → Type 0) (question : Question) (place : Place) : Type 0 where
+pub record IsOver (Fine : ℕ → Type 0) (question : Question) (place : Position) : Type 0 where
   pub over : has_ended question place ≡ true
   pub fine : Fine place.won
 
 -- each line of play of at most so many more moves ends, with so many tricks won
-abbrev pub Ends : Bool → (ℕ → Type 0) → Question → List ℕ → ℕ → Place → Type 0
+abbrev pub Ends : Bool → (ℕ → Type 0) → Question → List ℕ → ℕ → Position → Type 0
 Ends firsts Fine question west zero place = IsOver Fine question place
 Ends firsts Fine question west (suc n) place =
     IsOver Fine question place
@@ -68,13 +68,13 @@ pay_step : (firsts : Bool) (Fine : ℕ → Type 0) (Good : Fraction → Type 0) 
     → Good (mean (map (λ (choice : Weighed). (choice.0, pay_within m question declarer defence west (history ++ choice.1 ∷ [])))
     (played question declarer defence west history)))
 pay_step firsts Fine Good question declarer defence west carries first m n history next going each =
-    let place : Place = after question history in
+    let place : Position = after question history in
     let after_each : AllByRecursion (λ (move : Move). Good (pay_within m question declarer defence west (history ++ move ∷ [])))
     (allowed firsts question west place) =
     each_gives (λ (move : Move). Ends firsts Fine question west n (step question place move))
     (λ (move : Move). Good (pay_within m question declarer defence west (history ++ move ∷ []))) (allowed firsts question west place)
     (λ move line. next (history ++ move ∷ [])
-    (subst (λ (later : Place). Ends firsts Fine question west n later)
+    (subst (λ (later : Position). Ends firsts Fine question west n later)
     (sym (after_move question history move)) line))
     each in
     carries.means _

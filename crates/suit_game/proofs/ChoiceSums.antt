@@ -1,49 +1,13 @@
 -- Sums over all choices of some cards.
-use Rattle.std.proofs.Common.{◌≡◌, ℕ, zero, suc, ◌+◌, ◌*◌, Bool, true, false, cond, nat_eq, List, [], ◌∷◌, length, refl, sym, ap, ◌∙◌, inl, inr, arith}
-use Rattle.std.specs.Prelude.{◌==◌, map, if◌then◌else◌}
+use Rattle.std.proofs.Common.{◌≡◌, ℕ, zero, suc, ◌+◌, ◌*◌, Bool, false, cond, nat_eq, List, [], ◌∷◌, length, refl, sym, ap, ◌∙◌, inl, inr, arith}
+use Rattle.std.specs.Prelude.{◌==◌, map}
 use Rattle.std.specs.List.{filter, sum_by, range_with_len}
 use Rattle.std.proofs.lemmas.Bool.{cases_eq, eq-eqb, ne_eqb}
 use Rattle.std.proofs.lemmas.List.Sums.{sum_by-append, sum_by-cons}
 use Rattle.suit_num.specs.Binomials.{binomial}
 use Rattle.suit_num.proofs.BinomialLaws.{pascal, binomial-none, binomial_past}
 use Rattle.suit_game.specs.Layouts.{choices_of}
-
--- equal terms add up to equal sums
-pub sum_by_same : {X : Type 0} (f g : X → ℕ) (xs : List X) → ((x : X) → f x ≡ g x) → sum_by f xs ≡ sum_by g xs
-sum_by_same f g [] same = refl
-sum_by_same f g (x ∷ xs) same = omega (arith, sum_by-cons f x xs, sum_by-cons g x xs, same x, sum_by_same f g xs same)
-
-pub sum_by_none : {X : Type 0} (f : X → ℕ) (xs : List X) → ((x : X) → f x ≡ 0) → sum_by f xs ≡ 0
-sum_by_none f [] none = refl
-sum_by_none f (x ∷ xs) none = omega (arith, sum_by-cons f x xs, none x, sum_by_none f xs none)
-
-sum_by_map : {X Y : Type 0} (f : Y → ℕ) (h : X → Y) (xs : List X) → sum_by f (map h xs) ≡ sum_by (λ x. f (h x)) xs
-sum_by_map f h [] = refl
-sum_by_map {X} f h (x ∷ xs) =
-    let at_item : X → ℕ = λ y. f (h y) in
-    omega (arith, sum_by-cons f (h x) (map h xs), sum_by-cons at_item x xs, sum_by_map f h xs)
-
-sum_kept : {X : Type 0} (b : Bool) (f : X → ℕ) (x : X) (xs : List X) → sum_by f (cond b (x ∷ xs) xs) ≡ cond b (f x) 0 + sum_by f xs
-sum_kept true f x xs = sum_by-cons f x xs
-sum_kept false f x xs = omega arith
-
--- what a filter leaves out counts 0
-pub sum_by_filter : {X : Type 0} (test : X → Bool) (f : X → ℕ) (xs : List X)
-    → sum_by f (filter test xs) ≡ sum_by (λ x. if test x then f x else 0) xs
-sum_by_filter test f [] = refl
-sum_by_filter {X} test f (x ∷ xs) =
-    let kept : X → ℕ = λ y. if test y then f y else 0 in
-    omega (arith, sum_by-cons kept x xs, sum_kept (test x) f x (filter test xs), sum_by_filter test f xs)
-
-length_kept : {X : Type 0} (b : Bool) (x : X) (xs : List X) → length (cond b (x ∷ xs) xs) ≡ cond b 1 0 + length xs
-length_kept true x xs = omega arith
-length_kept false x xs = omega arith
-
-length_filter : {X : Type 0} (test : X → Bool) (xs : List X) → length (filter test xs) ≡ sum_by (λ x. cond (test x) 1 0) xs
-length_filter test [] = refl
-length_filter {X} test (x ∷ xs) =
-    let counted : X → ℕ = λ y. cond (test y) 1 0 in
-    omega (arith, sum_by-cons counted x xs, length_kept (test x) x (filter test xs), length_filter test xs)
+use Rattle.suit_game.proofs.ListSums.{length_filter, sum_by_map, sum_by_none, sum_by_same}
 
 -- each choice has the first card or not
 pub choices_split : (f : ℕ → ℕ) (card : ℕ) (cards : List ℕ)

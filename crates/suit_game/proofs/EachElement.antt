@@ -1,8 +1,9 @@
 -- What is in a list, and what holds of each element of one.
-use Rattle.std.proofs.Common.{◌≡◌, zero, suc, ◌⊎◌, Bool, List, [], ◌∷◌, ◌++◌, map, refl, inl, inr, arith}
+use Rattle.std.proofs.Common.{◌≡◌, ℕ, zero, suc, ◌+◌, ◌≤◌, ◌<◌, ◌⊎◌, Bool, true, false, cond, List, [], ◌∷◌, ◌++◌, map, refl, sym, ap, ◌∙◌, subst, inl, inr, arith}
 use Rattle.std.specs.Prelude.{Contains}
-use Rattle.std.specs.List.{AllByRecursion, filter}
-use Rattle.std.proofs.lemmas.List.Elements.{All-contains, All-contains_itself, All-filter, All-from_recursion, recursion_from_All}
+use Rattle.std.specs.List.{AllByRecursion, filter, flat_map, range_with_len}
+use Rattle.std.proofs.lemmas.Bool.{cases_eq}
+use Rattle.std.proofs.lemmas.List.Elements.{All-contains, All-contains_itself, All-filter, All-from_recursion, Contains-append_left, Contains-append_right, recursion_from_All}
 
 -- an element of a list with a first one is the first, or one of the others
 pub Contains-cons_cases : {X : Type 0} (x : X) (xs : List X) (y : X) → Contains (x ∷ xs) y → (x ≡ y) ⊎ Contains xs y
@@ -71,3 +72,45 @@ each_append P (x ∷ xs) ys each other = (each.0, each_append P xs ys each.1 oth
 -- each element that a filter keeps
 pub each_filter : {X : Type 0} (P : X → Type 0) (test : X → Bool) (xs : List X) → AllByRecursion P xs → AllByRecursion P (filter test xs)
 each_filter P test xs each = recursion_from_All P (filter test xs) (All-filter test P xs (All-from_recursion P xs each))
+
+-- what a function makes of an element is among what it makes of the list
+pub Contains-map : {X Y : Type 0} (f : X → Y) (xs : List X) (x : X) → Contains xs x → Contains (map f xs) (f x)
+Contains-map f [] x found = absurd (Contains-nil x found)
+Contains-map {Y = Y} f (y ∷ ys) x found = elim (Contains-cons_cases y ys x found) [
+  | inl here ↦ subst (λ (z : Y). Contains (map f (y ∷ ys)) z) (ap f here) (Contains-first (f y) (map f ys))
+  | inr there ↦ Contains-later (f y) (map f ys) (f x) (Contains-map f ys x there)
+]
+
+-- what stands in a piece stands in all pieces joined
+pub Contains-flat_map : {X Y : Type 0} (f : X → List Y) (xs : List X) (x : X) (y : Y) → Contains xs x → Contains (f x) y → Contains (flat_map f xs) y
+Contains-flat_map f [] x y found within = absurd (Contains-nil x found)
+Contains-flat_map {X} f (first ∷ others) x y found within = elim (Contains-cons_cases first others x found) [
+  | inl here ↦ Contains-append_left (f first) (flat_map f others) y (subst (λ (z : X). Contains (f z) y) (sym here) within)
+  | inr there ↦ Contains-append_right (f first) (flat_map f others) y (Contains-flat_map f others x y there within)
+]
+
+-- an element that passes is kept, whatever becomes of the one before it
+Contains-kept : {X : Type 0} (test : X → Bool) (x : X) (xs : List X) (passes : Bool) → test x ≡ passes → (y : X) → test y ≡ true
+    → Contains (x ∷ xs) y → (Contains xs y → Contains (filter test xs) y) → Contains (cond passes (x ∷ filter test xs) (filter test xs)) y
+Contains-kept test x xs true is y passes found others = elim (Contains-cons_cases x xs y found) [
+  | inl here ↦ subst (λ (z : _). Contains (x ∷ filter test xs) z) here (Contains-first x (filter test xs))
+  | inr there ↦ Contains-later x (filter test xs) y (others there)
+]
+Contains-kept test x xs false is y passes found others = elim (Contains-cons_cases x xs y found) [
+  | inl here ↦ let fails : test y ≡ false = ap test (sym here) ∙ is in absurd (cc)
+  | inr there ↦ others there
+]
+
+-- an element that passes is kept by a filter
+pub Contains-filter : {X : Type 0} (test : X → Bool) (xs : List X) (y : X) → Contains xs y → test y ≡ true → Contains (filter test xs) y
+Contains-filter test [] y found passes = found
+Contains-filter test (x ∷ xs) y found passes =
+    Contains-kept test x xs (test x) refl y passes found (λ there. Contains-filter test xs y there passes)
+
+-- a number of a run is in it
+pub Contains-range : (a n count : ℕ) → a ≤ count → count < a + n → Contains (range_with_len a n) count
+Contains-range a zero count from below = absurd (omega arith)
+Contains-range a (suc n) count from below = elim (cases_eq a count) [
+  | inl here ↦ subst (λ (k : ℕ). Contains (range_with_len a (suc n)) k) here (Contains-first a (range_with_len (a + 1) n))
+  | inr other ↦ Contains-later a (range_with_len (a + 1) n) count (Contains-range (a + 1) n count (omega arith) (omega arith))
+]

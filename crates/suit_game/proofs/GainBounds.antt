@@ -8,7 +8,7 @@ use Rattle.suit_game.specs.declared.question.Goal.TheVariants.{AtLeast, Tricks}
 use Rattle.suit_game.specs.Fractions.{Fraction, IsAtLeast, IsAtMost}
 use Rattle.suit_game.specs.Layouts.{layouts, weight}
 use Rattle.suit_game.specs.Question.{missing}
-use Rattle.suit_game.specs.Places.{payoff}
+use Rattle.suit_game.specs.Positions.{payoff}
 use Rattle.suit_game.specs.Strategies.{Way, DefenceWay}
 use Rattle.suit_game.specs.Gains.{pay, gain}
 use Rattle.suit_game.proofs.EachElement.{each_gives, each_map}

@@ -7,7 +7,7 @@ use Rattle.suit_game.specs.declared.question.Question.{Question}
 use Rattle.suit_game.specs.declared.moves.Move.{Move}
 use Rattle.suit_game.specs.Fractions.{Fraction, whole, mean, IsAtLeast, IsAtMost}
 use Rattle.suit_game.specs.Gains.{is_declarer_turn, pay, pay_within}
-use Rattle.suit_game.specs.Places.{Place, after, step, legal, legal_at, IsLegal, has_ended, payoff}
+use Rattle.suit_game.specs.Positions.{Position, after, step, legal, legal_at, IsLegal, has_ended, payoff}
 use Rattle.suit_game.specs.Strategies.{Way, DefenceWay, Weighed}
 use Rattle.suit_game.specs.Deals.{IsDeal}
 use Rattle.suit_game.proofs.LegalPlays.{after_move, legal_moves_extend}
@@ -17,13 +17,13 @@ use Rattle.suit_game.proofs.ChosenMoves.{chosen_each}
 use Rattle.suit_game.proofs.EachElement.{each_in, each_map}
 
 -- a fact of positions that legal moves keep, and a fact of fractions that it gives of payoffs and that means keep
-pub record Keeps (question : Question) (west : List ℕ) (At : Place → Type 0) (Good : Fraction → Type 0) : Type 0 where
-  pub payoffs : (place : Place) → At place → Good (whole (payoff question.goal place.won))
-  pub moves : (place : Place) (move : Move) → At place → Contains (legal_at question west place) move → At (step question place move)
+pub record Keeps (question : Question) (west : List ℕ) (At : Position → Type 0) (Good : Fraction → Type 0) : Type 0 where
+  pub payoffs : (place : Position) → At place → Good (whole (payoff question.goal place.won))
+  pub moves : (place : Position) (move : Move) → At place → Contains (legal_at question west place) move → At (step question place move)
   pub means : (items : List (ℕ × Fraction)) → AllByRecursion (λ item. Good item.1) items → Good (mean items)
 
 -- then the second holds of each pay from a position of which the first does
-pub pay_within-kept : (question : Question) (declarer : Way) (defence : DefenceWay) (west : List ℕ) (At : Place → Type 0) (Good : Fraction → Type 0)
+pub pay_within-kept : (question : Question) (declarer : Way) (defence : DefenceWay) (west : List ℕ) (At : Position → Type 0) (Good : Fraction → Type 0)
     → Keeps question west At Good
     → (n : ℕ) (history : List Move) → At (after question history) → Good (pay_within n question declarer defence west history)
 unfolding pay_within
@@ -40,23 +40,23 @@ pay_within-kept question declarer defence west At Good keeps (suc n) history at 
     (subst At (sym (after_move question history move)) (keeps.moves (after question history) move at found)))))))
 
 -- a position that legal play under a layout comes to
-pub record IsComeTo (question : Question) (west : List ℕ) (place : Place) : Type 0 where
+pub record IsComeTo (question : Question) (west : List ℕ) (place : Position) : Type 0 where
   pub history : List Move
   pub legal_history : IsLegal question west history
   pub there : after question history ≡ place
 
-come_to_later : (question : Question) (west : List ℕ) (place : Place) (move : Move) → IsComeTo question west place
+come_to_later : (question : Question) (west : List ℕ) (place : Position) (move : Move) → IsComeTo question west place
     → Contains (legal_at question west place) move → IsComeTo question west (step question place move)
 come_to_later question west place move come found = record {
   history = come.history ++ move ∷ [];
   legal_history = legal_moves_extend question west come.history move come.legal_history
-      (subst (λ (p : Place). Contains (legal_at question west p) move) (sym come.there) found);
-  there = after_move question come.history move ∙ ap (λ (p : Place). step question p move) come.there;
+      (subst (λ (p : Position). Contains (legal_at question west p) move) (sym come.there) found);
+  there = after_move question come.history move ∙ ap (λ (p : Position). step question p move) come.there;
 }
 
-thirteen_at : (question : Question) (west : List ℕ) (place : Place) → IsDeal question west → IsComeTo question west place → place.won ≤ 13
+thirteen_at : (question : Question) (west : List ℕ) (place : Position) → IsDeal question west → IsComeTo question west place → place.won ≤ 13
 thirteen_at question west place deal come =
-    subst (λ (p : Place). p.won ≤ 13) come.there (thirteen_tricks question west come.history deal come.legal_history)
+    subst (λ (p : Position). p.won ≤ 13) come.there (thirteen_tricks question west come.history deal come.legal_history)
 
 -- a pay after a legal history lies between bounds of the payoffs for thirteen tricks at most
 pub pays_are_between : (question : Question) (declarer : Way) (defence : DefenceWay) (west : List ℕ) (history : List Move) (least most : ℕ)

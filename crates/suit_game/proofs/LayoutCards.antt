@@ -11,7 +11,7 @@ use Rattle.suit_game.specs.declared.question.Question.{Question}
 use Rattle.suit_game.specs.Deals.{IsDeal}
 use Rattle.suit_game.specs.Question.{missing}
 use Rattle.suit_game.specs.Layouts.{choices_of, layouts, is_west_length}
-use Rattle.suit_game.specs.Places.{without, dealt}
+use Rattle.suit_game.specs.Positions.{without, dealt}
 use Rattle.suit_game.proofs.EachElement.{each_at, each_gives, each_map, each_append, each_filter}
 use Rattle.suit_game.proofs.HeldCards.{holds-from_filter, holds-from_without}
 
@@ -25,7 +25,8 @@ pub record IsPart (top : ℕ) (cards taken : List ℕ) : Type 0 where
   pub falls : FallsBelow top taken
   pub held : (card : ℕ) → holds taken card ≡ true → holds cards card ≡ true
 
-part_with : (top first : ℕ) (cards taken : List ℕ) → 2 ≤ first → first < top → IsPart first cards taken → IsPart top (first ∷ cards) (first ∷ taken)
+part_with : (top first : ℕ) (cards taken : List ℕ) → 2 ≤ first → first < top → IsPart first cards taken
+    → IsPart top (first ∷ cards) (first ∷ taken)
 part_with top first cards taken least below part = record {
   falls = (least, below, part.falls);
   held = λ card held. elim (or_cases (nat_eq card first) (holds taken card) held) [
@@ -34,14 +35,16 @@ part_with top first cards taken least below part = record {
   ];
 }
 
-part_without : (top first : ℕ) (cards taken : List ℕ) → first < top → IsPart first cards taken → IsPart top (first ∷ cards) taken
+part_without : (top first : ℕ) (cards taken : List ℕ) → first < top → IsPart first cards taken
+    → IsPart top (first ∷ cards) taken
 part_without top first cards taken below part = record {
   falls = FallsBelow-higher first top taken (omega arith) part.falls;
   held = λ card held. or_right (nat_eq card first) (holds cards card) (part.held card held);
 }
 
 -- each choice of falling cards is some of them, falling
-pub choices_of-parts : (top : ℕ) (cards : List ℕ) → FallsBelow top cards → AllByRecursion (IsPart top cards) (choices_of cards)
+pub choices_of-parts : (top : ℕ) (cards : List ℕ) → FallsBelow top cards
+    → AllByRecursion (IsPart top cards) (choices_of cards)
 unfolding choices_of
 choices_of-parts top [] falls = (record { falls = tt; held = λ card held. held }, tt)
 choices_of-parts top (first ∷ cards) falls =
@@ -56,12 +59,14 @@ choices_of-parts top (first ∷ cards) falls =
 pub layouts-parts : (question : Question) → AllByRecursion (IsPart 15 (missing question)) (layouts question)
 unfolding layouts
 layouts-parts question =
-    each_filter (IsPart 15 (missing question)) (λ west. is_west_length question (length west)) (choices_of (missing question))
+    each_filter (IsPart 15 (missing question)) (λ west. is_west_length question (length west))
+    (choices_of (missing question))
     (choices_of-parts 15 (missing question) (IsHolding-others_of question.north question.south))
 
 -- under a layout West's cards fall and are missing ones
 pub layouts_are_deals : (question : Question) (west : List ℕ)
-    → IsHolding question.north → IsHolding question.south → IsTrue (not (list_any (holds question.south) question.north))
+    → IsHolding question.north → IsHolding question.south
+    → IsTrue (not (list_any (holds question.south) question.north))
     → Contains (layouts question) west → IsDeal question west × IsHolding west
 layouts_are_deals question west north south apart found =
     let part = each_at (IsPart 15 (missing question)) (layouts question) west (layouts-parts question) found in
@@ -78,22 +83,26 @@ missing-apart question card held =
     (λ in_north. true≢false (sym in_north ∙ neither.0), λ in_south. true≢false (sym in_south ∙ neither.1))
 
 -- a card of the suit that is in neither is missing
-pub holds-missing : (question : Question) (card : ℕ) → 2 ≤ card → card < 15 → holds question.north card ≡ false → holds question.south card ≡ false
+pub holds-missing : (question : Question) (card : ℕ) → 2 ≤ card → card < 15 → holds question.north card ≡ false
+    → holds question.south card ≡ false
     → holds (missing question) card ≡ true
 holds-missing question card least below north south =
     holds-others_of question.north question.south card (least, omega arith)
     ∙ rw (or_from (holds question.north card) (holds question.south card) north south) refl
 
 -- each hand falls
-pub dealt-falls : (question : Question) (west : List ℕ) → IsHolding question.north → IsHolding question.south → IsPart 15 (missing question) west
+pub dealt-falls : (question : Question) (west : List ℕ) → IsHolding question.north → IsHolding question.south
+    → IsHolding west
     → (seat : Seat) → IsHolding (dealt question west seat)
 unfolding without
-dealt-falls question west north south part N = north
-dealt-falls question west north south part E =
-    IsHolding-filter (λ card. not (holds west card)) (missing question) (IsHolding-others_of question.north question.south)
-dealt-falls question west north south part S = south
-dealt-falls question west north south part W = part.falls
+dealt-falls question west north south falls N = north
+dealt-falls question west north south falls E =
+    IsHolding-filter (λ card. not (holds west card)) (missing question)
+    (IsHolding-others_of question.north question.south)
+dealt-falls question west north south falls S = south
+dealt-falls question west north south falls W = falls
 
 -- the defenders hold missing cards alone
-pub east-missing : (question : Question) (west : List ℕ) (card : ℕ) → holds (dealt question west E) card ≡ true → holds (missing question) card ≡ true
+pub east-missing : (question : Question) (west : List ℕ) (card : ℕ) → holds (dealt question west E) card ≡ true
+    → holds (missing question) card ≡ true
 east-missing question west card held = (holds-from_without (missing question) west card held).0

@@ -2,6 +2,8 @@ pub mod AllowedMoves
 pub mod BoundedPays
 pub mod ChoiceSums
 pub mod ChosenMoves
+pub mod DistinctElements
+pub mod DistinctLegalMoves
 pub mod EachElement
 pub mod EnoughMoves
 pub mod FilledPlaces
@@ -10,6 +12,7 @@ pub mod HeldCards
 pub mod KeptPays
 pub mod LayoutCards
 pub mod LegalPlays
+pub mod ListSums
 pub mod LongestPlay
 pub mod MovesCounted
 pub mod OneTrickHalves
@@ -18,6 +21,7 @@ pub mod OwnCards
 pub mod PayDenominators
 pub mod ReachedPlaces
 pub mod Room
+pub mod SameCardMoves
 pub mod SeenPlaces
 pub mod TrickStates
 pub mod TricksReached

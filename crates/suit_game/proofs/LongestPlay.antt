@@ -7,13 +7,13 @@ use Rattle.suit_cards.proofs.HeldRanks.{holds_tells, shares_tells}
 use Rattle.suit_cards.proofs.HeldSuits.{filter_suit-holds}
 use Rattle.suit_game.specs.declared.question.Question.{Question}
 use Rattle.suit_game.specs.declared.moves.Move.{Move}
-use Rattle.suit_game.specs.Places.{Place, start_place, step, after, LegalFrom, IsLegal}
+use Rattle.suit_game.specs.Positions.{Position, start_place, step, after, LegalFrom, IsLegal}
 use Rattle.suit_game.specs.Lengths.{room}
 use Rattle.suit_game.proofs.HeldCards.{without-none}
 use Rattle.suit_game.proofs.Room.{room_falls}
 
 -- play on from a position uses up room, a move each
-uses_room : (question : Question) (west : List ℕ) (place : Place) (moves : List Move) → LegalFrom question west place moves
+uses_room : (question : Question) (west : List ℕ) (place : Position) (moves : List Move) → LegalFrom question west place moves
     → length moves + room question (fold (step question) place moves) ≤ room question place
 unfolding LegalFrom
 uses_room question west place [] legal = omega arith

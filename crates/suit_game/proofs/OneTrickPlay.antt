@@ -9,7 +9,7 @@ use Rattle.suit_game.specs.declared.question.Question.{Question}
 use Rattle.suit_game.specs.declared.question.LeadAt.{LeadAt}
 use Rattle.suit_game.specs.declared.question.Entries.{Entries}
 use Rattle.suit_game.specs.declared.moves.Move.{Move}
-use Rattle.suit_game.specs.Places.{Place, Trick, Closed, Open, start_place, without, dealt, is_empty, leads_at, legal_in, ended_trick, passed_on, after_lead, step_in, step, has_ended}
+use Rattle.suit_game.specs.Positions.{Position, Trick, Closed, Open, start_place, without, dealt, is_empty, leads_at, legal_in, ended_trick, turn_passed, after_lead, step_in, step, has_ended}
 use Rattle.suit_game.specs.Gains.{is_declarer}
 use Rattle.suit_game.proofs.LegalPlays.{leads_at-none}
 use Rattle.suit_game.proofs.HeldCards.{holds-from_without, without-played}
@@ -18,20 +18,38 @@ use Rattle.suit_game.proofs.AllowedMoves.{IsPlayable, each_follow, each_lead}
 use Rattle.suit_game.proofs.TrickStates.{tally, Stand, Stand-last, Stand-out, Stand-higher, Stand-lower, IsSpent, IsSpent-last, IsSpent-out, IsSpent-played}
 
 -- a position in the only trick
-abbrev pub spot : LeadAt → Entries → Entries → List ℕ → Trick → Place
-spot lead entries_n entries_s gone trick = record { gone = gone; trick = trick; lead = lead; entries_n = entries_n; entries_s = entries_s; won = 0 }
+abbrev pub spot : LeadAt → Entries → Entries → List ℕ → Trick → Position
+spot lead entries_n entries_s gone trick =
+    record { gone = gone; trick = trick; lead = lead; entries_n = entries_n; entries_s = entries_s; won = 0 }
 
-over_after : (Fine : ℕ → Type 0) (question : Question) (lead : LeadAt) (entries_n entries_s : Entries) (gone : List ℕ) (trick : Trick) (winner : Seat)
+over_after : (Fine : ℕ → Type 0) (question : Question) (lead : LeadAt) (entries_n entries_s : Entries) (gone : List ℕ)
+    (trick : Trick) (winner : Seat)
     → without question.north gone ≡ [] → without question.south gone ≡ [] → Fine (tally winner)
     → IsOver Fine question (ended_trick question (spot lead entries_n entries_s gone trick) winner)
 over_after Fine question lead entries_n entries_s gone trick N north south fine =
-    record { over = ap is_empty (leads_at-none question (ended_trick question (spot lead entries_n entries_s gone trick) N) north south); fine = fine }
+    record {
+      over = ap is_empty (leads_at-none question
+          (ended_trick question (spot lead entries_n entries_s gone trick) N) north south);
+      fine = fine;
+    }
 over_after Fine question lead entries_n entries_s gone trick E north south fine =
-    record { over = ap is_empty (leads_at-none question (ended_trick question (spot lead entries_n entries_s gone trick) E) north south); fine = fine }
+    record {
+      over = ap is_empty (leads_at-none question
+          (ended_trick question (spot lead entries_n entries_s gone trick) E) north south);
+      fine = fine;
+    }
 over_after Fine question lead entries_n entries_s gone trick S north south fine =
-    record { over = ap is_empty (leads_at-none question (ended_trick question (spot lead entries_n entries_s gone trick) S) north south); fine = fine }
+    record {
+      over = ap is_empty (leads_at-none question
+          (ended_trick question (spot lead entries_n entries_s gone trick) S) north south);
+      fine = fine;
+    }
 over_after Fine question lead entries_n entries_s gone trick W north south fine =
-    record { over = ap is_empty (leads_at-none question (ended_trick question (spot lead entries_n entries_s gone trick) W) north south); fine = fine }
+    record {
+      over = ap is_empty (leads_at-none question
+          (ended_trick question (spot lead entries_n entries_s gone trick) W) north south);
+      fine = fine;
+    }
 
 -- declarer hands of one card at most, and cards of the suit
 pub record AreSmall (question : Question) (west : List ℕ) : Type 0 where
@@ -60,12 +78,14 @@ Known-out firsts Fine question west turn more gone winner highest none known = r
 Known-higher : (firsts : Bool) (Fine : ℕ → Type 0) (question : Question) (west : List ℕ)
     (turn : Seat) (more : ℕ) (gone : List ℕ) (winner : Seat) (highest card : ℕ)
     → AreSmall question west
-    → IsPlayable firsts (is_declarer (clockwise turn)) (without (dealt question west (clockwise turn)) gone) card → highest < card
+    → IsPlayable firsts (is_declarer (clockwise turn)) (without (dealt question west (clockwise turn)) gone) card
+    → highest < card
     → Known firsts Fine question west turn (suc more) gone winner highest
     → Known firsts Fine question west (clockwise turn) more (card ∷ gone) (clockwise turn) card
 Known-higher firsts Fine question west turn more gone winner highest card small plays up known = record {
   stand = Stand-higher firsts Fine question west turn more gone winner highest card plays
-      (small.low (clockwise turn) card (holds-from_without (dealt question west (clockwise turn)) gone card plays.0).0) up known.stand;
+      (small.low (clockwise turn) card
+      (holds-from_without (dealt question west (clockwise turn)) gone card plays.0).0) up known.stand;
   north = IsSpent-played question west turn more gone N card small.north plays.0 known.north;
   south = IsSpent-played question west turn more gone S card small.south plays.0 known.south;
 }
@@ -73,7 +93,8 @@ Known-higher firsts Fine question west turn more gone winner highest card small 
 Known-lower : (firsts : Bool) (Fine : ℕ → Type 0) (question : Question) (west : List ℕ)
     (turn : Seat) (more : ℕ) (gone : List ℕ) (winner : Seat) (highest card : ℕ)
     → AreSmall question west
-    → IsPlayable firsts (is_declarer (clockwise turn)) (without (dealt question west (clockwise turn)) gone) card → card ≤ highest
+    → IsPlayable firsts (is_declarer (clockwise turn)) (without (dealt question west (clockwise turn)) gone) card
+    → card ≤ highest
     → Known firsts Fine question west turn (suc more) gone winner highest
     → Known firsts Fine question west (clockwise turn) more (card ∷ gone) winner highest
 Known-lower firsts Fine question west turn more gone winner highest card small plays down known = record {
@@ -83,10 +104,13 @@ Known-lower firsts Fine question west turn more gone winner highest card small p
 }
 
 -- the rest of the only trick ends all play
-pub trick_ends : (firsts : Bool) (Fine : ℕ → Type 0) (question : Question) (west : List ℕ) (small : AreSmall question west)
-    (lead : LeadAt) (entries_n entries_s : Entries) (more : ℕ) (trick : Trick) (turn : Seat) (gone : List ℕ) (winner : Seat) (highest : ℕ)
+pub trick_ends : (firsts : Bool) (Fine : ℕ → Type 0) (question : Question) (west : List ℕ)
+    (small : AreSmall question west)
+    (lead : LeadAt) (entries_n entries_s : Entries) (more : ℕ) (trick : Trick) (turn : Seat) (gone : List ℕ)
+    (winner : Seat) (highest : ℕ)
     → Known firsts Fine question west turn more gone winner highest
-    → Ends firsts Fine question west more (passed_on question (spot lead entries_n entries_s gone trick) turn more winner highest)
+    → Ends firsts Fine question west more
+    (turn_passed question (spot lead entries_n entries_s gone trick) turn more winner highest)
 unfolding legal_in step_in
 trick_ends firsts Fine question west small lead entries_n entries_s zero trick turn gone winner highest known =
     over_after Fine question lead entries_n entries_s gone trick winner
@@ -98,19 +122,25 @@ trick_ends firsts Fine question west small lead entries_n entries_s (suc more) t
     inr (
       refl,
       each_follow
-          (λ (move : Move). Ends firsts Fine question west more (step question (spot lead entries_n entries_s gone now) move))
+          (λ (move : Move). Ends firsts Fine question west more
+          (step question (spot lead entries_n entries_s gone now) move))
           firsts (is_declarer next) (without (dealt question west next) gone)
           (λ none. trick_ends firsts Fine question west small lead entries_n entries_s more now next gone winner highest
           (Known-out firsts Fine question west turn more gone winner highest none known))
-          (λ card plays. cond_both _ _ _ (λ (later : Place). Ends firsts Fine question west more later)
-          (λ up. trick_ends firsts Fine question west small lead entries_n entries_s more now next (card ∷ gone) next card
-          (Known-higher firsts Fine question west turn more gone winner highest card small plays (ltb-true highest card up) known))
-          (λ down. trick_ends firsts Fine question west small lead entries_n entries_s more now next (card ∷ gone) winner highest
-          (Known-lower firsts Fine question west turn more gone winner highest card small plays (ltb-false highest card down) known))),
+          (λ card plays. cond_both _ _ _ (λ (later : Position). Ends firsts Fine question west more later)
+          (λ up. trick_ends firsts Fine question west small lead entries_n entries_s more now next
+          (card ∷ gone) next card
+          (Known-higher firsts Fine question west turn more gone winner highest card small plays
+          (ltb-true highest card up) known))
+          (λ down. trick_ends firsts Fine question west small lead entries_n entries_s more now next
+          (card ∷ gone) winner highest
+          (Known-lower firsts Fine question west turn more gone winner highest card small plays
+          (ltb-false highest card down) known))),
     )
 
 -- with one card at most in each declarer hand, play ends after four moves
-pub one_trick_ends : (firsts : Bool) (Fine : ℕ → Type 0) (question : Question) (west : List ℕ) (small : AreSmall question west)
+pub one_trick_ends : (firsts : Bool) (Fine : ℕ → Type 0) (question : Question) (west : List ℕ)
+    (small : AreSmall question west)
     → (has_ended question (start_place question) ≡ true → Fine 0)
     → (has_ended question (start_place question) ≡ false → (card : ℕ) → holds question.north card ≡ true
     → Stand firsts Fine question west N 3 (card ∷ []) N card)
@@ -119,7 +149,7 @@ pub one_trick_ends : (firsts : Bool) (Fine : ℕ → Type 0) (question : Questio
     → Ends firsts Fine question west 4 (start_place question)
 unfolding legal_in step_in
 one_trick_ends firsts Fine question west small none north south =
-    let start : Place = start_place question in
+    let start : Position = start_place question in
     elim (cases_Bool (has_ended question start)) [
       | inl over ↦ inl (record { over = over; fine = none over })
       | inr going ↦

@@ -8,7 +8,7 @@ use Rattle.suit_cards.specs.Holdings.{IsHolding, holds}
 use Rattle.suit_cards.proofs.HeldRanks.{holds_tells}
 use Rattle.suit_game.specs.declared.question.Question.{Question}
 use Rattle.suit_game.specs.Deals.{IsDeal}
-use Rattle.suit_game.specs.Places.{without, dealt}
+use Rattle.suit_game.specs.Positions.{without, dealt}
 use Rattle.suit_game.specs.Question.{missing}
 use Rattle.suit_game.proofs.HeldCards.{holds-from_without, without_away, length-without_one}
 use Rattle.suit_game.proofs.LayoutCards.{missing-apart, east-missing}

@@ -8,7 +8,7 @@ use Rattle.suit_game.specs.declared.moves.Move.{Move}
 use Rattle.suit_game.specs.declared.moves.Move.TheVariants.{Follow, ShowOut}
 use Rattle.suit_game.specs.Fractions.{Fraction, total_weight}
 use Rattle.suit_game.specs.Layouts.{layouts, weight, total}
-use Rattle.suit_game.specs.Places.{Place, Trick, Closed, Open, after, legal, legal_in, legal_at, leads_at, follows_of, hand, is_empty, ended_in, has_ended}
+use Rattle.suit_game.specs.Positions.{Position, Trick, Closed, Open, after, legal, legal_in, legal_at, leads_at, follows_of, hand, is_empty, ended_in, has_ended}
 use Rattle.suit_game.specs.Strategies.{Way, DefenceWay, Weighed, chosen}
 use Rattle.suit_game.specs.Gains.{is_declarer_turn, played, pay_within, pay, gain}
 use Rattle.suit_game.proofs.EachElement.{each_of, each_map}
@@ -23,14 +23,14 @@ some_follow : (cards : List ℕ) → (move : Move) × (more : List Move) × (fol
 some_follow [] = (ShowOut, [], refl)
 some_follow (card ∷ cards) = (Follow card, map Follow cards, refl)
 
-legal_in-some : (question : Question) (west : List ℕ) (place : Place) (trick : Trick) → ended_in question place trick ≡ false
+legal_in-some : (question : Question) (west : List ℕ) (place : Position) (trick : Trick) → ended_in question place trick ≡ false
     → (move : Move) × (more : List Move) × (legal_in question west place trick ≡ move ∷ more)
 unfolding legal_in
 legal_in-some question west place Closed going = some_element (leads_at question place) going
 legal_in-some question west place (Open turn after winner highest) going = some_follow (hand question west place turn)
 
 -- a move is legal wherever play has not ended
-pub legal_at-some : (question : Question) (west : List ℕ) (place : Place) → has_ended question place ≡ false
+pub legal_at-some : (question : Question) (west : List ℕ) (place : Position) → has_ended question place ≡ false
     → (move : Move) × (more : List Move) × (legal_at question west place ≡ move ∷ more)
 legal_at-some question west place going = legal_in-some question west place place.trick going
 

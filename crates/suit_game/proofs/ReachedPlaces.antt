@@ -7,7 +7,7 @@ use Rattle.suit_cards.specs.declared.seats.Seat.TheVariants.{N, S}
 use Rattle.suit_game.specs.declared.question.Question.{Question}
 use Rattle.suit_game.specs.declared.moves.Move.{Move}
 use Rattle.suit_game.specs.Deals.{IsDeal}
-use Rattle.suit_game.specs.Places.{Place, Trick, Closed, Open, dealt, start_place, step, after, legal_at, LegalFrom, IsLegal}
+use Rattle.suit_game.specs.Positions.{Position, Trick, Closed, Open, dealt, start_place, step, after, legal_at, LegalFrom, IsLegal}
 use Rattle.suit_game.specs.Reached.{seats_played, held_at_trick, IsTrickAt, IsReached}
 use Rattle.suit_game.proofs.EachElement.{Contains-nil}
 use Rattle.suit_game.proofs.HeldCards.{without-none}
@@ -16,7 +16,7 @@ use Rattle.suit_game.proofs.MovesCounted.{Counted, tricks_later, counted_later, 
 use Rattle.suit_game.proofs.TricksReached.{own_at, once_later, from_hands_later, trick_later}
 
 -- the facts, after so many moves and finished tricks
-record Facts (question : Question) (west : List ℕ) (place : Place) (count tricks : ℕ) : Type 0 where
+record Facts (question : Question) (west : List ℕ) (place : Position) (count tricks : ℕ) : Type 0 where
   once : IsDistinct (◌==◌) place.gone
   from_hands : (card : ℕ) → Contains place.gone card → (seat : Seat) × Contains (dealt question west seat) card
   trick : IsTrickAt question west place.gone place.trick
@@ -24,7 +24,7 @@ record Facts (question : Question) (west : List ℕ) (place : Place) (count tric
   held : IsDeal question west
       → tricks + max (held_at_trick question place N) (held_at_trick question place S) ≡ max (length question.north) (length question.south)
 
-facts_later : (question : Question) (west : List ℕ) (place : Place) (move : Move) (count tricks : ℕ) → Contains (legal_at question west place) move
+facts_later : (question : Question) (west : List ℕ) (place : Position) (move : Move) (count tricks : ℕ) → Contains (legal_at question west place) move
     → Facts question west place count tricks → Facts question west (step question place move) (suc count) (tricks_later place.trick tricks)
 facts_later question west place move count tricks legal facts =
     let own = own_at question west place place.trick move refl legal in
@@ -36,7 +36,7 @@ facts_later question west place move count tricks legal facts =
       held = λ deal. held_later question west place move tricks (max (length question.north) (length question.south)) deal facts.trick legal (facts.held deal);
     }
 
-facts_from : (question : Question) (west : List ℕ) (place : Place) (moves : List Move) (count tricks : ℕ) → LegalFrom question west place moves
+facts_from : (question : Question) (west : List ℕ) (place : Position) (moves : List Move) (count tricks : ℕ) → LegalFrom question west place moves
     → Facts question west place count tricks → (more : ℕ) × Facts question west (fold (step question) place moves) (length moves + count) more
 unfolding LegalFrom
 facts_from question west place [] count tricks legal facts =
@@ -80,7 +80,7 @@ pub places_are_reached : (question : Question) (west : List ℕ) (history : List
     → IsReached question west history (after question history)
 places_are_reached question west history legal =
     let facts = facts_after question west history legal in
-    let place : Place = after question history in
+    let place : Position = after question history in
     let are = tricks_are (length history) facts.0 (seats_played place.trick) facts.1.counted.moves
     (seats_played-least question west place.gone place.trick facts.1.trick) in
     record {
@@ -97,7 +97,7 @@ pub tricks_use_up_hands : (question : Question) (west : List ℕ) (history : Lis
     ≡ max (length question.north) (length question.south)
 tricks_use_up_hands question west history deal legal =
     let facts = facts_after question west history legal in
-    let place : Place = after question history in
+    let place : Position = after question history in
     let are = tricks_are (length history) facts.0 (seats_played place.trick) facts.1.counted.moves
     (seats_played-least question west place.gone place.trick facts.1.trick) in
     ap (λ (n : ℕ). n + max (held_at_trick question place N) (held_at_trick question place S)) are.0 ∙ facts.1.held deal

@@ -6,7 +6,7 @@ use Rattle.suit_cards.specs.declared.seats.Seat.TheVariants.{N, E, S, W}
 use Rattle.suit_cards.specs.Seats.{clockwise}
 use Rattle.suit_cards.specs.Holdings.{holds}
 use Rattle.suit_game.specs.declared.question.Question.{Question}
-use Rattle.suit_game.specs.Places.{without, dealt}
+use Rattle.suit_game.specs.Positions.{without, dealt}
 use Rattle.suit_game.specs.Strategies.{same_seat}
 use Rattle.suit_game.specs.Gains.{is_declarer}
 use Rattle.suit_game.specs.Reached.{is_to_play}

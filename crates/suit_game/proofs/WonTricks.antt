@@ -5,7 +5,7 @@ use Rattle.suit_cards.specs.declared.seats.Seat.TheVariants.{N, S}
 use Rattle.suit_game.specs.declared.question.Question.{Question}
 use Rattle.suit_game.specs.declared.moves.Move.{Move}
 use Rattle.suit_game.specs.Deals.{IsDeal}
-use Rattle.suit_game.specs.Places.{Place, Trick, Closed, Open, after, legal_at, step, LegalFrom, IsLegal}
+use Rattle.suit_game.specs.Positions.{Position, Trick, Closed, Open, after, legal_at, step, LegalFrom, IsLegal}
 use Rattle.suit_game.specs.Reached.{held_at_trick, IsTrickAt, IsWithin}
 use Rattle.suit_game.proofs.MovesCounted.{tricks_later, held_later}
 use Rattle.suit_game.proofs.ReachedPlaces.{trick_after}
@@ -13,7 +13,7 @@ use Rattle.suit_game.proofs.TricksReached.{trick_later}
 use Rattle.suit_game.proofs.TurnsTaken.{follow_passes, last_ends, lead_opens}
 
 -- a move wins no more tricks than it finishes
-won_at : (question : Question) (west : List ℕ) (place : Place) (trick : Trick) (move : Move) (tricks : ℕ) → place.trick ≡ trick
+won_at : (question : Question) (west : List ℕ) (place : Position) (trick : Trick) (move : Move) (tricks : ℕ) → place.trick ≡ trick
     → Contains (legal_at question west place) move
     → (place.won ≤ (step question place move).won) × ((step question place move).won + tricks ≤ place.won + tricks_later trick tricks)
 won_at question west place Closed move tricks is legal = elim (lead_opens question west place move is legal) [
@@ -27,7 +27,7 @@ won_at question west place (Open turn (suc after) winner highest) move tricks is
     let passed = follow_passes question west place turn after winner highest move is legal in
     (omega (arith, passed.1), omega (arith, passed.1))
 
-within_step : (question : Question) (west : List ℕ) (place : Place) (move : Move) → IsDeal question west
+within_step : (question : Question) (west : List ℕ) (place : Position) (move : Move) → IsDeal question west
     → IsTrickAt question west place.gone place.trick → Contains (legal_at question west place) move → IsWithin question place (step question place move)
 within_step question west place move deal makes_sense legal =
     let longer : ℕ = max (held_at_trick question place N) (held_at_trick question place S) in
@@ -35,7 +35,7 @@ within_step question west place move deal makes_sense legal =
     let won = won_at question west place place.trick move 0 refl legal in
     record { won_least = won.0; won_most = omega (arith, won.1, held) }
 
-within_all : (question : Question) (west : List ℕ) (place : Place) (moves : List Move) → IsDeal question west
+within_all : (question : Question) (west : List ℕ) (place : Position) (moves : List Move) → IsDeal question west
     → IsTrickAt question west place.gone place.trick → LegalFrom question west place moves → IsWithin question place (fold (step question) place moves)
 unfolding LegalFrom
 within_all question west place [] deal makes_sense legal = record { won_least = omega arith; won_most = omega arith }

@@ -1,9 +1,9 @@
 -- Worked examples: questions, strategies and what they come to, written down by hand.
-use Rattle.std.specs.Prelude.{◌≡◌, ℕ, List, [], ◌∷◌, ◌++◌, ℤ, pos, negsuc, map}
+use Rattle.std.specs.Prelude.{◌≡◌, List, [], ◌∷◌, ◌++◌, ℤ, pos, negsuc, map}
 use Rattle.suit_cards.specs.declared.seats.Seat.TheVariants.{N, S}
 use Rattle.suit_game.specs.declared.question.Question.{Question}
 use Rattle.suit_game.specs.declared.question.LeadAt.TheVariants as leads
-use Rattle.suit_game.specs.declared.question.Entries.TheVariants.{Count, Free}
+use Rattle.suit_game.specs.declared.question.Entries.TheVariants.{Count}
 use Rattle.suit_game.specs.declared.question.Goal.{Goal}
 use Rattle.suit_game.specs.declared.question.Goal.TheVariants.{AtLeast, Tricks}
 use Rattle.suit_game.specs.declared.moves.Move.{Move}
@@ -11,26 +11,9 @@ use Rattle.suit_game.specs.declared.moves.Move.TheVariants.{Lead, Follow, ShowOu
 use Rattle.suit_game.specs.Fractions.{Fraction, IsExactly}
 use Rattle.suit_game.specs.Gains.{gain}
 use Rattle.suit_game.specs.Layouts.{layouts, weight, total}
-use Rattle.suit_game.specs.Places.{legal}
-use Rattle.suit_game.specs.Strategies.{Row, DefenceRow, by_rows, by_defence_rows}
-
--- a question with free entries, all places vacant and no more known
-unfoldable pub plain : List ℕ → List ℕ → Goal → Question
-plain north south goal = record {
-  north = north;
-  south = south;
-  start = leads.Either;
-  regain = leads.Either;
-  entries_n = Free;
-  entries_s = Free;
-  vacant_w = 13;
-  vacant_e = 13;
-  west_least = 0;
-  west_most = 13;
-  goal = goal;
-  nodes = 200000;
-  pivots = 100000;
-}
+use Rattle.suit_game.specs.Positions.{legal}
+use Rattle.suit_game.specs.Strategies.{WayRow, DefenceWayRow, by_rows, by_defence_rows}
+use Rattle.suit_game.specs.Question.{plain}
 
 -- the lead in South's hand, and no entries
 unfoldable pub from_south : Question → Question
@@ -61,28 +44,67 @@ ten_cards = from_south (plain (14 ∷ 12 ∷ 11 ∷ 10 ∷ 9 ∷ 8 ∷ 7 ∷ 6 �
 
 -- the ace, facing the king and the queen, with one entry to them
 unfoldable pub one_entry : Question
-one_entry = record (plain (14 ∷ []) (13 ∷ 12 ∷ []) (AtLeast 2)) { start = leads.N; entries_n = Count 0; entries_s = Count 1 }
+one_entry =
+    record (plain (14 ∷ []) (13 ∷ 12 ∷ []) (AtLeast 2)) { start = leads.N; entries_n = Count 0; entries_s = Count 1 }
 
 -- after the three is led and West plays a card from the jack down, these numbers
-unfoldable pub on_low : List (Move × ℤ) → List Row
-on_low numbers = map (λ low. record { history = Lead S 3 ∷ Follow low ∷ []; numbers = numbers }) (11 ∷ 10 ∷ 9 ∷ 8 ∷ 7 ∷ 6 ∷ 5 ∷ 4 ∷ [])
+unfoldable pub on_low : List (Move × ℤ) → List WayRow
+on_low numbers =
+    map (λ low. record { history = Lead S 3 ∷ Follow low ∷ []; numbers = numbers })
+    (11 ∷ 10 ∷ 9 ∷ 8 ∷ 7 ∷ 6 ∷ 5 ∷ 4 ∷ [])
 
 -- the queen; a later row for a history does not count
-unfoldable pub finesse : List Row
+unfoldable pub finesse : List WayRow
 finesse =
     on_low ((Follow 12, pos 1) ∷ [])
     ++ record { history = Lead S 3 ∷ Follow 11 ∷ []; numbers = (Follow 14, pos 1) ∷ [] } ∷ []
 
 -- the queen twice as often as the ace; a later pair for a card does not count
-unfoldable pub mixed_finesse : List Row
+unfoldable pub mixed_finesse : List WayRow
 mixed_finesse = on_low ((Follow 12, pos 2) ∷ (Follow 14, pos 1) ∷ (Follow 12, pos 9) ∷ [])
 
--- West holds up the king with the two beside it, and East throws the two; a negative number counts as 0, and a later row for a history does not count
-unfoldable pub hold_up : List DefenceRow
+-- West holds up the king with the two beside it, and East throws the two; a negative number counts as 0, and a later
+-- row for a history does not count
+unfoldable pub hold_up : List DefenceWayRow
 hold_up =
     record { west = 13 ∷ 2 ∷ []; history = Lead S 3 ∷ []; numbers = (Follow 2, pos 1) ∷ [] }
-    ∷ record { west = []; history = Lead S 3 ∷ ShowOut ∷ Follow 14 ∷ []; numbers = (Follow 2, pos 5) ∷ (Follow 13, negsuc 2) ∷ [] }
+    ∷ record {
+      west = [];
+      history = Lead S 3 ∷ ShowOut ∷ Follow 14 ∷ [];
+      numbers = (Follow 2, pos 5) ∷ (Follow 13, negsuc 2) ∷ [];
+    }
     ∷ record { west = 13 ∷ 2 ∷ []; history = Lead S 3 ∷ []; numbers = (Follow 13, pos 1) ∷ [] }
+    ∷ []
+
+-- all but the king, the jack and the two, facing the three; West holds one to three of those, and has two places for
+-- them
+unfoldable pub known_west : Question
+known_west =
+    record (from_south (plain (14 ∷ 12 ∷ 10 ∷ 9 ∷ 8 ∷ 7 ∷ 6 ∷ 5 ∷ 4 ∷ []) (3 ∷ []) Tricks)) {
+      vacant_w = 2;
+      west_least = 1;
+      west_most = 3;
+    }
+
+-- the ace on the two, since a row whose numbers are all 0 or negative stands for the first move, and a later row does
+-- not count; on the jack the queen three times as often as the ten, and the ace never
+unfoldable pub ace_on_two : List WayRow
+ace_on_two =
+    record { history = Lead S 3 ∷ Follow 2 ∷ []; numbers = (Follow 12, pos 0) ∷ (Follow 14, negsuc 0) ∷ [] }
+    ∷ record { history = Lead S 3 ∷ Follow 2 ∷ []; numbers = (Follow 12, pos 1) ∷ [] }
+    ∷ record {
+      history = Lead S 3 ∷ Follow 11 ∷ [];
+      numbers = (Follow 14, negsuc 3) ∷ (Follow 12, pos 3) ∷ (Follow 10, pos 1) ∷ [];
+    }
+    ∷ []
+
+-- West keeps a king that he has with the two; with the jack and the two a row of no weight has him play the first of
+-- them, the jack; and of both honours he plays the jack twice as often
+unfoldable pub split_honours : List DefenceWayRow
+split_honours =
+    record { west = 11 ∷ 2 ∷ []; history = Lead S 3 ∷ []; numbers = (Follow 2, pos 0) ∷ (Follow 11, negsuc 6) ∷ [] }
+    ∷ record { west = 13 ∷ 2 ∷ []; history = Lead S 3 ∷ []; numbers = (Follow 13, negsuc 1) ∷ (Follow 2, pos 1) ∷ [] }
+    ∷ record { west = 13 ∷ 11 ∷ []; history = Lead S 3 ∷ []; numbers = (Follow 11, pos 2) ∷ (Follow 13, pos 1) ∷ [] }
     ∷ []
 
 -- two missing cards lie in four ways
@@ -116,10 +138,11 @@ LegalInAFinesse =
 abbrev pub LegalAfterALoss : Type 0
 LegalAfterALoss =
     (legal (tenace Tricks) (13 ∷ []) (Lead S 3 ∷ Follow 13 ∷ Follow 12 ∷ Follow 4 ∷ []) ≡ Lead N 14 ∷ Lead S 2 ∷ [])
-    × (legal (record (tenace Tricks) { regain = leads.N }) (13 ∷ []) (Lead S 3 ∷ Follow 13 ∷ Follow 12 ∷ Follow 4 ∷ []) ≡ Lead N 14 ∷ [])
+    × (legal (record (tenace Tricks) { regain = leads.N }) (13 ∷ []) (Lead S 3 ∷ Follow 13 ∷ Follow 12 ∷ Follow 4 ∷ [])
+    ≡ Lead N 14 ∷ [])
 
 -- the gain of two lists of rows
-abbrev pub gain_of : Question → List Row → List DefenceRow → Fraction
+abbrev pub gain_of : Question → List WayRow → List DefenceWayRow → Fraction
 gain_of question plan defence = gain question (by_rows plan) (by_defence_rows defence)
 
 abbrev pub AceGains : Type 0
@@ -149,3 +172,11 @@ HoldUpGains = IsExactly (gain_of ten_cards [] hold_up) 13 25
 
 abbrev pub FinesseOverTenGains : Type 0
 FinesseOverTenGains = IsExactly (gain_of tenace_over_ten finesse []) 6473 14858
+
+-- a range for West leaves out the void, and all three cards with him weigh nothing
+abbrev pub KnownWestGains : Type 0
+KnownWestGains =
+    (layouts known_west
+    ≡ (13 ∷ 11 ∷ 2 ∷ []) ∷ (13 ∷ 11 ∷ []) ∷ (13 ∷ 2 ∷ []) ∷ (13 ∷ []) ∷ (11 ∷ 2 ∷ []) ∷ (11 ∷ []) ∷ (2 ∷ []) ∷ [])
+    × (map (weight known_west) (1 ∷ 2 ∷ 3 ∷ []) ≡ 12 ∷ 1 ∷ 0 ∷ [])
+    × IsExactly (gain_of known_west ace_on_two split_honours) 2021 234

@@ -1,12 +1,14 @@
+pub mod Blocks
 pub mod Deals
 pub mod Examples
 pub mod Fractions
 pub mod GainLaws
 pub mod Gains
+pub mod Histories
 pub mod Layouts
 pub mod Lengths
 pub mod OneTrick
-pub mod Places
+pub mod Positions
 pub mod PlaceViews
 pub mod PlayLaws
 pub mod Question

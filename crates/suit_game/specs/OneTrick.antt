@@ -2,7 +2,7 @@
 use Rattle.std.specs.Prelude.{ℕ, ◌≤◌, ◌&&◌, ◌||◌, not, length, if◌then◌else◌}
 use Rattle.suit_cards.specs.Holdings.{IsHolding, holds}
 use Rattle.suit_game.specs.declared.question.Question.{Question}
-use Rattle.suit_game.specs.Places.{start_place, has_ended, payoff}
+use Rattle.suit_game.specs.Positions.{start_place, has_ended, payoff}
 
 -- no declarer hand has two cards
 pub record IsOneTrick (question : Question) : Type 0 where

@@ -1,25 +1,26 @@
 -- What a place is seen as: what is left of a position without the order in which the cards went.
-use Rattle.std.specs.Prelude.{◌≡◌, ℕ, List, ◌∷◌, Option, Some, None, Contains, true, false, refl, if◌then◌else◌}
+use Rattle.std.specs.Prelude.{◌≡◌, ℕ, ◌∷◌, Option, Some, None, Contains, true, false, refl, if◌then◌else◌}
 use Rattle.suit_cards.specs.declared.seats.Seat.{Seat}
+use Rattle.suit_cards.specs.Cards.{Cards}
 use Rattle.suit_game.specs.declared.question.Question.{Question}
 use Rattle.suit_game.specs.declared.question.LeadAt.{LeadAt}
 use Rattle.suit_game.specs.declared.question.Entries.{Entries}
-use Rattle.suit_game.specs.declared.moves.Move.{Move}
 use Rattle.suit_game.specs.declared.trick.OpenTrick.{OpenTrick}
 use Rattle.suit_game.specs.declared.turn.Turn.{Turn}
 use Rattle.suit_game.specs.declared.turn.Turn.TheVariants as turns
 use Rattle.suit_game.specs.Gains.{is_declarer}
 use Rattle.suit_game.specs.Layouts.{layouts}
-use Rattle.suit_game.specs.Places.{Place, Trick, Closed, Open, without, after, has_ended, IsLegal}
+use Rattle.suit_game.specs.Positions.{Position, Trick, Closed, Open, without, after, has_ended, IsLegal}
 use Rattle.suit_game.specs.Question.{missing}
 use Rattle.suit_game.specs.Validity.{IsValid}
+use Rattle.suit_game.specs.Histories.{History}
 
 -- what is known of a position without the layout
 pub record PlaceView : Type 0 where
   -- the cards that North, South and the defenders together have not played
-  pub north : List ℕ
-  pub south : List ℕ
-  pub defenders : List ℕ
+  pub north : Cards
+  pub south : Cards
+  pub defenders : Cards
   pub trick : Trick
   -- where the lead stands, or stood before the trick in progress, and where it will after a trick lost
   pub lead : LeadAt
@@ -30,7 +31,7 @@ pub record PlaceView : Type 0 where
   pub won : ℕ
 
 -- what a position of a question is seen as
-abbrev pub seen : Question → Place → PlaceView
+abbrev pub seen : Question → Position → PlaceView
 seen question place = record {
   north = without question.north place.gone;
   south = without question.south place.gone;
@@ -44,15 +45,15 @@ seen question place = record {
 }
 
 -- a place is the position after a history
-abbrev pub IsAt : Question → List Move → PlaceView → Type 0
+abbrev pub IsAt : Question → History → PlaceView → Type 0
 IsAt question history view = view ≡ seen question (after question history)
 
 -- the position with one more card gone
-abbrev pub with_gone : Place → ℕ → Place
+abbrev pub with_gone : Position → ℕ → Position
 with_gone place card = record place { gone = card ∷ place.gone }
 
 -- a history that is legal under a layout of a valid question
-pub record IsPlay (question : Question) (west : List ℕ) (history : List Move) : Type 0 where
+pub record IsPlay (question : Question) (west : Cards) (history : History) : Type 0 where
   pub valid : IsValid question
   pub layout : Contains (layouts question) west
   pub legal : IsLegal question west history
@@ -68,7 +69,7 @@ turn_on Closed = turns.Lead
 turn_on (Open turn after winner highest) = if is_declarer turn then turns.Declarer turn else turns.Defence turn
 
 -- who is on turn at a position
-abbrev pub turn_at : Question → Place → Turn
+abbrev pub turn_at : Question → Position → Turn
 turn_at question place = if has_ended question place then turns.Over else turn_on place.trick
 
 -- who is on turn goes with the trick in progress
@@ -86,7 +87,8 @@ trick_seen (Some trick) = Open trick.turn trick.after trick.winner trick.highest
 -- the trick that is seen so
 abbrev pub trick_behind : Trick → Option OpenTrick
 trick_behind Closed = None
-trick_behind (Open turn after winner highest) = Some (record { turn = turn; after = after; winner = winner; highest = highest })
+trick_behind (Open turn after winner highest) =
+    Some (record { turn = turn; after = after; winner = winner; highest = highest })
 
 pub trick_behind-seen : (trick : Option OpenTrick) → trick_behind (trick_seen trick) ≡ trick
 trick_behind-seen None = refl

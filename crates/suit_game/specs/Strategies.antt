@@ -1,28 +1,29 @@
 -- Strategies: weights for the moves of a side, and the lists of rows that name them.
 use Rattle.std.specs.Prelude.{ℕ, zero, suc, ◌==◌, ◌&&◌, Bool, true, false, List, [], ◌∷◌, ℤ, pos, negsuc, if◌then◌else◌}
-use Rattle.std.specs.Str.{bytes_eq}
 use Rattle.suit_cards.specs.declared.seats.Seat.{Seat}
 use Rattle.suit_cards.specs.declared.seats.Seat.TheVariants.{N, E, S, W}
+use Rattle.suit_cards.specs.Cards.{Cards, same_numbers}
 use Rattle.suit_game.specs.declared.moves.Move.{Move}
 use Rattle.suit_game.specs.declared.moves.Move.TheVariants.{Lead, Follow, ShowOut}
+use Rattle.suit_game.specs.Histories.{History}
 
 -- the weight that a side gives to a move after a history; declarer's way knows nothing of the layout
 abbrev pub Way : Type 0
-Way = List Move → Move → ℕ
+Way = History → Move → ℕ
 
 -- the defenders know the layout
 abbrev pub DefenceWay : Type 0
-DefenceWay = List ℕ → Way
+DefenceWay = Cards → Way
 
 -- numbers for moves after one history
-pub record Row : Type 0 where
-  pub history : List Move
+pub record WayRow : Type 0 where
+  pub history : History
   pub numbers : List (Move × ℤ)
 
 -- numbers for moves under one layout, told by West's cards, after one history
-pub record DefenceRow : Type 0 where
-  pub west : List ℕ
-  pub history : List Move
+pub record DefenceWayRow : Type 0 where
+  pub west : Cards
+  pub history : History
   pub numbers : List (Move × ℤ)
 
 abbrev pub same_seat : Seat → Seat → Bool
@@ -38,10 +39,10 @@ same_move (Follow card) (Follow rank) = card == rank
 same_move ShowOut ShowOut = true
 same_move _ _ = false
 
-unfoldable pub same_history : List Move → List Move → Bool
-same_history [] [] = true
-same_history (move ∷ moves) (other ∷ others) = same_move move other && same_history moves others
-same_history _ _ = false
+unfoldable pub same_play : History → History → Bool
+same_play [] [] = true
+same_play (move ∷ moves) (other ∷ others) = same_move move other && same_play moves others
+same_play _ _ = false
 
 -- a number counts as a weight unless it is negative
 abbrev pub counted : ℤ → ℕ
@@ -54,15 +55,17 @@ number_of [] move = 0
 number_of (pair ∷ pairs) move = if same_move pair.0 move then counted pair.1 else number_of pairs move
 
 -- the way of a list of declarer's rows: the first row for the history decides
-unfoldable pub by_rows : List Row → Way
+unfoldable pub by_rows : List WayRow → Way
 by_rows [] history move = 0
-by_rows (row ∷ rows) history move = if same_history row.history history then number_of row.numbers move else by_rows rows history move
+by_rows (row ∷ rows) history move =
+    if same_play row.history history then number_of row.numbers move else by_rows rows history move
 
--- the way of a list of the defenders' rows: the first row for the layout and the history decides
-unfoldable pub by_defence_rows : List DefenceRow → DefenceWay
+-- the way of a list of the defenders' rows: the first row for the layout and the history decides. Layouts are compared
+-- as lists of ranks, so a row whose cards do not fall, or are none of the missing ones, is for no layout
+unfoldable pub by_defence_rows : List DefenceWayRow → DefenceWay
 by_defence_rows [] west history move = 0
 by_defence_rows (row ∷ rows) west history move =
-    if bytes_eq row.west west && same_history row.history history then number_of row.numbers move
+    if same_numbers row.west west && same_play row.history history then number_of row.numbers move
     else by_defence_rows rows west history move
 
 -- a move and its weight

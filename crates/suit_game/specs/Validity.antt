@@ -9,16 +9,17 @@ use Rattle.suit_game.specs.declared.question.Goal.{Goal}
 use Rattle.suit_game.specs.declared.question.Goal.TheVariants.{AtLeast, Tricks}
 use Rattle.suit_game.specs.Question.{missing}
 use Rattle.suit_game.specs.Layouts.{total}
+use Rattle.suit_game.specs.declared.limits.TheConstants.{HAND_SIZE, MOST_NODES, MOST_PIVOTS}
 
 -- a count of entries is at most 13
 abbrev pub AreEntries : Entries → Type 0
 AreEntries Free = Unit {0}
-AreEntries (Count left) = left ≤ 13
+AreEntries (Count left) = left ≤ HAND_SIZE
 
 -- a goal asks for 13 tricks at most
 abbrev pub IsGoal : Goal → Type 0
 IsGoal Tricks = Unit {0}
-IsGoal (AtLeast least) = least ≤ 13
+IsGoal (AtLeast least) = least ≤ HAND_SIZE
 
 -- a question is valid
 pub record IsValid (question : Question) : Type 0 where
@@ -29,16 +30,16 @@ pub record IsValid (question : Question) : Type 0 where
   pub some_card : 0 < length question.north + length question.south
   pub entries_n : AreEntries question.entries_n
   pub entries_s : AreEntries question.entries_s
-  pub vacant_w : question.vacant_w ≤ 13
-  pub vacant_e : question.vacant_e ≤ 13
+  pub vacant_w : question.vacant_w ≤ HAND_SIZE
+  pub vacant_e : question.vacant_e ≤ HAND_SIZE
   pub range : question.west_least ≤ question.west_most
-  pub west_most : question.west_most ≤ 13
+  pub west_most : question.west_most ≤ HAND_SIZE
   -- the missing cards fit into the vacant places
   pub places : length (missing question) ≤ question.vacant_w + question.vacant_e
   pub goal : IsGoal question.goal
   -- the budgets
   pub nodes_least : 1 ≤ question.nodes
-  pub nodes_most : question.nodes ≤ 400000
-  pub pivots : question.pivots ≤ 1000000
+  pub nodes_most : question.nodes ≤ MOST_NODES
+  pub pivots : question.pivots ≤ MOST_PIVOTS
   -- some layout has a weight
   pub has_weight : 0 < total question

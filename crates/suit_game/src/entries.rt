@@ -1,13 +1,13 @@
 //! Where the lead stands, and the entries that leads from elsewhere spend.
 ghost use Rattle.std.specs.Prelude.{◌≡◌};
-ghost use Rattle.suit_game.specs.Places.{after_lead, has_entry, spent, stands_at};
+ghost use Rattle.suit_game.specs.Positions.{after_lead, has_entry, spent, stands_at};
 
 use super::{Entries, LeadAt};
 use suit_cards::Seat;
 
 impl LeadAt {
-    // Whether a lead from the hand spends no entry.
-    pub(crate) fn stands_at(self, seat: Seat) -> bool
+    /// Whether the lead stands at the hand, so that a lead from it spends no entry.
+    pub fn stands_at(self, seat: Seat) -> bool
         ensures { result ≡ stands_at self seat }
     {
         match (self, seat) {
@@ -20,8 +20,8 @@ impl LeadAt {
 }
 
 impl Entries {
-    // Whether an entry is left.
-    pub(crate) fn has_entry(self) -> bool
+    /// Whether an entry is left.
+    pub fn has_entry(self) -> bool
         ensures { result ≡ has_entry self }
     {
         match self {
@@ -40,8 +40,8 @@ impl Entries {
         }
     }
 
-    // The entries to a hand after a lead from it, where the lead stood there or not.
-    pub(crate) fn after_lead(self, lead: LeadAt, seat: Seat) -> Entries
+    /// The entries to a hand after a lead from it: one fewer, unless they are free or the lead stood there.
+    pub fn after_lead(self, lead: LeadAt, seat: Seat) -> Entries
         ensures { result ≡ after_lead lead seat self }
     {
         if lead.stands_at(seat) {

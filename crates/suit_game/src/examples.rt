@@ -1,5 +1,5 @@
 //! What the definitions of the game come to on examples that were worked out apart from them.
-ghost use Rattle.suit_game.specs.Examples.{LayoutsOfTwo, WeightsOfTwo, Totals, LegalWithOneEntry, LegalInAFinesse, LegalAfterALoss, AceGains, KingGains, TenaceGains, FinesseGains, MixedFinesseGains, MixedFinesseTricks, TenCardsGain, HoldUpGains, FinesseOverTenGains};
+ghost use Rattle.suit_game.specs.Examples.{LayoutsOfTwo, WeightsOfTwo, Totals, LegalWithOneEntry, LegalInAFinesse, LegalAfterALoss, AceGains, KingGains, TenaceGains, FinesseGains, MixedFinesseGains, MixedFinesseTricks, TenCardsGain, HoldUpGains, FinesseOverTenGains, KnownWestGains};
 
 /// The king and the queen lie in four ways.
 pub fn layouts_of_two()
@@ -74,4 +74,9 @@ pub fn hold_up_gains()
 /// The finesse where West has only ten vacant places.
 pub fn finesse_over_ten_gains()
     ensures { FinesseOverTenGains }
+{}
+
+/// A range and few vacant places for West, and rows whose numbers are all 0 or negative.
+pub fn known_west_gains()
+    ensures { KnownWestGains }
 {}

@@ -5,6 +5,7 @@ mod entries;
 pub mod examples;
 mod gate;
 pub mod laws;
+mod limits;
 mod moves;
 mod place;
 #[cfg(test)]
@@ -20,8 +21,11 @@ pub mod weight_laws;
 mod weights;
 
 pub use gate::{Gate, OpenGate};
+pub use limits::{
+    DEFAULT_NODES, DEFAULT_PIVOTS, HAND_SIZE, MOST_MOVES, MOST_NODES, MOST_PIVOTS, MOST_TOTAL,
+};
 pub use moves::Move;
 pub use place::Place;
 pub use question::{Entries, Goal, LeadAt, Question};
 pub use turn::Turn;
-pub use weights::{total, weight};
+pub use weights::{total, total_within, weight};

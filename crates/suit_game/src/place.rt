@@ -1,11 +1,13 @@
 //! Places: public positions of the game of single cards.
 ghost use Rattle.std.specs.Prelude.{◌≡◌, ℕ, ◌+◌, ◌<◌, ◌≤◌, ◌||◌, ◌↔◌, ◌++◌, ◌∷◌, [], List, length, map, not, true, false};
+ghost use Rattle.suit_cards.specs.Cards.{Cards};
 ghost use Rattle.suit_cards.specs.declared.seats.Seat.{Seat};
 ghost use Rattle.suit_game.specs.declared.moves.Move.{Move};
 ghost use Rattle.suit_game.specs.declared.moves.Move.TheVariants.{Lead};
 ghost use Rattle.suit_game.specs.declared.question.Question.{Question};
 ghost use Rattle.suit_game.specs.Gains.{is_declarer};
-ghost use Rattle.suit_game.specs.Places.{Place as Position, Closed, after, ended_trick, followed, follows_of, hand, has_ended, has_entry, is_empty, leads_at, led, legal, passed_on, payoff, stands_at};
+ghost use Rattle.suit_game.specs.Histories.{History};
+ghost use Rattle.suit_game.specs.Positions.{Position, Closed, after, ended_trick, followed, follows_of, hand, has_ended, has_entry, is_empty, leads_at, led, legal, turn_passed, payoff, stands_at};
 ghost use Rattle.suit_game.specs.PlaceViews.{IsAt, IsPlay, IsToFollow, IsTurnAt, seen, turn_at, with_gone};
 ghost use Rattle.suit_game.specs.declared.turn.Turn.TheVariants.{Over};
 ghost use Rattle.suit_game.specs.Validity.{IsValid};
@@ -39,14 +41,44 @@ impl Model for Place {
 
     ghost Value = { PlaceView };
 
-    ghost view = { λ place. record { north = place.north; south = place.south; defenders = place.defenders; trick = trick_seen place.trick; lead = place.lead; regain = place.regain; entries_n = place.entries_n; entries_s = place.entries_s; won = place.won } };
+    ghost view = { λ place. record {
+      north = place.north;
+      south = place.south;
+      defenders = place.defenders;
+      trick = trick_seen place.trick;
+      lead = place.lead;
+      regain = place.regain;
+      entries_n = place.entries_n;
+      entries_s = place.entries_s;
+      won = place.won;
+    } };
 
     // Declarer's hands share no card of the suit.
     ghost invariant = { λ place. length place.north + length place.south ≤ 13 };
 
-    ghost inverse = { λ view. record { north = view.north; south = view.south; defenders = view.defenders; trick = trick_behind view.trick; lead = view.lead; regain = view.regain; entries_n = view.entries_n; entries_s = view.entries_s; won = view.won } };
+    ghost inverse = { λ view. record {
+      north = view.north;
+      south = view.south;
+      defenders = view.defenders;
+      trick = trick_behind view.trick;
+      lead = view.lead;
+      regain = view.regain;
+      entries_n = view.entries_n;
+      entries_s = view.entries_s;
+      won = view.won;
+    } };
 
-    ghost inverse_ok = { λ place fits. λ i. record { north = place.north; south = place.south; defenders = place.defenders; trick = trick_behind-seen place.trick i; lead = place.lead; regain = place.regain; entries_n = place.entries_n; entries_s = place.entries_s; won = place.won } };
+    ghost inverse_ok = { λ place fits. λ i. record {
+      north = place.north;
+      south = place.south;
+      defenders = place.defenders;
+      trick = trick_behind-seen place.trick i;
+      lead = place.lead;
+      regain = place.regain;
+      entries_n = place.entries_n;
+      entries_s = place.entries_s;
+      won = place.won;
+    } };
 }
 
 impl Place {
@@ -70,8 +102,10 @@ impl Place {
 
     /// Who is on turn. It is `Turn::Over` exactly where play has ended.
     pub fn turn(&self) -> Turn
-        ensures value { (question : Question) (history : List Move) → IsAt question history self.now → result ≡ turn_at question (after question history) }
-        ensures over { (question : Question) (history : List Move) → IsAt question history self.now → (result ≡ Over ↔ (has_ended question (after question history) ≡ true)) }
+        ensures value { (question : Question) (history : History) → IsAt question history self.now
+            → result ≡ turn_at question (after question history) }
+        ensures over { (question : Question) (history : History) → IsAt question history self.now
+            → (result ≡ Over ↔ (has_ended question (after question history) ≡ true)) }
         ensures trick { IsTurnAt result self.now.trick }
     {
         match self.trick {
@@ -87,7 +121,8 @@ impl Place {
     /// How many tricks declarer has won.
     pub fn tricks(&self) -> u8
         ensures value { result ≡ self.now.won }
-        ensures won { (question : Question) (history : List Move) → IsAt question history self.now → result ≡ (after question history).won }
+        ensures won { (question : Question) (history : History) → IsAt question history self.now
+            → result ≡ (after question history).won }
     {
         self.won
     }
@@ -95,7 +130,8 @@ impl Place {
     /// The cards that a hand of declarer's, North's or South's, holds now.
     pub fn hand(&self, seat: Seat) -> Holding
         requires { is_declarer seat ≡ true }
-        ensures { (question : Question) (west : List ℕ) (history : List Move) → IsAt question history self.now → result ≡ hand question west (after question history) seat }
+        ensures { (question : Question) (west : Cards) (history : History) → IsAt question history self.now
+            → result ≡ hand question west (after question history) seat }
     {
         match seat {
             Seat::N => self.north,
@@ -107,7 +143,8 @@ impl Place {
     /// The cards that a defender, West or East, holds now where West was dealt the cards `west`.
     pub fn holds(&self, west: Holding, seat: Seat) -> Holding
         requires { is_declarer seat ≡ false }
-        ensures { (question : Question) (history : List Move) → IsPlay question west history → IsAt question history self.now → result ≡ hand question west (after question history) seat }
+        ensures { (question : Question) (history : History) → IsPlay question west history
+            → IsAt question history self.now → result ≡ hand question west (after question history) seat }
     {
         let not_west = west.others(Holding::default());
         let not_defenders = self.defenders.others(Holding::default());
@@ -121,8 +158,10 @@ impl Place {
     /// The leads, those of North first, each with ranks falling. Where no trick is in progress, they
     /// are the legal moves.
     pub fn leads(&self) -> ArrayVec<Move, 13>
-        ensures leads { (question : Question) (history : List Move) → IsAt question history self.now → result.items ≡ leads_at question (after question history) }
-        ensures legal { (question : Question) (west : List ℕ) (history : List Move) → IsAt question history self.now → self.now.trick ≡ Closed → result.items ≡ legal question west history }
+        ensures leads { (question : Question) (history : History) → IsAt question history self.now
+            → result.items ≡ leads_at question (after question history) }
+        ensures legal { (question : Question) (west : Cards) (history : History) → IsAt question history self.now
+            → self.now.trick ≡ Closed → result.items ≡ legal question west history }
     {
         let mut leads = ArrayVec::new();
         if self.may_lead_n() {
@@ -138,7 +177,9 @@ impl Place {
     /// showing out. They are the legal moves where `held` is what the seat on turn holds.
     pub fn follows(&self, held: Holding) -> ArrayVec<Move, 13>
         ensures follows { result.items ≡ follows_of held }
-        ensures legal { (question : Question) (west : List ℕ) (history : List Move) (seat : Seat) → IsAt question history self.now → IsToFollow self.now.trick seat → held ≡ hand question west (after question history) seat → result.items ≡ legal question west history }
+        ensures legal { (question : Question) (west : Cards) (history : History) (seat : Seat)
+            → IsAt question history self.now → IsToFollow self.now.trick seat
+            → held ≡ hand question west (after question history) seat → result.items ≡ legal question west history }
     {
         follows_from(held)
     }
@@ -146,7 +187,8 @@ impl Place {
     /// The position after a move, which is one of `leads` or of `follows`. A move of the wrong kind
     /// changes nothing: a follow or a showing out between tricks, or a lead to a trick in progress.
     pub fn step(&self, mv: Move) -> Place
-        ensures { (question : Question) (west : List ℕ) (history : List Move) → IsPlay question west history → IsAt question history self.now → IsAt question (history ++ mv ∷ []) result }
+        ensures { (question : Question) (west : Cards) (history : History) → IsPlay question west history
+            → IsAt question history self.now → IsAt question (history ++ mv ∷ []) result }
     {
         match self.trick {
             None => match mv {
@@ -155,7 +197,7 @@ impl Place {
             },
             Some(trick) => match mv {
                 Move::Follow { rank } => self.followed(trick, rank),
-                Move::ShowOut => self.passed_on(trick),
+                Move::ShowOut => self.turn_passed(trick),
                 Move::Lead { .. } => *self,
             },
         }
@@ -165,7 +207,8 @@ impl Place {
     /// and for the other goal 1 each.
     pub fn payoff(&self, goal: Goal) -> u64
         ensures value { result ≡ payoff goal self.now.won }
-        ensures won { (question : Question) (history : List Move) → IsAt question history self.now → result ≡ payoff goal (after question history).won }
+        ensures won { (question : Question) (history : History) → IsAt question history self.now
+            → result ≡ payoff goal (after question history).won }
     {
         match goal {
             Goal::AtLeast(least) => { if self.won >= least { 1 } else { 0 } }
@@ -191,7 +234,8 @@ impl Place {
 impl Place {
     // Whether some lead is legal where no trick is in progress.
     fn has_lead(&self) -> bool
-        ensures { (question : Question) (position : Position) → self.now ≡ seen question position → result ≡ not (is_empty (leads_at question position)) }
+        ensures { (question : Question) (position : Position) → self.now ≡ seen question position
+            → result ≡ not (is_empty (leads_at question position)) }
     {
         let from_north = self.may_lead_n() && has_cards(self.north);
         let from_south = self.may_lead_s() && has_cards(self.south);
@@ -200,7 +244,8 @@ impl Place {
 
     // The position after a lead.
     fn led(self, seat: Seat, rank: Rank) -> Place
-        ensures { (question : Question) (position : Position) → self ≡ seen question position → result ≡ seen question (led position seat rank) }
+        ensures { (question : Question) (position : Position) → self ≡ seen question position
+            → result ≡ seen question (led position seat rank) }
     {
         let opened = Some(OpenTrick {
             turn: seat.next(),
@@ -225,23 +270,26 @@ impl Place {
 
     // The position after the seat on turn has followed with a card.
     fn followed(self, trick: OpenTrick, rank: Rank) -> Place
-        ensures { (question : Question) (position : Position) → self ≡ seen question position → position.won < 255 → result ≡ seen question (followed question position trick.turn trick.after trick.winner trick.highest rank) }
+        ensures { (question : Question) (position : Position) → self ≡ seen question position → position.won < 255
+            → result
+            ≡ seen question (followed question position trick.turn trick.after trick.winner trick.highest rank) }
     {
         let played = self.without(rank);
         if rank > trick.highest {
-            played.passed_on(OpenTrick {
+            played.turn_passed(OpenTrick {
                 winner: trick.turn,
                 highest: rank,
                 ..trick
             })
         } else {
-            played.passed_on(trick)
+            played.turn_passed(trick)
         }
     }
 
     // The position after the seat on turn has played.
-    fn passed_on(self, trick: OpenTrick) -> Place
-        ensures { (question : Question) (position : Position) → self ≡ seen question position → position.won < 255 → result ≡ seen question (passed_on question position trick.turn trick.after trick.winner trick.highest) }
+    fn turn_passed(self, trick: OpenTrick) -> Place
+        ensures { (question : Question) (position : Position) → self ≡ seen question position → position.won < 255
+            → result ≡ seen question (turn_passed question position trick.turn trick.after trick.winner trick.highest) }
     {
         if trick.after == 0 {
             return self.ended_trick(trick.winner);
@@ -258,7 +306,8 @@ impl Place {
 
     // The position after a trick, which this seat has won.
     fn ended_trick(self, winner: Seat) -> Place
-        ensures { (question : Question) (position : Position) → self ≡ seen question position → position.won < 255 → result ≡ seen question (ended_trick question position winner) }
+        ensures { (question : Question) (position : Position) → self ≡ seen question position → position.won < 255
+            → result ≡ seen question (ended_trick question position winner) }
     {
         // No play wins more than thirteen tricks.
         let won = self.won.saturating_add(1);
@@ -285,7 +334,8 @@ impl Place {
 
     // The position with a card gone, whoever held it.
     fn without(self, rank: Rank) -> Place
-        ensures { (question : Question) (position : Position) → self ≡ seen question position → result ≡ seen question (with_gone position rank) }
+        ensures { (question : Question) (position : Position) → self ≡ seen question position
+            → result ≡ seen question (with_gone position rank) }
     {
         Place {
             north: self.north.without(rank),

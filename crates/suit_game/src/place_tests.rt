@@ -12,19 +12,11 @@ fn holding(text: &'static str) -> Result<Holding, Fail> {
 // A question where the lead stands at South, no hand has an entry, and no more is known.
 fn no_entries(north: &'static str, south: &'static str) -> Result<Question, Fail> {
     Ok(Question {
-        north: holding(north)?,
-        south: holding(south)?,
         start: LeadAt::S,
         regain: LeadAt::S,
         entries_n: Entries::Count(0),
         entries_s: Entries::Count(0),
-        vacant_w: 13,
-        vacant_e: 13,
-        west_least: 0,
-        west_most: 13,
-        goal: Goal::Tricks,
-        nodes: 200_000,
-        pivots: 100_000,
+        ..Question::plain(holding(north)?, holding(south)?, Goal::Tricks)
     })
 }
 

@@ -2,6 +2,7 @@
 ghost use Rattle.std.specs.Prelude.{◌≡◌};
 ghost use Rattle.suit_cards.specs.Holdings.{IsHolding};
 
+use super::{DEFAULT_NODES, DEFAULT_PIVOTS, HAND_SIZE};
 use suit_cards::Holding;
 
 /// Where the lead stands.
@@ -65,7 +66,31 @@ pub struct Question {
 }
 
 impl Question {
-    ghost use Rattle.suit_game.specs.Question.{missing};
+    ghost use Rattle.suit_game.specs.Question.{missing, plain};
+
+    /// The question of two hands and a goal, where no more is told: the lead stands at either hand first and after a
+    /// lost trick, entries are free, all places are vacant, West may hold any number of cards, and the budgets are the
+    /// default ones.
+    #[tactic(auto, unfolding(crate::specs::Question::plain))]
+    pub fn plain(north: Holding, south: Holding, goal: Goal) -> Question
+        ensures { result ≡ plain north south goal }
+    {
+        Question {
+            north,
+            south,
+            start: LeadAt::Either,
+            regain: LeadAt::Either,
+            entries_n: Entries::Free,
+            entries_s: Entries::Free,
+            vacant_w: HAND_SIZE,
+            vacant_e: HAND_SIZE,
+            west_least: 0,
+            west_most: HAND_SIZE,
+            goal,
+            nodes: DEFAULT_NODES,
+            pivots: DEFAULT_PIVOTS,
+        }
+    }
 
     /// The cards that the defenders hold together.
     pub fn missing(&self) -> Holding

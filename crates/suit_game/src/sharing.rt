@@ -1,15 +1,11 @@
 //! What tasks on several threads share and hand over.
 use super::{Entries, Goal, LeadAt, Move, OpenGate, Place, Question, Turn};
-use suit_cards::{Holding, Rank, Seat};
 
 fn shared<T: Send + Sync>() {}
 
 /// A question, its parts and a place of its play may be sent to another thread and be shared with it.
 pub fn questions_are_shared() {
     shared::<Question>();
-    shared::<Holding>();
-    shared::<Rank>();
-    shared::<Seat>();
     shared::<LeadAt>();
     shared::<Entries>();
     shared::<Goal>();

@@ -3,23 +3,11 @@ use super::*;
 use std::test::Fail;
 use suit_cards::Holding;
 
-// A question with free entries, all places vacant and no more known.
+// The plain question of two hands, for tricks.
 fn plain(north: &'static str, south: &'static str) -> Result<Question, Fail> {
-    Ok(Question {
-        north: Holding::read(north.as_bytes()).ok().ok_or(north)?,
-        south: Holding::read(south.as_bytes()).ok().ok_or(south)?,
-        start: LeadAt::Either,
-        regain: LeadAt::Either,
-        entries_n: Entries::Free,
-        entries_s: Entries::Free,
-        vacant_w: 13,
-        vacant_e: 13,
-        west_least: 0,
-        west_most: 13,
-        goal: Goal::Tricks,
-        nodes: 200_000,
-        pivots: 100_000,
-    })
+    let north = Holding::read(north.as_bytes()).ok().ok_or(north)?;
+    let south = Holding::read(south.as_bytes()).ok().ok_or(south)?;
+    Ok(Question::plain(north, south, Goal::Tricks))
 }
 
 #[test]

@@ -40,8 +40,9 @@ fn weight_within(question: &Question, west_len: u8) -> u64
     choose(others, question.vacant_w - west_len)
 }
 
-// The total, also of a question that is not known to be valid.
-pub(crate) fn total_within(question: &Question) -> u64
+/// The total of a question that has room for the missing cards and may have other faults: at most 13 vacant places with
+/// each defender, and no fewer together than there are missing cards.
+pub fn total_within(question: &Question) -> u64
     requires { HasPlaces question.now }
     ensures { result ≡ total question.now }
 {

@@ -1,5 +1,5 @@
 use Rattle.std.proofs.Common.{◌∙◌, ap, subst}
-use Rattle.suit_game.specs.Places.{Trick, follows_of}
+use Rattle.suit_game.specs.Positions.{Trick, follows_of}
 use Rattle.suit_game.specs.PlaceViews.{PlaceView, IsToFollow}
 use Rattle.suit_game.proofs.SeenPlaces.{follows_are_legal}
 use Rattle.suit_game.proofs.place.Place.follows.Goals as goal

@@ -1,7 +1,7 @@
 use Rattle.std.proofs.Common.{◌≡◌, ◌∙◌, ap, sym}
 use Rattle.suit_cards.specs.declared.seats.Seat.{Seat}
 use Rattle.suit_cards.proofs.HeldSuits.{IsHolding-others_of}
-use Rattle.suit_game.specs.Places.{after, hand, without}
+use Rattle.suit_game.specs.Positions.{after, hand, without}
 use Rattle.suit_game.specs.PlaceViews.{PlaceView}
 use Rattle.suit_game.specs.Question.{missing}
 use Rattle.suit_game.proofs.LayoutCards.{layouts_are_deals}

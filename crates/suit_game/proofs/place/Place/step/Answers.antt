@@ -4,7 +4,7 @@ use Rattle.suit_game.specs.declared.moves.Move.{Move}
 use Rattle.suit_game.specs.declared.moves.Move.TheVariants.{Lead, Follow, ShowOut}
 use Rattle.suit_game.specs.declared.trick.OpenTrick.{OpenTrick}
 use Rattle.suit_game.specs.contracts.place.Place.{the_view}
-use Rattle.suit_game.specs.Places.{Place, Trick, Closed, Open, after, step, led, followed, passed_on}
+use Rattle.suit_game.specs.Positions.{Position, Trick, Closed, Open, after, step, led, followed, turn_passed}
 use Rattle.suit_game.specs.PlaceViews.{PlaceView, IsAt, seen, trick_seen}
 use Rattle.suit_game.proofs.LegalPlays.{after_move}
 use Rattle.suit_game.proofs.SeenPlaces.{step-led, step-followed, step-shown_out, step-stays, won_small}
@@ -16,7 +16,7 @@ trick_is : (question : Question) (history : List Move) (view : PlaceView) (trick
 trick_is question history view trick known shown is at_history = sym (ap (λ (v : PlaceView). v.trick) at_history) ∙ shown ∙ is
 
 -- what is seen after a move is seen after the history with the move
-moved : (question : Question) (history : List Move) (move played : Move) (later : PlaceView) (place : Place) → later ≡ seen question place → place ≡ step question (after question history) played
+moved : (question : Question) (history : List Move) (move played : Move) (later : PlaceView) (place : Position) → later ≡ seen question place → place ≡ step question (after question history) played
     → move ≡ played → IsAt question (history ++ move ∷ []) later
 moved question history move played later place shown is same =
     shown ∙ ap (seen question) (is ∙ ap (step question (after question history)) (sym same) ∙ sym (after_move question history move))
@@ -51,9 +51,9 @@ returns-in-Follow-mv c = λ question west history play is.
 
 pub returns-in-ShowOut : goal.returns-in-ShowOut
 returns-in-ShowOut c = λ question west history play is.
-    moved question history c.args.mv ShowOut c.passed_on.result
-    (passed_on question (after question history) c.in-Some.trick.turn c.in-Some.trick.after c.in-Some.trick.winner c.in-Some.trick.highest)
-    (c.passed_on.ensures question (after question history) (c.self.view_is ∙ is) (won_small question west history play))
+    moved question history c.args.mv ShowOut c.turn_passed.result
+    (turn_passed question (after question history) c.in-Some.trick.turn c.in-Some.trick.after c.in-Some.trick.winner c.in-Some.trick.highest)
+    (c.turn_passed.ensures question (after question history) (c.self.view_is ∙ is) (won_small question west history play))
     (step-shown_out question (after question history) c.in-Some.trick.turn c.in-Some.trick.after c.in-Some.trick.winner c.in-Some.trick.highest
     (trick_is question history c.args.self.now c.self.inside.trick _ (sym (ap (λ (view : PlaceView). view.trick) c.self.view_is)) (ap trick_seen c.in-Some.is) is))
     c.in-ShowOut.is
