@@ -21,7 +21,8 @@ step_most true n = omega arith
 step_most false n = omega arith
 
 -- one rank further down the number is the same or the next
-pub class_below-next : (hands : Hands) (n : ℕ) → (class_below hands n ≤ class_below hands (suc n)) × (class_below hands (suc n) ≤ suc (class_below hands n))
+pub class_below-next : (hands : Hands) (n : ℕ)
+    → (class_below hands n ≤ class_below hands (suc n)) × (class_below hands (suc n) ≤ suc (class_below hands n))
 unfolding class_below
 class_below-next hands n = (
   step_least (same_owner (holder hands (14 - n)) (holder hands (14 - suc n))) (class_below hands n),
@@ -69,14 +70,16 @@ kept_number : (b : Bool) (n : ℕ) → n + (if b then 0 else 1) ≡ n → b ≡ 
 kept_number true n kept = refl
 kept_number false n kept = absurd (omega arith)
 
-kept_holder : (hands : Hands) (n : ℕ) → class_below hands (suc n) ≡ class_below hands n → holder hands (14 - n) ≡ holder hands (14 - suc n)
+kept_holder : (hands : Hands) (n : ℕ) → class_below hands (suc n) ≡ class_below hands n
+    → holder hands (14 - n) ≡ holder hands (14 - suc n)
 unfolding class_below
 kept_holder hands n kept =
     same_owner_is (holder hands (14 - n)) (holder hands (14 - suc n))
     (kept_number (same_owner (holder hands (14 - n)) (holder hands (14 - suc n))) (class_below hands n) kept)
 
 -- ranks of one class were held alike
-pub class_held_alike : (hands : Hands) (n m : ℕ) → n ≤ m → class_below hands n ≡ class_below hands m → holder hands (14 - n) ≡ holder hands (14 - m)
+pub class_held_alike : (hands : Hands) (n m : ℕ) → n ≤ m → class_below hands n ≡ class_below hands m
+    → holder hands (14 - n) ≡ holder hands (14 - m)
 class_held_alike hands n zero low same = let zero_is : n ≡ 0 = omega arith in rw zero_is refl
 class_held_alike hands n (suc m) low same = elim (cases_lt n (suc m)) [
   | inl before ↦
@@ -88,7 +91,8 @@ class_held_alike hands n (suc m) low same = elim (cases_lt n (suc m)) [
 ]
 
 -- each number up to that of a rank is that of some rank no lower
-pub class_below-reached : (hands : Hands) (n class : ℕ) → class ≤ class_below hands n → (place : ℕ) × (place ≤ n) × (class_below hands place ≡ class)
+pub class_below-reached : (hands : Hands) (n class : ℕ) → class ≤ class_below hands n
+    → (place : ℕ) × (place ≤ n) × (class_below hands place ≡ class)
 class_below-reached hands zero class few = (0, omega arith, omega (arith, class_below-ace hands))
 class_below-reached hands (suc n) class few = elim (cases_lt class (class_below hands (suc n))) [
   | inl below ↦
@@ -99,7 +103,8 @@ class_below-reached hands (suc n) class few = elim (cases_lt class (class_below 
 ]
 
 -- the list of numbers, by places
-pub numbers_of-at : (hands : Hands) (place : ℕ) → place < 13 → get_or (numbers_of hands) place 0 ≡ class_below hands place
+pub numbers_of-at : (hands : Hands) (place : ℕ) → place < 13
+    → get_or (numbers_of hands) place 0 ≡ class_below hands place
 unfolding numbers_of
 numbers_of-at hands place small = get_or-map-range_with_len (class_below hands) 0 13 place place 0 small (omega arith)
 
@@ -108,7 +113,8 @@ unfolding numbers_of
 length-numbers_of hands = length-map-range_with_len (class_below hands) 0 13
 
 -- a list of thirteen numbers that are right at each place is the list of numbers
-pub numbers_of-filled : (hands : Hands) (numbers : List ℕ) → length numbers ≡ 13 → ((place : ℕ) → place < 13 → get_or numbers place 0 ≡ class_below hands place)
+pub numbers_of-filled : (hands : Hands) (numbers : List ℕ) → length numbers ≡ 13
+    → ((place : ℕ) → place < 13 → get_or numbers place 0 ≡ class_below hands place)
     → numbers ≡ numbers_of hands
 unfolding numbers_of
 numbers_of-filled hands numbers long right = fill_by_all (class_below hands) numbers 13 0 long right
@@ -126,7 +132,8 @@ pub class_count-most : (hands : Hands) → class_count hands ≤ 13
 class_count-most hands = omega (arith, class_below-most hands 12)
 
 find_first : (p : ℕ → Bool) (f : ℕ → ℕ) (from count place : ℕ) → place < count → p (f (from + place)) ≡ true
-    → ((k : ℕ) → k < place → p (f (from + k)) ≡ false) → find p (map f (range_with_len from count)) ≡ Some (f (from + place))
+    → ((k : ℕ) → k < place → p (f (from + k)) ≡ false)
+    → find p (map f (range_with_len from count)) ≡ Some (f (from + place))
 find_first p f from zero place small passes before = absurd (omega arith)
 find_first p f from (suc count) zero small passes before =
     let here : p (f from) ≡ true = subst (λ (n : ℕ). p (f n) ≡ true) (omega arith) passes in
@@ -149,7 +156,8 @@ place_back : (place : ℕ) → place < 13 → 14 - (14 - place) ≡ place
 place_back place small = omega arith
 
 -- the first place with a class has its highest rank
-pub class_top-first : (hands : Hands) (class place rank : ℕ) → place < 13 → rank + place ≡ 14 → class_below hands place ≡ class
+pub class_top-first : (hands : Hands) (class place rank : ℕ) → place < 13 → rank + place ≡ 14
+    → class_below hands place ≡ class
     → ((k : ℕ) → k < place → class_below hands k ≡ class → ⊥) → class_top hands class ≡ Some rank
 class_top-first hands class place rank small is here before =
     ap (find (λ r. class_of hands r == class)) suit_is_ranks
@@ -159,12 +167,15 @@ class_top-first hands class place rank small is here before =
     ∙ ap Some (omega arith)
 
 -- the number that is read at a place, where the numbers are those of some hands
-pub number_read : (numbers : List ℕ) (inside hands : Hands) (place : ℕ) → numbers ≡ numbers_of inside → inside ≡ hands → place < 13
+pub number_read : (numbers : List ℕ) (inside hands : Hands) (place : ℕ) → numbers ≡ numbers_of inside → inside ≡ hands
+    → place < 13
     → get_or numbers place 0 ≡ class_below hands place
 number_read numbers inside hands place are same small =
-    ap (λ (l : List ℕ). get_or l place 0) are ∙ numbers_of-at inside place small ∙ ap (λ (h : Hands). class_below h place) same
+    ap (λ (l : List ℕ). get_or l place 0) are ∙ numbers_of-at inside place small
+    ∙ ap (λ (h : Hands). class_below h place) same
 
-pub length-filter_map : (p : ℕ → Bool) (f : ℕ → ℕ) (xs : List ℕ) → length (filter p (map f xs)) ≡ length (filter (λ x. p (f x)) xs)
+pub length-filter_map : (p : ℕ → Bool) (f : ℕ → ℕ) (xs : List ℕ)
+    → length (filter p (map f xs)) ≡ length (filter (λ x. p (f x)) xs)
 length-filter_map p f [] = refl
 length-filter_map p f (x ∷ xs) =
     elim (p (f x)) as (λ b. length (cond b (f x ∷ filter p (map f xs)) (filter p (map f xs))) ≡ length (cond b (x ∷ filter (λ y. p (f y)) xs) (filter (λ y. p (f y)) xs))) [
@@ -173,7 +184,8 @@ length-filter_map p f (x ∷ xs) =
     ]
 
 -- how many of the numbers are that of a class
-pub numbers_counted : (hands : Hands) (class : ℕ) → count_by (λ number. number == class) (numbers_of hands) ≡ class_size hands class
+pub numbers_counted : (hands : Hands) (class : ℕ)
+    → count_by (λ number. number == class) (numbers_of hands) ≡ class_size hands class
 numbers_counted hands class =
     sym (length-filter (λ number. number == class) (numbers_of hands))
     ∙ ap (λ (l : List ℕ). length (filter (λ number. number == class) l)) (numbers_of-suit hands)
@@ -184,18 +196,22 @@ pub kept_some : (b : Bool) (x : ℕ) (xs : List ℕ) → 0 < length xs → 0 < l
 kept_some true x xs some = omega arith
 kept_some false x xs some = some
 
-filter_some : (p : ℕ → Bool) (xs : List ℕ) (place : ℕ) → place < length xs → p (get_or xs place 0) ≡ true → 0 < length (filter p xs)
+filter_some : (p : ℕ → Bool) (xs : List ℕ) (place : ℕ) → place < length xs → p (get_or xs place 0) ≡ true
+    → 0 < length (filter p xs)
 filter_some p [] place small passes = absurd (omega arith)
 filter_some p (x ∷ xs) zero small passes = rw passes (omega arith)
-filter_some p (x ∷ xs) (suc place) small passes = kept_some (p x) x (filter p xs) (filter_some p xs place (omega arith) passes)
+filter_some p (x ∷ xs) (suc place) small passes =
+    kept_some (p x) x (filter p xs) (filter_some p xs place (omega arith) passes)
 
 -- each class has a card
 pub class_size-some : (hands : Hands) (class : ℕ) → class < class_count hands → 0 < class_size hands class
 class_size-some hands class few =
     let place = class_below-reached hands 12 class (omega arith) in
     let at : place.0 < length (numbers_of hands) = omega (arith, length-numbers_of hands, place.1) in
-    let is : get_or (numbers_of hands) place.0 0 ≡ class = numbers_of-at hands place.0 (omega (arith, place.1)) ∙ place.2 in
-    subst (λ (n : ℕ). 0 < n) (length-filter (λ number. number == class) (numbers_of hands) ∙ numbers_counted hands class)
+    let is : get_or (numbers_of hands) place.0 0 ≡ class =
+    numbers_of-at hands place.0 (omega (arith, place.1)) ∙ place.2 in
+    subst (λ (n : ℕ). 0 < n)
+    (length-filter (λ number. number == class) (numbers_of hands) ∙ numbers_counted hands class)
     (filter_some (λ number. number == class) (numbers_of hands) place.0 at (eq-eqb (get_or (numbers_of hands) place.0 0) class is))
 
 -- how many ranks a class has is a small number
@@ -214,8 +230,10 @@ new_or_kept true n = omega arith
 new_or_kept false n = refl
 
 -- the number is kept where the holder is, and is the next where not
-pub class_below-later : (hands : Hands) (above place number later : ℕ) (starts : Bool) → above + 1 ≡ place → number ≡ class_below hands above
-    → starts ≡ not (same_owner (holder hands (14 - above)) (holder hands (14 - place))) → later ≡ (if starts then number + 1 else number)
+pub class_below-later : (hands : Hands) (above place number later : ℕ) (starts : Bool) → above + 1 ≡ place
+    → number ≡ class_below hands above
+    → starts ≡ not (same_owner (holder hands (14 - above)) (holder hands (14 - place)))
+    → later ≡ (if starts then number + 1 else number)
     → later ≡ class_below hands place
 unfolding class_below
 class_below-later hands above place number later starts next is told chosen =
@@ -223,4 +241,6 @@ class_below-later hands above place number later starts next is told chosen =
     chosen ∙ ap (λ (b : Bool). if b then number + 1 else number) told
     ∙ sym (new_or_kept (same_owner (holder hands (14 - above)) (holder hands (14 - place))) number)
     ∙ ap (λ (n : ℕ). n + (if same_owner (holder hands (14 - above)) (holder hands (14 - place)) then 0 else 1)) is
-    ∙ subst (λ (p : ℕ). class_below hands above + (if same_owner (holder hands (14 - above)) (holder hands (14 - p)) then 0 else 1) ≡ class_below hands p) (sym here) refl
+    ∙ subst
+    (λ (p : ℕ). class_below hands above + (if same_owner (holder hands (14 - above)) (holder hands (14 - p)) then 0 else 1) ≡ class_below hands p)
+    (sym here) refl

@@ -23,7 +23,8 @@ range_below n = λ k d low.
 -- the defenders' classes are classes
 pub defence_classes-below : (hands : Hands) → All (λ class. class < class_count hands) (defence_classes hands)
 defence_classes-below hands =
-    All-filter (λ class. same_owner (class_owner hands class) owners.Defence) (λ class. class < class_count hands) (range_with_len 0 (class_count hands)) (range_below (class_count hands))
+    All-filter (λ class. same_owner (class_owner hands class) owners.Defence) (λ class. class < class_count hands)
+    (range_with_len 0 (class_count hands)) (range_below (class_count hands))
 
 -- each has a card
 pub defence_sizes-some : (hands : Hands) → All (λ size. 1 ≤ size) (defence_sizes hands)
@@ -38,5 +39,7 @@ sum-defence_sizes hands =
     ∙ sym (length-flat_map (class_ranks hands) (defence_classes hands))
     ∙ ap length (missing_in_blocks hands)
 
-pub length-defence_sizes : (hands : Hands) → length (others_of hands.north hands.south) + length (defence_sizes hands) ≤ 14
-length-defence_sizes hands = omega (arith, length-map (defence_classes hands) (class_size hands), (defence_classes-few hands).1)
+pub length-defence_sizes : (hands : Hands)
+    → length (others_of hands.north hands.south) + length (defence_sizes hands) ≤ 14
+length-defence_sizes hands =
+    omega (arith, length-map (defence_classes hands) (class_size hands), (defence_classes-few hands).1)

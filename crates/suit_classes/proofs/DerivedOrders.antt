@@ -10,7 +10,8 @@ use Rattle.suit_classes.specs.declared.class_moves.ClassMove.TheVariants.{Lead, 
 use Rattle.suit_classes.specs.contracts.class_moves.ClassMovePartialEq.TheImpl as equal
 use Rattle.suit_classes.specs.contracts.class_moves.ClassMovePartialOrd.TheImpl as order
 use Rattle.suit_classes.specs.AllowedHistories.{is_among}
-use Rattle.suit_classes.specs.ClassMoves.{same_class_move, stands_before}
+use Rattle.suit_classes.specs.ClassMoves.{same_class_move}
+use Rattle.suit_classes.specs.MoveOrder.{stands_before}
 
 -- the derived equality tells which moves are the same
 pub eq_same : (x y : ClassMove) → equal.ghosts.eq x y ≡ same_class_move x y
@@ -113,8 +114,10 @@ eq_same-swapped ShowOut (Lead other number) = refl
 eq_same-swapped ShowOut (Follow number) = refl
 
 -- a list of moves is asked for a move as is_among asks
-pub any_among : (moves : List ClassMove) (move : ClassMove) → list_any (λ held. equal.ghosts.eq held move) moves ≡ is_among moves move
+pub any_among : (moves : List ClassMove) (move : ClassMove)
+    → list_any (λ held. equal.ghosts.eq held move) moves ≡ is_among moves move
 unfolding is_among
 any_among [] move = refl
 any_among (held ∷ rest) move =
-    ap (λ (b : Bool). b || list_any (λ other. equal.ghosts.eq other move) rest) (eq_same-swapped held move) ∙ ap (λ (b : Bool). same_class_move move held || b) (any_among rest move)
+    ap (λ (b : Bool). b || list_any (λ other. equal.ghosts.eq other move) rest) (eq_same-swapped held move)
+    ∙ ap (λ (b : Bool). same_class_move move held || b) (any_among rest move)

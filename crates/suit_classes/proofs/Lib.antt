@@ -12,7 +12,11 @@ pub mod AgreedPlaces
 pub mod DecidedPlays
 pub mod AllowedHistories
 pub mod SameMoves
+pub mod RisingMoves
+pub mod CardsByClass
+pub mod UndecidedMoves
 pub mod ToldHistories
 pub mod DistinctMoves
 pub mod DerivedOrders
 pub mod AllowedLayouts
+pub mod EveryMove

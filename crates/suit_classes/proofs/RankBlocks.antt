@@ -3,6 +3,7 @@ use Rattle.std.proofs.Common.{◌≡◌, ℕ, zero, suc, ◌+◌, ◌-◌, ◌<�
 use Rattle.std.specs.Prelude.{filter, ◌==◌, ◌&&◌, if◌then◌else◌}
 use Rattle.std.specs.List.{range_with_len, flat_map}
 use Rattle.std.proofs.lemmas.Bool.{cases_eq, eqb-true, eq-eqb, ne_eqb}
+use Rattle.suit_cards.specs.Cards.{Cards}
 use Rattle.suit_cards.specs.Holdings.{FallsBelow, IsHolding, suit, others_of}
 use Rattle.suit_cards.proofs.HeldSuits.{IsHolding-others_of}
 use Rattle.suit_cards.proofs.SuitRuns.{filter-filter, filter_suit-agree}
@@ -31,27 +32,33 @@ Rises-lower f lower low [] down rises = tt
 Rises-lower f lower low (x ∷ xs) down rises = (omega (arith, rises.0), rises.1)
 
 -- below where it begins no number stands
-pub with_number-none : (f : ℕ → ℕ) (low number : ℕ) (xs : List ℕ) → number < low → Rises f low xs → with_number f xs number ≡ []
+pub with_number-none : (f : ℕ → ℕ) (low number : ℕ) (xs : List ℕ) → number < low → Rises f low xs
+    → with_number f xs number ≡ []
 with_number-none f low number [] below rises = refl
 with_number-none f low number (x ∷ xs) below rises =
     let differs : f x ≡ number → ⊥ = λ same. omega (arith, same, rises.0) in
-    rw (ne_eqb (f x) number differs) (with_number-none f low number xs below (Rises-lower f low (f x) xs rises.0 rises.1))
+    rw (ne_eqb (f x) number differs)
+    (with_number-none f low number xs below (Rises-lower f low (f x) xs rises.0 rises.1))
 
 with_number-same : (f : ℕ → ℕ) (x : ℕ) (xs : List ℕ) → with_number f (x ∷ xs) (f x) ≡ x ∷ with_number f xs (f x)
 with_number-same f x xs = rw (eq-eqb (f x) (f x) refl) refl
 
-with_number-other : (f : ℕ → ℕ) (x : ℕ) (xs : List ℕ) (number : ℕ) → (f x ≡ number → ⊥) → with_number f (x ∷ xs) number ≡ with_number f xs number
+with_number-other : (f : ℕ → ℕ) (x : ℕ) (xs : List ℕ) (number : ℕ) → (f x ≡ number → ⊥)
+    → with_number f (x ∷ xs) number ≡ with_number f xs number
 with_number-other f x xs number differs = rw (ne_eqb (f x) number differs) refl
 
 blocks_after : (f : ℕ → ℕ) (x : ℕ) (xs : List ℕ) (from count : ℕ) → f x < from
-    → flat_map (with_number f (x ∷ xs)) (range_with_len from count) ≡ flat_map (with_number f xs) (range_with_len from count)
+    → flat_map (with_number f (x ∷ xs)) (range_with_len from count) ≡ flat_map (with_number f xs)
+    (range_with_len from count)
 blocks_after f x xs from zero past = refl
 blocks_after f x xs from (suc count) past =
-    ap (λ (l : List ℕ). l ++ flat_map (with_number f (x ∷ xs)) (range_with_len (from + 1) count)) (with_number-other f x xs from (λ same. omega (arith, same)))
+    ap (λ (l : List ℕ). l ++ flat_map (with_number f (x ∷ xs)) (range_with_len (from + 1) count))
+    (with_number-other f x xs from (λ same. omega (arith, same)))
     ∙ ap (λ (l : List ℕ). with_number f xs from ++ l) (blocks_after f x xs (from + 1) count (omega arith))
 
 blocks_more : (f : ℕ → ℕ) (x : ℕ) (xs : List ℕ) (from count : ℕ) → from ≤ f x → f x < from + count → Rises f (f x) xs
-    → flat_map (with_number f (x ∷ xs)) (range_with_len from count) ≡ x ∷ flat_map (with_number f xs) (range_with_len from count)
+    → flat_map (with_number f (x ∷ xs)) (range_with_len from count) ≡ x ∷ flat_map (with_number f xs)
+    (range_with_len from count)
 blocks_more f x xs from zero least most rises = absurd (omega arith)
 blocks_more f x xs from (suc count) least most rises = elim (cases_eq from (f x)) [
   | inl here ↦
@@ -63,7 +70,8 @@ blocks_more f x xs from (suc count) least most rises = elim (cases_eq from (f x)
       ap (λ (l : List ℕ). l ++ flat_map (with_number f (x ∷ xs)) (range_with_len (from + 1) count))
       (with_number-none f (f x) from (x ∷ xs) before (omega arith, rises))
       ∙ blocks_more f x xs (from + 1) count (omega arith) (omega arith) rises
-      ∙ ap (λ (l : List ℕ). x ∷ (l ++ flat_map (with_number f xs) (range_with_len (from + 1) count))) (sym (with_number-none f (f x) from xs before rises))
+      ∙ ap (λ (l : List ℕ). x ∷ (l ++ flat_map (with_number f xs) (range_with_len (from + 1) count)))
+      (sym (with_number-none f (f x) from xs before rises))
 ]
 
 no_blocks : (f : ℕ → ℕ) (from count : ℕ) → flat_map (with_number f []) (range_with_len from count) ≡ []
@@ -83,33 +91,39 @@ pub class_of-rises : (hands : Hands) (high low : ℕ) → low ≤ high → class
 class_of-rises hands high low down = class_below-rises hands (14 - high) (14 - low) (omega arith)
 
 -- the classes of falling cards rise
-pub falling_rises : (hands : Hands) (top least : ℕ) (cards : List ℕ) → FallsBelow top cards → ((rank : ℕ) → rank < top → least ≤ class_of hands rank)
+pub falling_rises : (hands : Hands) (top least : ℕ) (cards : Cards) → FallsBelow top cards
+    → ((rank : ℕ) → rank < top → least ≤ class_of hands rank)
     → Rises (class_of hands) least cards
 falling_rises hands top least [] falls above = tt
 falling_rises hands top least (card ∷ cards) falls above =
     (above card falls.1, falling_rises hands card (class_of hands card) cards falls.2 (λ rank low. class_of-rises hands card rank (omega arith)))
 
 -- and stay below the number of classes
-pub falling_stays : (hands : Hands) (top : ℕ) (cards : List ℕ) → FallsBelow top cards → StaysBelow (class_of hands) (class_count hands) cards
+pub falling_stays : (hands : Hands) (top : ℕ) (cards : Cards) → FallsBelow top cards
+    → StaysBelow (class_of hands) (class_count hands) cards
 falling_stays hands top [] falls = tt
 falling_stays hands top (card ∷ cards) falls =
     (omega (arith, class_of-rises hands card 2 falls.0), falling_stays hands card cards falls.2)
 
 -- the classes of a hand rise from 0
-pub holding_rises : (hands : Hands) (cards : List ℕ) → IsHolding cards → Rises (class_of hands) 0 cards
+pub holding_rises : (hands : Hands) (cards : Cards) → IsHolding cards → Rises (class_of hands) 0 cards
 holding_rises hands cards falls = falling_rises hands 15 0 cards falls (λ rank low. omega arith)
 
-kept_block : (h : ℕ → List ℕ) (x : ℕ) (xs : List ℕ) (b : Bool) → (if b then h x else []) ++ flat_map h xs ≡ flat_map h (cond b (x ∷ xs) xs)
+kept_block : (h : ℕ → List ℕ) (x : ℕ) (xs : List ℕ) (b : Bool)
+    → (if b then h x else []) ++ flat_map h xs ≡ flat_map h (cond b (x ∷ xs) xs)
 kept_block h x xs true = refl
 kept_block h x xs false = refl
 
-flat_map-filter : (g h : ℕ → List ℕ) (p : ℕ → Bool) (xs : List ℕ) → ((x : ℕ) → g x ≡ (if p x then h x else [])) → flat_map g xs ≡ flat_map h (filter p xs)
+flat_map-filter : (g h : ℕ → List ℕ) (p : ℕ → Bool) (xs : List ℕ) → ((x : ℕ) → g x ≡ (if p x then h x else []))
+    → flat_map g xs ≡ flat_map h (filter p xs)
 flat_map-filter g h p [] chosen = refl
 flat_map-filter g h p (x ∷ xs) chosen =
-    ap (λ (l : List ℕ). l ++ flat_map g xs) (chosen x) ∙ ap (λ (l : List ℕ). (if p x then h x else []) ++ l) (flat_map-filter g h p xs chosen)
+    ap (λ (l : List ℕ). l ++ flat_map g xs) (chosen x)
+    ∙ ap (λ (l : List ℕ). (if p x then h x else []) ++ l) (flat_map-filter g h p xs chosen)
     ∙ kept_block h x (filter p xs) (p x)
 
-both_tests : (defence number class_defence : Bool) → (number ≡ true → class_defence ≡ defence) → (defence && number) ≡ (class_defence && number)
+both_tests : (defence number class_defence : Bool) → (number ≡ true → class_defence ≡ defence)
+    → (defence && number) ≡ (class_defence && number)
 both_tests true true class_defence same = rw (same refl) refl
 both_tests true false true same = refl
 both_tests true false false same = refl
@@ -134,7 +148,8 @@ held_of_class hands owner class =
     ∙ filter_suit-agree (λ rank. same_owner (holder hands rank) owner && (class_of hands rank == class))
     (λ rank. same_owner (class_owner hands class) owner && (class_of hands rank == class))
     (λ rank least most.
-    both_tests (same_owner (holder hands rank) owner) (class_of hands rank == class) (same_owner (class_owner hands class) owner)
+    both_tests (same_owner (holder hands rank) owner) (class_of hands rank == class)
+    (same_owner (class_owner hands class) owner)
     (λ here. ap (λ o. same_owner o owner) (ap (class_owner hands) (sym (eqb-true (class_of hands rank) class here)) ∙ class_owner-class_of hands rank (least, omega arith))))
     ∙ chosen_or_none (same_owner (class_owner hands class) owner) (λ rank. class_of hands rank == class) suit
 
@@ -143,14 +158,17 @@ missing_of_class : (hands : Hands) (class : ℕ)
     → with_number (class_of hands) (others_of hands.north hands.south) class
     ≡ (if same_owner (class_owner hands class) owners.Defence then class_ranks hands class else [])
 missing_of_class hands class =
-    ap (λ (l : List ℕ). with_number (class_of hands) l class) (sym (missing_are hands)) ∙ held_of_class hands owners.Defence class
+    ap (λ (l : List ℕ). with_number (class_of hands) l class) (sym (missing_are hands))
+    ∙ held_of_class hands owners.Defence class
 
 -- the missing cards, falling, are the defenders' classes, one after another
-pub missing_in_blocks : (hands : Hands) → flat_map (class_ranks hands) (defence_classes hands) ≡ others_of hands.north hands.south
+pub missing_in_blocks : (hands : Hands)
+    → flat_map (class_ranks hands) (defence_classes hands) ≡ others_of hands.north hands.south
 missing_in_blocks hands =
     let missing : List ℕ = others_of hands.north hands.south in
     let holding = IsHolding-others_of hands.north hands.south in
-    sym (flat_map-filter (with_number (class_of hands) missing) (class_ranks hands) (λ class. same_owner (class_owner hands class) owners.Defence)
+    sym
+    (flat_map-filter (with_number (class_of hands) missing) (class_ranks hands) (λ class. same_owner (class_owner hands class) owners.Defence)
     (range_with_len 0 (class_count hands)) (missing_of_class hands))
     ∙ in_blocks (class_of hands) missing 0 (class_count hands) (holding_rises hands missing holding)
     (subst (λ (n : ℕ). StaysBelow (class_of hands) n missing) (omega arith) (falling_stays hands 15 missing holding))

@@ -40,7 +40,9 @@ pub among_contained : (moves : List ClassMove) (move : ClassMove) → Contains m
 unfolding is_among
 among_contained [] move found = absurd (Contains-nil move found)
 among_contained (first ∷ moves) move found = elim (Contains-cons_cases first moves move found) [
-  | inl here ↦ or_left (same_class_move move first) (is_among moves move) (ap (same_class_move move) here ∙ same_move-itself move)
+  | inl here ↦
+      or_left (same_class_move move first) (is_among moves move)
+      (ap (same_class_move move) here ∙ same_move-itself move)
   | inr there ↦ or_right (same_class_move move first) (is_among moves move) (among_contained moves move there)
 ]
 
@@ -49,6 +51,8 @@ pub among-Contains : (moves : List ClassMove) (move : ClassMove) → is_among mo
 unfolding is_among
 among-Contains [] move among = absurd (false≢true among)
 among-Contains (first ∷ moves) move among = elim (or_cases (same_class_move move first) (is_among moves move) among) [
-  | inl here ↦ subst (λ (m : ClassMove). Contains (first ∷ moves) m) (sym (same_move_is move first here)) (Contains-first first moves)
+  | inl here ↦
+      subst (λ (m : ClassMove). Contains (first ∷ moves) m) (sym (same_move_is move first here))
+      (Contains-first first moves)
   | inr there ↦ Contains-later first moves move (among-Contains moves move there)
 ]

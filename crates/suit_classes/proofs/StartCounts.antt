@@ -3,12 +3,13 @@ use Rattle.std.proofs.Common.{◌≡◌, ℕ, zero, suc, ◌+◌, ◌-◌, ◌<�
 use Rattle.std.specs.Prelude.{map, filter, nat_lt, ◌==◌, ◌&&◌, if◌then◌else◌}
 use Rattle.std.specs.List.{range_with_len}
 use Rattle.std.proofs.lemmas.Bool.{cases_lt, ltb-true, ltb-false, lt-ltb}
+use Rattle.suit_cards.specs.Cards.{Cards}
 use Rattle.suit_cards.specs.declared.seats.Seat.{Seat}
 use Rattle.suit_cards.specs.declared.seats.Seat.TheVariants.{N, E, S, W}
 use Rattle.suit_cards.specs.Holdings.{holds}
 use Rattle.suit_cards.proofs.HeldSuits.{IsHolding-filter, IsHolding-others_of, holds-filter, same_holding}
 use Rattle.suit_game.specs.declared.question.Question.{Question}
-use Rattle.suit_game.specs.Places.{dealt, without}
+use Rattle.suit_game.specs.Positions.{dealt, without}
 use Rattle.suit_game.specs.Question.{missing}
 use Rattle.suit_game.proofs.HeldCards.{without-none}
 use Rattle.suit_classes.specs.declared.classes.Owner.TheVariants as owners
@@ -20,19 +21,22 @@ use Rattle.suit_classes.proofs.CountedLists.{class_size-none, dealt_to-at, none_
 use Rattle.suit_classes.proofs.DealtClasses.{IsDealt, cards_in-north, cards_in-south, cards_in-missing, cards_left_of_class}
 
 at_place_either : (f : ℕ → ℕ) (from : ℕ) (xs ys : List ℕ) (value : ℕ) (b : Bool)
-    → get_or (map f xs) (length ys) 0 ≡ value → get_or (map f (cond b (from ∷ xs) xs)) (length (cond b (from ∷ ys) ys)) 0 ≡ value
+    → get_or (map f xs) (length ys) 0 ≡ value
+    → get_or (map f (cond b (from ∷ xs) xs)) (length (cond b (from ∷ ys) ys)) 0 ≡ value
 at_place_either f from xs ys value true later = later
 at_place_either f from xs ys value false later = later
 
 at_place : (f : ℕ → ℕ) (p : ℕ → Bool) (from before count : ℕ) → before < count → p (from + before) ≡ true
-    → get_or (map f (filter p (range_with_len from count))) (length (filter p (range_with_len from before))) 0 ≡ f (from + before)
+    → get_or (map f (filter p (range_with_len from count))) (length (filter p (range_with_len from before))) 0 ≡ f
+    (from + before)
 at_place f p from before zero small passes = absurd (omega arith)
 at_place f p from zero (suc count) small passes =
     let here : p from ≡ true = subst (λ (n : ℕ). p n ≡ true) (omega arith) passes in
     rw here (ap f (omega arith))
 at_place f p from (suc before) (suc count) small passes =
     let turned : from + 1 + before ≡ from + suc before = omega arith in
-    at_place_either f from (filter p (range_with_len (from + 1) count)) (filter p (range_with_len (from + 1) before)) (f (from + suc before)) (p from)
+    at_place_either f from (filter p (range_with_len (from + 1) count)) (filter p (range_with_len (from + 1) before))
+    (f (from + suc before)) (p from)
     (at_place f p (from + 1) before count (omega arith) (subst (λ (n : ℕ). p n ≡ true) (sym turned) passes) ∙ ap f turned)
 
 held_some : (b : Bool) (size : ℕ) → 0 < size → nat_lt 0 (if b then size else 0) ≡ b
@@ -44,15 +48,19 @@ defence_told : (question : Question) (class : ℕ) → class < class_count (hand
     → is_defence_class (class_start question) class ≡ same_owner (class_owner (hands_of question) class) owners.Defence
 defence_told question class few small =
     ap (nat_lt 0) (dealt_to-at (hands_of question) owners.Defence class small)
-    ∙ held_some (same_owner (class_owner (hands_of question) class) owners.Defence) (class_size (hands_of question) class) (class_size-some (hands_of question) class few)
+    ∙ held_some (same_owner (class_owner (hands_of question) class) owners.Defence)
+    (class_size (hands_of question) class) (class_size-some (hands_of question) class few)
 
 -- tests that agree on numbers keep the same of them
-pub same_filter : (p q : ℕ → Bool) (from count : ℕ) → ((k : ℕ) → k < from + count → p k ≡ q k) → filter p (range_with_len from count) ≡ filter q (range_with_len from count)
+pub same_filter : (p q : ℕ → Bool) (from count : ℕ) → ((k : ℕ) → k < from + count → p k ≡ q k)
+    → filter p (range_with_len from count) ≡ filter q (range_with_len from count)
 same_filter p q from zero same = refl
 same_filter p q from (suc count) same =
-    rw (same from (omega arith)) (ap (λ (l : List ℕ). cond (q from) (from ∷ l) l) (same_filter p q (from + 1) count (λ k low. same k (omega arith))))
+    rw (same from (omega arith))
+    (ap (λ (l : List ℕ). cond (q from) (from ∷ l) l) (same_filter p q (from + 1) count (λ k low. same k (omega arith))))
 
-held_few : (hands : Hands) (b : Bool) (class : ℕ) → 0 < (if b then class_size hands class else 0) → (class < class_count hands) × (b ≡ true)
+held_few : (hands : Hands) (b : Bool) (class : ℕ) → 0 < (if b then class_size hands class else 0)
+    → (class < class_count hands) × (b ≡ true)
 held_few hands true class some = elim (cases_lt class (class_count hands)) [
   | inl few ↦ (few, refl)
   | inr past ↦ absurd (omega (arith, class_size-none hands class past))
@@ -60,27 +68,36 @@ held_few hands true class some = elim (cases_lt class (class_count hands)) [
 held_few hands false class some = absurd (omega arith)
 
 -- West's count in one of the defenders' classes stands at the class's place
-pub west_count-start : (question : Question) (west : List ℕ) (class : ℕ) → class < 13 → is_defence_class (class_start question) class ≡ true
-    → west_count (class_start question) (counts_of (hands_of question) west) class ≡ cards_in (hands_of question) west class
+pub west_count-start : (question : Question) (west : Cards) (class : ℕ) → class < 13
+    → is_defence_class (class_start question) class ≡ true
+    → west_count (class_start question) (counts_of (hands_of question) west) class ≡ cards_in
+    (hands_of question) west class
 west_count-start question west class small is =
     let hands : Hands = hands_of question in
     let p : ℕ → Bool = λ c. same_owner (class_owner hands c) owners.Defence in
-    let told = held_few hands (p class) class (subst (λ (n : ℕ). 0 < n) (dealt_to-at hands owners.Defence class small) (ltb-true 0 (get_or (dealt_to hands owners.Defence) class 0) is)) in
+    let told =
+    held_few hands (p class) class
+    (subst (λ (n : ℕ). 0 < n) (dealt_to-at hands owners.Defence class small) (ltb-true 0 (get_or (dealt_to hands owners.Defence) class 0) is)) in
     let up : 0 + class ≡ class = omega arith in
     ap (λ (l : List ℕ). get_or (counts_of hands west) (length l) 0)
     (same_filter (is_defence_class (class_start question)) p 0 class (λ k low. defence_told question k (omega (arith, told.0)) (omega arith)))
-    ∙ at_place (cards_in hands west) p 0 class (class_count hands) told.0 (subst (λ (n : ℕ). p n ≡ true) (sym up) told.1)
+    ∙ at_place (cards_in hands west) p 0 class (class_count hands) told.0
+    (subst (λ (n : ℕ). p n ≡ true) (sym up) told.1)
     ∙ ap (cards_in hands west) up
 
-kept_or_held : (b : Bool) (x : ℕ) (xs ys : List ℕ) (n : ℕ) → length xs + length ys ≡ n → length (cond (not b) (x ∷ xs) xs) + length (cond b (x ∷ ys) ys) ≡ suc n
+kept_or_held : (b : Bool) (x : ℕ) (xs ys : List ℕ) (n : ℕ) → length xs + length ys ≡ n
+    → length (cond (not b) (x ∷ xs) xs) + length (cond b (x ∷ ys) ys) ≡ suc n
 kept_or_held true x xs ys n both = omega arith
 kept_or_held false x xs ys n both = omega arith
 
 -- cards are those not gone and those gone
-length-parts : (cards gone : List ℕ) → length (without cards gone) + length (filter (holds gone) cards) ≡ length cards
+pub length-parts : (cards gone : Cards)
+    → length (without cards gone) + length (filter (holds gone) cards) ≡ length cards
 unfolding without
 length-parts [] gone = omega arith
-length-parts (card ∷ cards) gone = kept_or_held (holds gone card) card (without cards gone) (filter (holds gone) cards) (length cards) (length-parts cards gone)
+length-parts (card ∷ cards) gone =
+    kept_or_held (holds gone card) card (without cards gone) (filter (holds gone) cards) (length cards)
+    (length-parts cards gone)
 
 part_test : (missing west test : Bool) → (west ≡ true → missing ≡ true) → ((missing && test) && west) ≡ (west && test)
 part_test true true true within = refl
@@ -91,8 +108,9 @@ part_test false true test within = absurd (let wrong : false ≡ true = within r
 part_test false false test within = refl
 
 -- West's cards and East's of a class are the missing ones
-pub cards_in-parts : (question : Question) (west : List ℕ) (class : ℕ) → IsDealt question west
-    → cards_in (hands_of question) (without (missing question) west) class + cards_in (hands_of question) west class ≡ cards_in (hands_of question) (missing question) class
+pub cards_in-parts : (question : Question) (west : Cards) (class : ℕ) → IsDealt question west
+    → cards_in (hands_of question) (without (missing question) west) class + cards_in
+    (hands_of question) west class ≡ cards_in (hands_of question) (missing question) class
 cards_in-parts question west class is =
     let test : ℕ → Bool = λ card. class_of (hands_of question) card == class in
     let those : filter (holds west) (filter test (missing question)) ≡ filter test west =
@@ -111,25 +129,31 @@ cards_in-parts question west class is =
       ap length those,
     )
 
-no_cards : (hands : Hands) (cards : List ℕ) (class : ℕ) → cards_in hands (without cards []) class ≡ cards_in hands cards class
+no_cards : (hands : Hands) (cards : Cards) (class : ℕ)
+    → cards_in hands (without cards []) class ≡ cards_in hands cards class
 no_cards hands cards class = ap (λ (l : List ℕ). cards_in hands l class) (without-none cards)
 
-west_left : (defence : Bool) (count cards : ℕ) → (defence ≡ true → count ≡ cards) → (defence ≡ false → cards ≡ 0) → (if defence then count - 0 else 0) ≡ cards
+west_left : (defence : Bool) (count cards : ℕ) → (defence ≡ true → count ≡ cards) → (defence ≡ false → cards ≡ 0)
+    → (if defence then count - 0 else 0) ≡ cards
 west_left true count cards some none = omega (arith, some refl)
 west_left false count cards some none = sym (none refl)
 
-east_left : (defence : Bool) (size count west east : ℕ) → east + west ≡ size → (defence ≡ true → count ≡ west) → (defence ≡ false → size ≡ 0)
+east_left : (defence : Bool) (size count west east : ℕ) → east + west ≡ size → (defence ≡ true → count ≡ west)
+    → (defence ≡ false → size ≡ 0)
     → (if defence then size - count - 0 else 0) ≡ east
 east_left true size count west east parts some none = omega (arith, some refl)
 east_left false size count west east parts some none = omega (arith, none refl)
 
 -- before any move each seat has left what it was dealt
-pub left-start : (question : Question) (west : List ℕ) (seat : Seat) (class : ℕ) → IsDealt question west → class < 13
-    → left (class_start question) (counts_of (hands_of question) west) seat class ≡ cards_in (hands_of question) (without (dealt question west seat) []) class
+pub left-start : (question : Question) (west : Cards) (seat : Seat) (class : ℕ) → IsDealt question west → class < 13
+    → left (class_start question) (counts_of (hands_of question) west) seat class ≡ cards_in (hands_of question)
+    (without (dealt question west seat) []) class
 left-start question west N class is small =
-    dealt_to-at (hands_of question) owners.N class small ∙ sym (cards_in-north question west class is) ∙ sym (no_cards (hands_of question) question.north class)
+    dealt_to-at (hands_of question) owners.N class small ∙ sym (cards_in-north question west class is)
+    ∙ sym (no_cards (hands_of question) question.north class)
 left-start question west S class is small =
-    dealt_to-at (hands_of question) owners.S class small ∙ sym (cards_in-south question west class is) ∙ sym (no_cards (hands_of question) question.south class)
+    dealt_to-at (hands_of question) owners.S class small ∙ sym (cards_in-south question west class is)
+    ∙ sym (no_cards (hands_of question) question.south class)
 left-start question west W class is small =
     let size : get_or (dealt_to (hands_of question) owners.Defence) class 0 ≡ cards_in (hands_of question) (missing question) class =
     dealt_to-at (hands_of question) owners.Defence class small ∙ sym (cards_in-missing question class) in
@@ -146,6 +170,7 @@ left-start question west E class is small =
     (rw (none_played-at class)
     (east_left (is_defence_class (class_start question) class) (get_or (dealt_to (hands_of question) owners.Defence) class 0)
     (west_count (class_start question) (counts_of (hands_of question) west) class)
-    (cards_in (hands_of question) west class) (cards_in (hands_of question) (without (missing question) west) class) (omega arith) (west_count-start question west class small)
+    (cards_in (hands_of question) west class) (cards_in (hands_of question) (without (missing question) west) class)
+    (omega arith) (west_count-start question west class small)
     (λ none. omega (arith, ltb-false 0 (get_or (dealt_to (hands_of question) owners.Defence) class 0) none))))
     ∙ sym (no_cards (hands_of question) (without (missing question) west) class)

@@ -1,6 +1,8 @@
 -- Counts of West's allow a history with one move more where they allow the history and the move is among those after it.
-use Rattle.std.proofs.Common.{◌≡◌, ℕ, Bool, true, false, List, [], ◌∷◌, ◌++◌, refl, ap, ◌∙◌}
+use Rattle.std.proofs.Common.{◌≡◌, Bool, true, false, [], ◌∷◌, ◌++◌, refl, ap, ◌∙◌}
 use Rattle.std.specs.Prelude.{◌&&◌, fold}
+use Rattle.suit_classes.specs.ClassMoves.{ClassHistory}
+use Rattle.suit_cards.specs.Cards.{Counts}
 use Rattle.suit_game.specs.declared.question.Question.{Question}
 use Rattle.suit_classes.specs.declared.class_moves.ClassMove.{ClassMove}
 use Rattle.suit_classes.specs.AllowedHistories.{allows, allows_from, is_among}
@@ -17,16 +19,19 @@ and-assoc true b c = refl
 and-assoc false b c = refl
 
 -- counts allow one move more where it is among the moves after the others
-pub allows_from-push : (counts : List ℕ) (view : ClassView) (history : List ClassMove) (move : ClassMove)
-    → allows_from counts view (history ++ move ∷ []) ≡ (allows_from counts view history && is_among (class_moves (fold class_step view history) counts) move)
+pub allows_from-push : (counts : Counts) (view : ClassView) (history : ClassHistory) (move : ClassMove)
+    → allows_from counts view (history ++ move ∷ []) ≡
+    (allows_from counts view history && is_among (class_moves (fold class_step view history) counts) move)
 unfolding allows_from
 allows_from-push counts view [] move = and-last (is_among (class_moves view counts) move)
 allows_from-push counts view (first ∷ rest) move =
     let next = class_step view first in
     ap (λ (b : Bool). is_among (class_moves view counts) first && b) (allows_from-push counts next rest move)
-    ∙ and-assoc (is_among (class_moves view counts) first) (allows_from counts next rest) (is_among (class_moves (fold class_step next rest) counts) move)
+    ∙ and-assoc (is_among (class_moves view counts) first) (allows_from counts next rest)
+    (is_among (class_moves (fold class_step next rest) counts) move)
 
-pub allows-push : (question : Question) (counts : List ℕ) (history : List ClassMove) (move : ClassMove)
-    → allows question counts (history ++ move ∷ []) ≡ (allows question counts history && is_among (class_moves (class_after question history) counts) move)
+pub allows-push : (question : Question) (counts : Counts) (history : ClassHistory) (move : ClassMove)
+    → allows question counts (history ++ move ∷ []) ≡
+    (allows question counts history && is_among (class_moves (class_after question history) counts) move)
 unfolding allows
 allows-push question counts history move = allows_from-push counts (class_start question) history move

@@ -1,18 +1,13 @@
 -- Which class histories counts of West's allow, told from the positions.
-use Rattle.std.specs.Prelude.{ℕ, ◌&&◌, Bool, true, List, [], ◌∷◌, ◌++◌, map}
+use Rattle.std.specs.Prelude.{◌&&◌, Bool, true, List, [], ◌∷◌, ◌++◌, map}
 use Rattle.std.specs.List.{list_any}
 use Rattle.suit_cards.specs.declared.seats.Seat.TheVariants.{N, S}
+use Rattle.suit_cards.specs.Cards.{Counts}
 use Rattle.suit_game.specs.declared.question.Question.{Question}
 use Rattle.suit_classes.specs.declared.class_moves.ClassMove.{ClassMove}
 use Rattle.suit_classes.specs.declared.class_moves.ClassMove.TheVariants.{Lead, Follow, ShowOut}
-use Rattle.suit_classes.specs.Classes.{hands_of, defence_sizes}
-use Rattle.suit_classes.specs.ClassMoves.{same_class_move}
+use Rattle.suit_classes.specs.ClassMoves.{ClassHistory, same_class_move}
 use Rattle.suit_classes.specs.ClassPlaces.{ClassView, class_numbers, class_start, class_step, class_moves}
-use Rattle.suit_layouts.specs.ClassLayouts.{class_layouts}
-
--- the class layouts of positive weight of a question in order, each with its weight
-unfoldable pub question_layouts : Question → List (List ℕ × ℕ)
-question_layouts question = class_layouts question (defence_sizes (hands_of question))
 
 -- all class moves, in their order
 unfoldable pub every_move : List ClassMove
@@ -23,10 +18,11 @@ unfoldable pub is_among : List ClassMove → ClassMove → Bool
 is_among moves move = list_any (same_class_move move) moves
 
 -- whether counts of West's allow the moves of a list, one after the other, from a position on
-unfoldable pub allows_from : List ℕ → ClassView → List ClassMove → Bool
+unfoldable pub allows_from : Counts → ClassView → ClassHistory → Bool
 allows_from counts view [] = true
-allows_from counts view (move ∷ moves) = is_among (class_moves view counts) move && allows_from counts (class_step view move) moves
+allows_from counts view (move ∷ moves) =
+    is_among (class_moves view counts) move && allows_from counts (class_step view move) moves
 
 -- whether they allow a class history
-unfoldable pub allows : Question → List ℕ → List ClassMove → Bool
+unfoldable pub allows : Question → Counts → ClassHistory → Bool
 allows question counts history = allows_from counts (class_start question) history

@@ -1,6 +1,7 @@
 -- Positions of the class game, told by how many cards of each class are left or played.
-use Rattle.std.specs.Prelude.{ℕ, zero, suc, ◌+◌, ◌-◌, ◌*◌, ◌<◌, ◌||◌, ◌&&◌, not, nat_lt, max, Bool, false, List, [], ◌∷◌, ◌++◌, length, map, filter, fold, slice_index, slice_set, Option, Some, None, ◌≡◌, refl, if◌then◌else◌}
+use Rattle.std.specs.Prelude.{ℕ, zero, suc, ◌+◌, ◌-◌, ◌*◌, ◌<◌, ◌||◌, ◌&&◌, not, nat_lt, max, Bool, false, List, [], ◌∷◌, ◌++◌, length, map, filter, fold, slice_index, slice_set, ◌≡◌, if◌then◌else◌}
 use Rattle.std.specs.List.{range_with_len}
+use Rattle.suit_cards.specs.Cards.{Counts, Indices}
 use Rattle.suit_cards.specs.declared.seats.Seat.{Seat}
 use Rattle.suit_cards.specs.declared.seats.Seat.TheVariants.{N, E, S, W}
 use Rattle.suit_cards.specs.Seats.{clockwise}
@@ -8,56 +9,41 @@ use Rattle.suit_game.specs.declared.question.Question.{Question}
 use Rattle.suit_game.specs.declared.question.LeadAt.{LeadAt}
 use Rattle.suit_game.specs.declared.question.LeadAt.TheVariants as leads
 use Rattle.suit_game.specs.declared.question.Entries.{Entries}
-use Rattle.suit_game.specs.declared.question.Goal.{Goal}
 use Rattle.suit_game.specs.Gains.{is_declarer}
-use Rattle.suit_game.specs.Places.{stands_at, has_entry, after_lead, payoff}
+use Rattle.suit_game.specs.Positions.{stands_at, has_entry, after_lead, payoff}
+use Rattle.suit_classes.specs.declared.class_view.ClassView.{ClassView as PlaceCounts}
+use Rattle.suit_classes.specs.declared.class_trick.ClassTrick.{ClassTrick as PlaceTrick}
+use Rattle.suit_classes.specs.declared.class_trick.ClassTrick.TheVariants.{Closed, Open}
+use Rattle.suit_classes.specs.declared.classes.TheConstants.{MOST_CLASSES}
 use Rattle.suit_classes.specs.declared.classes.Owner.{Owner}
 use Rattle.suit_classes.specs.declared.classes.Owner.TheVariants as owners
 use Rattle.suit_classes.specs.declared.class_moves.ClassMove.{ClassMove}
 use Rattle.suit_classes.specs.declared.class_moves.ClassMove.TheVariants.{Lead, Follow, ShowOut}
 use Rattle.suit_classes.specs.declared.class_turn.ClassTurn.{ClassTurn}
 use Rattle.suit_classes.specs.declared.class_turn.ClassTurn.TheVariants as turns
-use Rattle.suit_classes.specs.declared.class_trick.OpenTrick.{OpenTrick}
 use Rattle.suit_classes.specs.ClassGame.{is_goal_settled}
+use Rattle.suit_classes.specs.ClassMoves.{ClassHistory}
 use Rattle.suit_classes.specs.Classes.{Hands, hands_of, same_owner, class_owner, class_size}
 
--- the trick in progress: none, or the seat on turn, how many seats play after it, whose card is the highest, and of which class
-pub data ClassTrick : Type 0 where
-  Closed : ClassTrick
-  Open : (turn : Seat) (after : ℕ) (winner : Owner) (highest : ℕ) → ClassTrick
+-- a position: counts of cards by class, and the trick in progress, which says who is on turn, how many seats play after it,
+-- whose card is the highest, and of which class
+abbrev pub ClassView : Type 0
+ClassView = PlaceCounts
+
+-- the trick in progress, or none
+abbrev pub ClassTrick : Type 0
+ClassTrick = PlaceTrick
 
 -- no class is North's and South's
-abbrev pub AreApart : List ℕ → List ℕ → Type 0
+abbrev pub AreApart : Counts → Counts → Type 0
 AreApart north south = (class : ℕ) → slice_index north class * slice_index south class ≡ 0
 
--- a position of the class game
-pub record ClassView : Type 0 where
-  -- how many cards of each class North has left, and South
-  pub north : List ℕ
-  pub south : List ℕ
-  -- and how many in all
-  pub cards_n : ℕ
-  pub cards_s : ℕ
-  -- how many cards of each class the defenders were dealt, and how many West and East have played
-  pub defence : List ℕ
-  pub gone_w : List ℕ
-  pub gone_e : List ℕ
-  pub trick : ClassTrick
-  -- where the lead stands, or stood before the trick in progress, and where it will after a trick lost
-  pub lead : LeadAt
-  pub regain : LeadAt
-  pub entries_n : Entries
-  pub entries_s : Entries
-  pub goal : Goal
-  -- the tricks that declarer won
-  pub won : ℕ
-
 -- the numbers that a class may have
-unfoldable pub class_numbers : List ℕ
-class_numbers = range_with_len 0 13
+unfoldable pub class_numbers : Indices
+class_numbers = range_with_len 0 MOST_CLASSES
 
 -- the classes of which a list of counts has a card
-abbrev pub counted_classes : List ℕ → List ℕ
+abbrev pub counted_classes : Counts → Indices
 counted_classes counts = filter (λ class. nat_lt 0 (slice_index counts class)) class_numbers
 
 -- the cards of a class, where this side held it, and else none
@@ -65,11 +51,11 @@ abbrev pub held_by : Hands → Owner → ℕ → ℕ
 held_by hands owner class = if same_owner (class_owner hands class) owner then class_size hands class else 0
 
 -- how many cards of each class a side was dealt
-unfoldable pub dealt_to : Hands → Owner → List ℕ
+unfoldable pub dealt_to : Hands → Owner → Counts
 dealt_to hands owner = map (held_by hands owner) class_numbers
 
 -- no card of any class
-unfoldable pub none_played : List ℕ
+unfoldable pub none_played : Counts
 none_played = map (λ class. 0) class_numbers
 
 -- the position before any move
@@ -96,22 +82,24 @@ abbrev pub is_defence_class : ClassView → ℕ → Bool
 is_defence_class view class = nat_lt 0 (slice_index view.defence class)
 
 -- which of the defenders' classes a class of theirs is
-abbrev pub defence_place : ClassView → ℕ → ℕ
-defence_place view class = length (filter (is_defence_class view) (range_with_len 0 class))
+abbrev pub defence_index : ClassView → ℕ → ℕ
+defence_index view class = length (filter (is_defence_class view) (range_with_len 0 class))
 
 -- how many cards of one of the defenders' classes West was dealt, where his counts in their classes are given
-abbrev pub west_count : ClassView → List ℕ → ℕ → ℕ
-west_count view counts class = slice_index counts (defence_place view class)
+abbrev pub west_count : ClassView → Counts → ℕ → ℕ
+west_count view counts class = slice_index counts (defence_index view class)
 
 -- how many cards of a class a seat has left
-abbrev pub left : ClassView → List ℕ → Seat → ℕ → ℕ
+abbrev pub left : ClassView → Counts → Seat → ℕ → ℕ
 left view counts N class = slice_index view.north class
 left view counts S class = slice_index view.south class
-left view counts W class = if is_defence_class view class then west_count view counts class - slice_index view.gone_w class else 0
-left view counts E class = if is_defence_class view class then slice_index view.defence class - west_count view counts class - slice_index view.gone_e class else 0
+left view counts W class =
+    if is_defence_class view class then west_count view counts class - slice_index view.gone_w class else 0
+left view counts E class =
+    if is_defence_class view class then slice_index view.defence class - west_count view counts class - slice_index view.gone_e class else 0
 
 -- the classes of which a seat has a card left
-abbrev pub classes_left : ClassView → List ℕ → Seat → List ℕ
+abbrev pub classes_left : ClassView → Counts → Seat → Indices
 classes_left view counts seat = filter (λ class. nat_lt 0 (left view counts seat class)) class_numbers
 
 -- whether declarer may lead from a hand
@@ -129,19 +117,22 @@ class_leads view =
     ++ (if may_lead view.lead view.entries_s S then map (Lead S) (counted_classes view.south) else [])
 
 -- the moves at a position in their order, where West's counts are given
-abbrev pub class_moves_in : ClassView → List ℕ → ClassTrick → List ClassMove
+abbrev pub class_moves_in : ClassView → Counts → ClassTrick → List ClassMove
 class_moves_in view counts Closed = class_leads view
 class_moves_in view counts (Open turn after winner highest) = or_show_out (map Follow (classes_left view counts turn))
 
-abbrev pub class_moves : ClassView → List ℕ → List ClassMove
+abbrev pub class_moves : ClassView → Counts → List ClassMove
 class_moves view counts = class_moves_in view counts view.trick
 
 -- whether declarer has a lead
 abbrev pub has_class_lead : ClassView → Bool
-has_class_lead view = (may_lead view.lead view.entries_n N && nat_lt 0 view.cards_n) || (may_lead view.lead view.entries_s S && nat_lt 0 view.cards_s)
+has_class_lead view =
+    (may_lead view.lead view.entries_n N && nat_lt 0 view.cards_n) ||
+    (may_lead view.lead view.entries_s S && nat_lt 0 view.cards_s)
 
 abbrev pub class_decided_in : ClassView → ClassTrick → Bool
-class_decided_in view Closed = not (has_class_lead view) || is_goal_settled view.goal view.won (max view.cards_n view.cards_s)
+class_decided_in view Closed =
+    not (has_class_lead view) || is_goal_settled view.goal view.won (max view.cards_n view.cards_s)
 class_decided_in view (Open turn after winner highest) = false
 
 -- whether a position is decided
@@ -169,15 +160,21 @@ side W = owners.Defence
 
 -- a seat has played a card of a class
 abbrev pub class_played : ClassView → Seat → ℕ → ClassView
-class_played view N class = record view { north = slice_set view.north class (slice_index view.north class - 1); cards_n = view.cards_n - 1 }
-class_played view S class = record view { south = slice_set view.south class (slice_index view.south class - 1); cards_s = view.cards_s - 1 }
+class_played view N class =
+    record view { north = slice_set view.north class (slice_index view.north class - 1); cards_n = view.cards_n - 1 }
+class_played view S class =
+    record view { south = slice_set view.south class (slice_index view.south class - 1); cards_s = view.cards_s - 1 }
 class_played view W class = record view { gone_w = slice_set view.gone_w class (slice_index view.gone_w class + 1) }
 class_played view E class = record view { gone_e = slice_set view.gone_e class (slice_index view.gone_e class + 1) }
 
 -- the position after a lead; the defenders never lead
 abbrev pub class_led : ClassView → Seat → ℕ → ClassView
-class_led view N class = record (class_played view N class) { trick = Open E 2 owners.N class; entries_n = after_lead view.lead N view.entries_n }
-class_led view S class = record (class_played view S class) { trick = Open W 2 owners.S class; entries_s = after_lead view.lead S view.entries_s }
+class_led view N class =
+    record (class_played view N class)
+    { trick = Open E 2 owners.N class; entries_n = after_lead view.lead N view.entries_n }
+class_led view S class =
+    record (class_played view S class)
+    { trick = Open W 2 owners.S class; entries_s = after_lead view.lead S view.entries_s }
 class_led view E class = view
 class_led view W class = view
 
@@ -211,7 +208,7 @@ abbrev pub class_step : ClassView → ClassMove → ClassView
 class_step view move = class_step_in view view.trick move
 
 -- the position after a class history
-abbrev pub class_after : Question → List ClassMove → ClassView
+abbrev pub class_after : Question → ClassHistory → ClassView
 class_after question history = fold class_step (class_start question) history
 
 -- so few cards of each class have gone, and tricks been won, that one more can be counted
@@ -219,17 +216,3 @@ pub record IsSmall (view : ClassView) : Type 0 where
   pub gone_w : (class : ℕ) → slice_index view.gone_w class < 255
   pub gone_e : (class : ℕ) → slice_index view.gone_e class < 255
   pub won : view.won < 255
-
--- what a trick in progress, or none, is seen as
-abbrev pub trick_seen : Option OpenTrick → ClassTrick
-trick_seen None = Closed
-trick_seen (Some trick) = Open trick.turn trick.after trick.winner trick.highest
-
--- the trick that is seen so
-abbrev pub trick_behind : ClassTrick → Option OpenTrick
-trick_behind Closed = None
-trick_behind (Open turn after winner highest) = Some (record { turn = turn; after = after; winner = winner; highest = highest })
-
-pub trick_behind-seen : (trick : Option OpenTrick) → trick_behind (trick_seen trick) ≡ trick
-trick_behind-seen None = refl
-trick_behind-seen (Some trick) = refl

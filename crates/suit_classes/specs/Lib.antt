@@ -5,4 +5,5 @@ pub mod ClassMoves
 pub mod ClassPlaces
 pub mod Classes
 pub mod Examples
+pub mod MoveOrder
 pub mod Numbering

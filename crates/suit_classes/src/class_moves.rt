@@ -1,4 +1,8 @@
 //! The moves of the class game.
+ghost use Rattle.std.specs.Prelude.{◌≡◌};
+ghost use Rattle.suit_classes.specs.AllowedHistories.{is_among};
+ghost use Rattle.suit_classes.specs.ClassMoves.{same_class_move};
+
 use suit_cards::Seat;
 
 /// A move told by the class of its card alone. They are ordered: the leads of North, the leads of
@@ -31,4 +35,20 @@ impl Default for ClassMove {
     fn default() -> ClassMove {
         ClassMove::ShowOut
     }
+}
+
+impl ClassMove {
+    /// Whether both are the same move.
+    pub fn is_same(self, other: ClassMove) -> bool
+        ensures { result ≡ same_class_move self other }
+    {
+        self == other
+    }
+}
+
+/// Whether a move is among some.
+pub fn is_among(moves: &[ClassMove], mv: ClassMove) -> bool
+    ensures { result ≡ is_among moves.now mv }
+{
+    moves.contains(&mv)
 }

@@ -2,15 +2,20 @@
 use super::Owner;
 use suit_cards::Seat;
 
-/// A trick to which some seats have played.
+/// The trick in progress, if there is one.
 #[derive(Clone, Copy, Debug, PartialEq, Eq)]
-pub(crate) struct OpenTrick {
-    /// The seat on turn.
-    pub turn: Seat,
-    /// How many seats play after it.
-    pub after: u8,
-    /// Whose card is the highest.
-    pub winner: Owner,
-    /// The class of that card.
-    pub highest: u8,
+pub enum ClassTrick {
+    /// No trick is in progress.
+    Closed,
+    /// Some seats have played to the trick.
+    Open {
+        /// The seat on turn.
+        turn: Seat,
+        /// How many seats play after it.
+        after: u8,
+        /// Whose card is the highest.
+        winner: Owner,
+        /// The class of that card.
+        highest: u8,
+    },
 }

@@ -2,6 +2,7 @@
 ghost use Rattle.std.specs.Prelude.{◌≡◌, ◌+◌, ◌<◌, ◌≤◌, ◌==◌, ◌-◌, ℕ, not, Some, IfOk, All, count_by, sum, length};
 ghost use Rattle.std.specs.List.{flat_map};
 ghost use Rattle.suit_classes.specs.declared.classes.Owner.{Owner};
+ghost use Rattle.suit_classes.specs.declared.classes.TheConstants.{MOST_CLASSES, MOST_MISSING_AND_CLASSES};
 ghost use Rattle.suit_cards.specs.Holdings.{others_of};
 ghost use Rattle.suit_cards.specs.Ranks.{IsRank};
 ghost use Rattle.suit_classes.specs.ClassMoves.{merge, merged};
@@ -16,6 +17,16 @@ use suit_game::{Move, Question};
 
 /// Want of memory.
 pub type Memory = AllocError;
+
+/// The most classes that a question has, one for each rank of the suit.
+pub const MOST_CLASSES: usize = 13;
+
+/// The most classes that the defenders have: a card of declarer's stands between any two.
+pub const MOST_DEFENCE_CLASSES: usize = 7;
+
+/// The most missing cards and classes of the defenders together: the cards of the suit, and one more class than there are
+/// cards of declarer's to part them.
+pub const MOST_MISSING_AND_CLASSES: usize = 14;
 
 /// Who held a class at the start.
 #[derive(Clone, Copy, Debug, PartialEq, Eq)]
@@ -35,7 +46,7 @@ pub struct Classes {
     north: Holding,
     south: Holding,
     // The class of each rank, from the ace down.
-    numbers: [u8; 13],
+    numbers: [u8; MOST_CLASSES],
 }
 
 impl Owner {
@@ -69,13 +80,13 @@ impl Classes {
     pub fn of(question: &Question) -> Classes
         ensures { result ≡ hands_of question.now }
     {
-        let mut numbers = [0; 13];
+        let mut numbers = [0; MOST_CLASSES];
         let mut class = 0;
-        for place in 1..13 {
-            if starts_class(question.north, question.south, place) {
+        for index in 1..MOST_CLASSES {
+            if starts_class(question.north, question.south, index) {
                 class += 1;
             }
-            numbers[place] = class;
+            numbers[index] = class;
         }
         Classes {
             north: question.north,
@@ -87,7 +98,7 @@ impl Classes {
     /// How many classes there are.
     pub fn count(&self) -> u8
         ensures value { result ≡ class_count self.now }
-        ensures most { result ≤ 13 }
+        ensures most { result ≤ MOST_CLASSES }
     {
         self.numbers[12] + 1
     }
@@ -105,9 +116,9 @@ impl Classes {
         requires { class < class_count self.now }
         ensures { class_top self.now class ≡ Some result }
     {
-        for place in 0..13 {
-            if self.numbers[place] == class {
-                return rank_at(place);
+        for index in 0..MOST_CLASSES {
+            if self.numbers[index] == class {
+                return rank_at(index);
             }
         }
         unreachable!()
@@ -123,7 +134,7 @@ impl Classes {
     }
 
     /// The classes that the defenders held, rising: in them stand the missing cards, falling.
-    pub fn defence(&self) -> ArrayVec<u8, 7>
+    pub fn defence(&self) -> ArrayVec<u8, MOST_DEFENCE_CLASSES>
         ensures value { result.items ≡ defence_classes self.now }
         ensures blocks { flat_map (class_ranks self.now) result.items ≡ others_of self.now.north self.now.south }
     {
@@ -137,11 +148,11 @@ impl Classes {
     }
 
     /// The sizes of the classes that the defenders held, in the same order.
-    pub fn sizes(&self) -> ArrayVec<u8, 7>
+    pub fn sizes(&self) -> ArrayVec<u8, MOST_DEFENCE_CLASSES>
         ensures value { result.items ≡ defence_sizes self.now }
         ensures some { All (λ size. 1 ≤ size) result.items }
         ensures sum { sum result.items ≡ length (others_of self.now.north self.now.south) }
-        ensures few { length (others_of self.now.north self.now.south) + length result.items ≤ 14 }
+        ensures few { length (others_of self.now.north self.now.south) + length result.items ≤ MOST_MISSING_AND_CLASSES }
     {
         let mut sizes = ArrayVec::new();
         for class in self.defence().as_slice() {
@@ -187,30 +198,30 @@ impl Classes {
 }
 
 // Whether the rank so many below the ace was not held by whoever held the rank above it.
-fn starts_class(north: Holding, south: Holding, place: usize) -> bool
-    requires least { 1 ≤ place }
-    requires most { place < 13 }
-    ensures { (hands : Hands) (above : ℕ) → hands.north ≡ north → hands.south ≡ south → above + 1 ≡ place → result ≡ not (same_owner (holder hands (14 - above)) (holder hands (14 - place))) }
+fn starts_class(north: Holding, south: Holding, index: usize) -> bool
+    requires least { 1 ≤ index }
+    requires most { index < MOST_CLASSES }
+    ensures { (hands : Hands) (above : ℕ) → hands.north ≡ north → hands.south ≡ south → above + 1 ≡ index → result ≡ not (same_owner (holder hands (14 - above)) (holder hands (14 - index))) }
 {
-    let above = holder_of(north, south, rank_at(place - 1));
-    let here = holder_of(north, south, rank_at(place));
+    let above = holder_of(north, south, rank_at(index - 1));
+    let here = holder_of(north, south, rank_at(index));
     !above.is(here)
 }
 
 // How often a class stands among the numbers of thirteen ranks.
-fn how_often(numbers: &[u8; 13], class: u8) -> u8
+fn how_often(numbers: &[u8; MOST_CLASSES], class: u8) -> u8
     ensures { result ≡ count_by (λ number. number == class) numbers.now }
 {
     numbers.iter().filter(|number| **number == class).count() as u8
 }
 
 // The rank so many below the ace.
-fn rank_at(place: usize) -> Rank
-    requires { place < 13 }
-    ensures value { result + place ≡ 14 }
+fn rank_at(index: usize) -> Rank
+    requires { index < MOST_CLASSES }
+    ensures value { result + index ≡ 14 }
     ensures rank { IsRank result }
 {
-    match Rank::from_number(14 - place as u8) {
+    match Rank::from_number(14 - index as u8) {
         Some(rank) => rank,
         None => unreachable!(),
     }

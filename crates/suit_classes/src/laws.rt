@@ -1,7 +1,7 @@
 //! Laws of the class game: each is the contract of a small function.
 ghost use Rattle.std.specs.Prelude.{◌≡◌};
-ghost use Rattle.suit_classes.specs.Agreement.{AllowedMoves, ClassGameAgrees, ClassHistoriesAreShort, ClassesAreRuns, CountsByBlocks, CountsTellMoves, DecidedStays, LayoutsAllowNone};
-ghost use Rattle.suit_classes.specs.ClassMoves.{stands_before};
+ghost use Rattle.suit_classes.specs.Agreement.{AllowedMoves, ClassGameAgrees, ClassHistoriesAreShort, ClassPlacesTellCards, ClassesAreRuns, CountsAlike, CountsByBlocks, CountsTellMoves, DecidedStays, LayoutsAllowNone};
+ghost use Rattle.suit_classes.specs.MoveOrder.{ClassMovesRise, EveryMoveRises, stands_before};
 
 use super::ClassMove;
 
@@ -20,6 +20,11 @@ pub fn moves_are_ordered(here: &ClassMove, there: &ClassMove) -> bool
 /// The place after a class history agrees with each legal history that merges to it, under each layout.
 pub fn class_game_agrees()
     ensures { ClassGameAgrees }
+{}
+
+/// What a class place tells of its class history is what the cards say, whichever legal history merges to it.
+pub fn class_places_tell_cards()
+    ensures { ClassPlacesTellCards }
 {}
 
 /// Layouts of the same counts have the same class moves after histories that merge alike.
@@ -50,4 +55,19 @@ pub fn allowed_moves()
 /// West's counts are how many cards he holds of each block of the missing cards.
 pub fn counts_by_blocks()
     ensures { CountsByBlocks }
+{}
+
+/// West's counts by blocks of the missing cards, of which class layouts are made, are his counts in the class game.
+pub fn counts_alike()
+    ensures { CountsAlike }
+{}
+
+/// The moves at a class place rise by the order of class moves, whatever West's counts are.
+pub fn class_moves_rise()
+    ensures { ClassMovesRise }
+{}
+
+/// All class moves, as they are listed, rise by the order of class moves.
+pub fn every_move_rises()
+    ensures { EveryMoveRises }
 {}

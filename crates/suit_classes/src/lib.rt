@@ -6,8 +6,8 @@ mod class_moves;
 mod class_place;
 mod class_trick;
 mod class_turn;
+mod class_view;
 mod classes;
-mod entries;
 pub mod examples;
 mod history;
 pub mod laws;
@@ -15,8 +15,12 @@ mod sharing;
 #[cfg(test)]
 mod tests;
 
-pub use class_moves::ClassMove;
+pub use class_moves::{ClassMove, is_among};
 pub use class_place::ClassPlace;
+pub use class_trick::ClassTrick;
 pub use class_turn::ClassTurn;
-pub use classes::{Classes, Memory, Owner};
+pub use class_view::ClassView;
+pub use classes::{
+    Classes, MOST_CLASSES, MOST_DEFENCE_CLASSES, MOST_MISSING_AND_CLASSES, Memory, Owner,
+};
 pub use history::History;

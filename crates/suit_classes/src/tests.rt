@@ -15,21 +15,7 @@ fn rank(letter: u8) -> Result<Rank, Fail> {
 
 // A question with free entries, all places vacant and no more known.
 fn plain(north: &'static str, south: &'static str, goal: Goal) -> Result<Question, Fail> {
-    Ok(Question {
-        north: holding(north)?,
-        south: holding(south)?,
-        start: LeadAt::Either,
-        regain: LeadAt::Either,
-        entries_n: Entries::Free,
-        entries_s: Entries::Free,
-        vacant_w: 13,
-        vacant_e: 13,
-        west_least: 0,
-        west_most: 13,
-        goal,
-        nodes: 200_000,
-        pivots: 100_000,
-    })
+    Ok(Question::plain(holding(north)?, holding(south)?, goal))
 }
 
 // Ten cards facing the three, which is led: no hand has an entry.

@@ -7,7 +7,7 @@ use Rattle.std.proofs.lemmas.List.Sums.{sum_by-append}
 use Rattle.suit_cards.specs.Holdings.{FallsBelow, holds}
 use Rattle.suit_cards.proofs.HeldSuits.{holds-above}
 use Rattle.suit_game.proofs.EachElement.{each_gives}
-use Rattle.suit_layouts.specs.Blocks.{blocks_of, counts_in}
+use Rattle.suit_game.specs.Blocks.{blocks_of, counts_in}
 use Rattle.suit_layouts.proofs.JoinedChoices.{AreHeld, count_all, count_none}
 
 -- what the second of two lists holds, both hold together

@@ -4,6 +4,7 @@ use Rattle.std.specs.Prelude.{bytes_eq, ◌==◌, if◌then◌else◌}
 use Rattle.std.specs.List.{filter, sum, sum_by, range_with_len}
 use Rattle.std.proofs.lemmas.Bool.{cases_Bool, cases_eq, cases_lt, eq-eqb, lt-ltb, ne_eqb}
 use Rattle.std.proofs.lemmas.List.Sums.{sum_by-cons}
+use Rattle.suit_cards.specs.Cards.{Counts, Sizes}
 use Rattle.suit_cards.proofs.HeldSuits.{IsHolding-others_of}
 use Rattle.suit_num.specs.Binomials.{binomial}
 use Rattle.suit_num.proofs.BinomialLaws.{binomial_past}
@@ -11,11 +12,10 @@ use Rattle.suit_game.specs.declared.question.Question.{Question}
 use Rattle.suit_game.specs.Layouts.{choices_of, is_west_length, layouts, weight, total}
 use Rattle.suit_game.specs.Question.{missing}
 use Rattle.suit_game.specs.Weights.{weight_in_range}
-use Rattle.suit_game.proofs.ChoiceSums.{sum_by_filter, sum_by_none, sum_by_same}
-use Rattle.suit_layouts.specs.Blocks.{counts_of}
-use Rattle.suit_layouts.specs.ClassLayouts.{class_layouts, class_weight, counts_up_to, ways_of, weighed}
+use Rattle.suit_game.proofs.ListSums.{sum_by_filter, sum_by_none, sum_by_same, sum_by_map, sum_by-mul}
+use Rattle.suit_game.specs.Blocks.{counts_of}
+use Rattle.suit_layouts.specs.ClassLayouts.{class_layouts, class_weight, counts_up_to, same_counts, ways_of, weighed}
 use Rattle.suit_layouts.proofs.GroupedSums.{grouped, up_to-sum}
-use Rattle.suit_layouts.proofs.JoinedChoices.{sum_by_map, sum_by-mul}
 
 -- the one number of a run that is asked for: none where the run begins after it
 pick_none : (f : ℕ → ℕ) (count a n : ℕ) → count < a → sum_by (λ k. if k == count then f k else 0) (range_with_len a n) ≡ 0
@@ -58,8 +58,8 @@ term_elsewhere : (here test : Bool) (ways value : ℕ) → here ≡ false → wa
 term_elsewhere here test ways value is = rw is (omega arith)
 
 -- among all counts, those asked for alone
-pub selected : (g : List ℕ → ℕ) (sizes counts : List ℕ)
-    → sum_by (λ other. ways_of sizes other * (if bytes_eq other counts then g other else 0)) (counts_up_to sizes) ≡ ways_of sizes counts * g counts
+pub selected : (g : List ℕ → ℕ) (sizes : Sizes) (counts : Counts)
+    → sum_by (λ other. ways_of sizes other * (if same_counts other counts then g other else 0)) (counts_up_to sizes) ≡ ways_of sizes counts * g counts
 unfolding counts_up_to ways_of
 selected g [] [] = omega arith
 selected g [] (count ∷ counts) = omega arith
@@ -103,19 +103,19 @@ both_tests false true deals = refl
 both_tests false false deals = refl
 
 -- a class layout weighs as much as one of its layouts, times the ways to choose West's cards of each block
-pub class_weight_counted : (question : Question) (sizes counts : List ℕ) → sum sizes ≡ length (missing question)
+pub class_weight_counted : (question : Question) (sizes : Sizes) (counts : Counts) → sum sizes ≡ length (missing question)
     → class_weight question sizes counts ≡ ways_of sizes counts * weight_in_range question (sum counts)
 unfolding class_weight layouts
 class_weight_counted question sizes counts filled =
     let deals : List ℕ → ℕ = λ west. weight question (length west) in
     let fits : List ℕ → Bool = λ west. is_west_length question (length west) in
-    let asked : List ℕ → Bool = λ west. bytes_eq (counts_of question sizes west) counts in
+    let asked : List ℕ → Bool = λ west. same_counts (counts_of question sizes west) counts in
     let all = choices_of (missing question) in
     sum_by_filter asked deals (filter fits all)
     ∙ sum_by_filter fits (λ west. if asked west then deals west else 0) all
     ∙ sum_by_same (λ west. if fits west then (if asked west then deals west else 0) else 0) (λ west. if asked west then weight_in_range question (length west) else 0) all
     (λ west. both_tests (fits west) (asked west) (deals west))
-    ∙ grouped (λ other long. if bytes_eq other counts then weight_in_range question long else 0) 15 sizes (missing question)
+    ∙ grouped (λ other long. if same_counts other counts then weight_in_range question long else 0) 15 sizes (missing question)
     (IsHolding-others_of question.north question.south) filled
     ∙ selected (λ other. weight_in_range question (sum other)) sizes counts
 
@@ -130,7 +130,7 @@ none_dropped zero worth = omega arith
 none_dropped (suc deals) worth = let some : nat_lt 0 (suc deals) ≡ true = lt-ltb 0 (suc deals) (omega arith) in rw some refl
 
 -- what depends on West's counts alone is summed over the layouts by class layouts
-pub layouts_grouped : (worth : List ℕ → ℕ) (question : Question) (sizes : List ℕ) → sum sizes ≡ length (missing question)
+pub layouts_grouped : (worth : List ℕ → ℕ) (question : Question) (sizes : Sizes) → sum sizes ≡ length (missing question)
     → sum_by (λ west. weight question (length west) * worth (counts_of question sizes west)) (layouts question)
     ≡ sum_by (λ layout. layout.1 * worth layout.0) (class_layouts question sizes)
 unfolding layouts class_layouts weighed
@@ -153,7 +153,7 @@ layouts_grouped worth question sizes filled =
     by_choice ∙ by_counts ∙ sym by_class
 
 -- the weights of the class layouts add up to the total
-pub class_weights_add_up : (question : Question) (sizes : List ℕ) → sum sizes ≡ length (missing question)
+pub class_weights_add_up : (question : Question) (sizes : Sizes) → sum sizes ≡ length (missing question)
     → sum_by (λ layout. layout.1) (class_layouts question sizes) ≡ total question
 class_weights_add_up question sizes filled =
     sum_by_same (λ (layout : List ℕ × ℕ). layout.1) (λ layout. layout.1 * 1) (class_layouts question sizes) (λ layout. omega arith)

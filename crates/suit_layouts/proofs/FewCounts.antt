@@ -8,8 +8,9 @@ use Rattle.std.proofs.lemmas.List.Concat.{length-flat_map}
 use Rattle.std.proofs.lemmas.List.FromFn.{length-range_with_len}
 use Rattle.std.proofs.lemmas.List.Sums.{sum_by-cons, length-filter, count_by-le-length}
 use Rattle.std.proofs.Math.Nat.{mul-le-mul_left}
+use Rattle.suit_cards.specs.Cards.{Sizes}
 use Rattle.suit_game.specs.declared.question.Question.{Question}
-use Rattle.suit_layouts.specs.Blocks.{AreSizes}
+use Rattle.suit_game.specs.Blocks.{AreSizes}
 use Rattle.suit_layouts.specs.ClassLayouts.{class_layouts, class_weight, counts_up_to, weighed}
 use Rattle.suit_layouts.proofs.GroupedSums.{sum-cons}
 
@@ -19,7 +20,7 @@ sum_by_each k f [] each = omega arith
 sum_by_each k f (x ∷ xs) each = omega (arith, sum_by-cons f x xs, each x, sum_by_each k f xs each)
 
 -- each count of the first block goes with all counts of the others
-pub length-up_to : (size : ℕ) (sizes : List ℕ) → length (counts_up_to (size ∷ sizes)) ≡ (size + 1) * length (counts_up_to sizes)
+pub length-up_to : (size : ℕ) (sizes : Sizes) → length (counts_up_to (size ∷ sizes)) ≡ (size + 1) * length (counts_up_to sizes)
 unfolding counts_up_to
 length-up_to size sizes =
     let pieces : ℕ → List (List ℕ) = λ count. map (λ counts. count ∷ counts) (counts_up_to sizes) in
@@ -58,7 +59,7 @@ unfolding best
 none_left = omega arith
 
 -- there are no more counts than the greatest product
-up_to_best : (sizes : List ℕ) → sum sizes + length sizes ≤ 14 → length (counts_up_to sizes) ≤ best (sum sizes + length sizes)
+up_to_best : (sizes : Sizes) → sum sizes + length sizes ≤ 14 → length (counts_up_to sizes) ≤ best (sum sizes + length sizes)
 unfolding counts_up_to
 up_to_best [] few = none_left
 up_to_best (size ∷ sizes) few =
@@ -69,13 +70,13 @@ up_to_best (size ∷ sizes) few =
     rw parts (omega (arith, length-up_to size sizes, product, more))
 
 -- no blocks that the rules allow have more than 162 counts
-pub up_to_few : (sizes : List ℕ) → sum sizes + length sizes ≤ 14 → length (counts_up_to sizes) ≤ 162
+pub up_to_few : (sizes : Sizes) → sum sizes + length sizes ≤ 14 → length (counts_up_to sizes) ≤ 162
 up_to_few sizes few =
     let fits = leb-true (best (sum sizes + length sizes)) 162 (agree_below_at (λ n. nat_le (best n) 162) (λ n. true) 15 (sum sizes + length sizes) whole_fits (omega arith)) in
     omega (arith, up_to_best sizes few, fits)
 
 -- nor class layouts
-pub class_layouts_few : (question : Question) (sizes : List ℕ) → AreSizes question sizes → length (class_layouts question sizes) ≤ 162
+pub class_layouts_few : (question : Question) (sizes : Sizes) → AreSizes question sizes → length (class_layouts question sizes) ≤ 162
 unfolding class_layouts weighed
 class_layouts_few question sizes are =
     let with_weight : List ℕ → List ℕ × ℕ = λ counts. (counts, class_weight question sizes counts) in

@@ -3,22 +3,24 @@ use Rattle.std.proofs.Common.{◌≡◌, ℕ, ◌+◌, ◌*◌, List, [], ◌∷
 use Rattle.std.specs.List.{sum, sum_by, range_with_len}
 use Rattle.std.proofs.lemmas.List.{take-append-drop, length-append, length-take-le, length-drop}
 use Rattle.std.proofs.lemmas.List.Sums.{sum_by-cons}
+use Rattle.suit_cards.specs.Cards.{Counts, Sizes}
 use Rattle.suit_cards.specs.Holdings.{FallsBelow}
 use Rattle.suit_num.specs.Binomials.{binomial}
 use Rattle.suit_game.specs.Layouts.{choices_of}
-use Rattle.suit_game.proofs.ChoiceSums.{choices_summed, sum_by_same}
+use Rattle.suit_game.proofs.ChoiceSums.{choices_summed}
 use Rattle.suit_game.proofs.EachElement.{each_gives}
-use Rattle.suit_layouts.specs.Blocks.{blocks_of, counts_in}
+use Rattle.suit_game.specs.Blocks.{blocks_of, counts_in}
 use Rattle.suit_layouts.specs.ClassLayouts.{counts_up_to, ways_of}
 use Rattle.suit_layouts.proofs.BlockCounts.{counts_joined, falls_after}
-use Rattle.suit_layouts.proofs.JoinedChoices.{AreHeld, choices_held, choices_joined, sum_by_alike, sum_by_flat_map, sum_by_map, sum_by-mul}
+use Rattle.suit_layouts.proofs.JoinedChoices.{AreHeld, choices_held, choices_joined}
+use Rattle.suit_game.proofs.ListSums.{sum_by_same, sum_by_alike, sum_by_flat_map, sum_by_map, sum_by-mul}
 
 -- a sum by its first number
 pub sum-cons : (x : ℕ) (xs : List ℕ) → sum (x ∷ xs) ≡ x + sum xs
 sum-cons x xs = sum_by-cons (λ (n : ℕ). n) x xs
 
 -- a sum over all counts, by the first count
-pub up_to-sum : (f : List ℕ → ℕ) (size : ℕ) (sizes : List ℕ)
+pub up_to-sum : (f : List ℕ → ℕ) (size : ℕ) (sizes : Sizes)
     → sum_by f (counts_up_to (size ∷ sizes)) ≡ sum_by (λ count. sum_by (λ counts. f (count ∷ counts)) (counts_up_to sizes)) (range_with_len 0 (size + 1))
 unfolding counts_up_to
 up_to-sum f size sizes =
@@ -38,7 +40,7 @@ joined_term f top size sizes cards taken more falls first later =
     cc
 
 -- one list of counts, by its first count
-counts_term : (f : List ℕ → ℕ → ℕ) (size : ℕ) (sizes : List ℕ) (count : ℕ) (counts : List ℕ)
+counts_term : (f : List ℕ → ℕ → ℕ) (size : ℕ) (sizes : Sizes) (count : ℕ) (counts : Counts)
     → binomial size count * (ways_of sizes counts * f (count ∷ counts) (count + sum counts))
     ≡ ways_of (size ∷ sizes) (count ∷ counts) * f (count ∷ counts) (sum (count ∷ counts))
 unfolding ways_of

@@ -6,39 +6,25 @@ use Rattle.std.proofs.lemmas.Bool.{cases_eq, cases_lt, eq-eqb, ne_eqb}
 use Rattle.std.proofs.lemmas.List.Elements.{All-contains, All-contains_itself, All-filter, filter_passes}
 use Rattle.std.proofs.lemmas.List.Sums.{get_or-le-sum_by, length-filter, sum_by-cons}
 use Rattle.std.proofs.lemmas.Slice.Eq.{bytes_eq-Decides}
+use Rattle.suit_cards.specs.Cards.{Cards, Counts, Sizes}
 use Rattle.suit_cards.proofs.HeldSuits.{IsHolding-others_of}
 use Rattle.suit_game.specs.declared.question.Question.{Question}
 use Rattle.suit_game.specs.Layouts.{choices_of, is_west_length, layouts, weight}
 use Rattle.suit_game.specs.Question.{missing}
-use Rattle.suit_game.proofs.ChoiceSums.{sum_by_filter, sum_by_none, sum_by_same}
-use Rattle.suit_game.proofs.EachElement.{Contains-first, Contains-later}
-use Rattle.suit_layouts.specs.Blocks.{counts_of}
-use Rattle.suit_layouts.specs.ClassLayouts.{class_weight, counts_up_to, ways_of}
+use Rattle.suit_game.proofs.ListSums.{sum_by_filter, sum_by_none, sum_by_same, term_small, some_term}
+use Rattle.suit_game.proofs.EachElement.{Contains-first, Contains-later, Contains-filter}
+use Rattle.suit_game.specs.Blocks.{counts_of}
+use Rattle.suit_layouts.specs.ClassLayouts.{class_weight, counts_up_to, same_counts, ways_of}
 use Rattle.suit_layouts.proofs.ClassWeights.{both_tests, selected}
 use Rattle.suit_layouts.proofs.GroupedSums.{grouped}
-use Rattle.suit_layouts.proofs.ListedCounts.{Contains-filter}
-
--- a term is at most the sum
-term_small : {X : Type 0} (f : X → ℕ) (xs : List X) (x : X) → Contains xs x → f x ≤ sum_by f xs
-term_small f xs x found =
-    let same : f (slice_index_or xs found.0 x) ≡ f x = ap f found.2 in
-    omega (arith, get_or-le-sum_by f xs found.0 x found.1)
-
--- a sum that is something has a term that is
-some_term : {X : Type 0} (f : X → ℕ) (xs : List X) → 0 < sum_by f xs → (x : X) × Contains xs x × (0 < f x)
-some_term f [] some = absurd (omega arith)
-some_term f (x ∷ xs) some = elim (cases_lt 0 (f x)) [
-  | inl here ↦ (x, Contains-first x xs, here)
-  | inr none ↦ let later = some_term f xs (omega (arith, sum_by-cons f x xs)) in (later.0, Contains-later x xs later.0 later.1, later.2)
-]
 
 -- as many layouts have given counts as the ways of the blocks
-pub layouts_counted : (question : Question) (sizes counts : List ℕ) → sum sizes ≡ length (missing question) → IsTrue (is_west_length question (sum counts))
-    → length (filter (λ west. bytes_eq (counts_of question sizes west) counts) (layouts question)) ≡ ways_of sizes counts
+pub layouts_counted : (question : Question) (sizes : Sizes) (counts : Counts) → sum sizes ≡ length (missing question) → IsTrue (is_west_length question (sum counts))
+    → length (filter (λ west. same_counts (counts_of question sizes west) counts) (layouts question)) ≡ ways_of sizes counts
 unfolding layouts
 layouts_counted question sizes counts filled within =
     let fits : List ℕ → Bool = λ west. is_west_length question (length west) in
-    let asked : List ℕ → Bool = λ west. bytes_eq (counts_of question sizes west) counts in
+    let asked : List ℕ → Bool = λ west. same_counts (counts_of question sizes west) counts in
     let all = choices_of (missing question) in
     let fits_one : ℕ → ℕ = λ long. if is_west_length question long then 1 else 0 in
     let one : fits_one (sum counts) ≡ 1 = ap {B = ℕ} (λ (b : Bool). cond b 1 0) within in
@@ -47,12 +33,12 @@ layouts_counted question sizes counts filled within =
     ∙ sum_by_filter fits (λ west. if asked west then 1 else 0) all
     ∙ sum_by_same (λ west. if fits west then (if asked west then 1 else 0) else 0) (λ west. if asked west then fits_one (length west) else 0) all
     (λ west. both_tests (fits west) (asked west) 1)
-    ∙ grouped (λ other long. if bytes_eq other counts then fits_one long else 0) 15 sizes (missing question) (IsHolding-others_of question.north question.south) filled
+    ∙ grouped (λ other long. if same_counts other counts then fits_one long else 0) 15 sizes (missing question) (IsHolding-others_of question.north question.south) filled
     ∙ selected (λ other. fits_one (sum other)) sizes counts
     ∙ whole
 
 -- West's counts add up to the number of West's cards
-pub counts_add_up : (question : Question) (sizes west : List ℕ) → sum sizes ≡ length (missing question) → Contains (layouts question) west
+pub counts_add_up : (question : Question) (sizes : Sizes) (west : Cards) → sum sizes ≡ length (missing question) → Contains (layouts question) west
     → sum (counts_of question sizes west) ≡ length west
 unfolding layouts
 counts_add_up question sizes west filled found =
@@ -72,21 +58,21 @@ counts_add_up question sizes west filled found =
     ]
 
 -- the counts of a layout that has a weight are a class layout that has one
-pub layouts_listed : (question : Question) (sizes west : List ℕ) → Contains (layouts question) west → 0 < weight question (length west)
+pub layouts_listed : (question : Question) (sizes : Sizes) (west : Cards) → Contains (layouts question) west → 0 < weight question (length west)
     → 0 < class_weight question sizes (counts_of question sizes west)
 unfolding class_weight
 layouts_listed question sizes west found some =
-    let asked : List ℕ → Bool = λ other. bytes_eq (counts_of question sizes other) (counts_of question sizes west) in
+    let asked : List ℕ → Bool = λ other. same_counts (counts_of question sizes other) (counts_of question sizes west) in
     let here : asked west ≡ true = (bytes_eq-Decides (counts_of question sizes west) (counts_of question sizes west)).1 refl in
     let kept = Contains-filter asked (layouts question) west found here in
     omega (arith, some, term_small (λ other. weight question (length other)) (filter asked (layouts question)) west kept)
 
 -- a class layout that has a weight is the counts of some layout that has one
-pub class_layouts_held : (question : Question) (sizes counts : List ℕ) → 0 < class_weight question sizes counts
-    → (west : List ℕ) × Contains (layouts question) west × (counts_of question sizes west ≡ counts) × (0 < weight question (length west))
+pub class_layouts_held : (question : Question) (sizes : Sizes) (counts : Counts) → 0 < class_weight question sizes counts
+    → (west : Cards) × Contains (layouts question) west × (counts_of question sizes west ≡ counts) × (0 < weight question (length west))
 unfolding class_weight
 class_layouts_held question sizes counts some =
-    let asked : List ℕ → Bool = λ other. bytes_eq (counts_of question sizes other) counts in
+    let asked : List ℕ → Bool = λ other. same_counts (counts_of question sizes other) counts in
     let term = some_term (λ other. weight question (length other)) (filter asked (layouts question)) some in
     let passes : asked term.0 ≡ true = All-contains (λ other. asked other ≡ true) (filter asked (layouts question)) term.0 (filter_passes asked (layouts question)) term.1 in
     let found = All-contains (Contains (layouts question)) (filter asked (layouts question)) term.0

@@ -8,32 +8,7 @@ use Rattle.std.proofs.lemmas.Bool.{eq-eqb}
 use Rattle.suit_cards.specs.Holdings.{holds}
 use Rattle.suit_game.specs.Layouts.{choices_of}
 use Rattle.suit_game.proofs.EachElement.{each_append, each_gives, each_map}
-
--- a sum over what a function makes of a list
-pub sum_by_map : {X Y : Type 0} (f : Y → ℕ) (h : X → Y) (xs : List X) → sum_by f (map h xs) ≡ sum_by (λ x. f (h x)) xs
-sum_by_map f h [] = refl
-sum_by_map {X} f h (x ∷ xs) =
-    let at_item : X → ℕ = λ y. f (h y) in
-    omega (arith, sum_by-cons f (h x) (map h xs), sum_by-cons at_item x xs, sum_by_map f h xs)
-
--- a sum over lists joined end to end
-pub sum_by_flat_map : {X Y : Type 0} (f : Y → ℕ) (h : X → List Y) (xs : List X) → sum_by f (flat_map h xs) ≡ sum_by (λ x. sum_by f (h x)) xs
-sum_by_flat_map f h [] = refl
-sum_by_flat_map {X} f h (x ∷ xs) =
-    let at_item : X → ℕ = λ y. sum_by f (h y) in
-    omega (arith, sum_by-append f (h x) (flat_map h xs), sum_by-cons at_item x xs, sum_by_flat_map f h xs)
-
--- terms that are equal at each element of a list add up to equal sums
-pub sum_by_alike : {X : Type 0} (f g : X → ℕ) (xs : List X) → AllByRecursion (λ x. f x ≡ g x) xs → sum_by f xs ≡ sum_by g xs
-sum_by_alike f g [] alike = refl
-sum_by_alike f g (x ∷ xs) alike = omega (arith, sum_by-cons f x xs, sum_by-cons g x xs, alike.0, sum_by_alike f g xs alike.1)
-
--- a factor of each term is one of the sum
-pub sum_by-mul : {X : Type 0} (k : ℕ) (f : X → ℕ) (xs : List X) → sum_by (λ x. k * f x) xs ≡ k * sum_by f xs
-sum_by-mul k f [] = omega arith
-sum_by-mul {X} k f (x ∷ xs) =
-    let scaled : X → ℕ = λ y. k * f y in
-    omega (arith, sum_by-cons scaled x xs, ap (λ (n : ℕ). k * n) (sum_by-cons f x xs), sum_by-mul k f xs)
+use Rattle.suit_game.proofs.ListSums.{sum_by_map}
 
 -- to choose among two lists is to choose among the first and then among the second
 pub choices_joined : (f : List ℕ → ℕ) (xs ys : List ℕ)

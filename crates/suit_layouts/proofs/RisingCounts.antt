@@ -8,6 +8,7 @@ use Rattle.std.specs.declared.cmp.Ordering.TheVariants.{Less}
 use Rattle.std.proofs.lemmas.Bool.{eq-eqb, lt-ltb, le-ltb}
 use Rattle.std.proofs.lemmas.List.Elements.{All-from_recursion}
 use Rattle.std.proofs.lemmas.List.Kept.{AllPairs-cons, AllPairs-filter}
+use Rattle.suit_cards.specs.Cards.{Counts, Sizes}
 use Rattle.suit_game.specs.declared.question.Question.{Question}
 use Rattle.suit_game.proofs.EachElement.{each_append, each_gives, each_map, each_of}
 use Rattle.suit_layouts.specs.ClassLayouts.{class_layouts, class_weight, counts_up_to, weighed}
@@ -51,7 +52,7 @@ rising_with_first first (counts ∷ all) rise = (
 )
 
 -- a list whose first number is at least some number
-record StartsFrom (least : ℕ) (counts : List ℕ) : Type 0 where
+record StartsFrom (least : ℕ) (counts : Counts) : Type 0 where
   first : ℕ
   others : List ℕ
   is : counts ≡ first ∷ others
@@ -84,13 +85,13 @@ pieces_rise all a (suc n) rise =
     (λ counts. each_gives (StartsFrom (a + 1)) (IsBefore (a ∷ counts)) later (before_starting a counts) (pieces_start all (a + 1) n))))
 
 -- all counts rise
-up_to-rise : (sizes : List ℕ) → AreRising (counts_up_to sizes)
+up_to-rise : (sizes : Sizes) → AreRising (counts_up_to sizes)
 unfolding counts_up_to
 up_to-rise [] = (tt, tt)
 up_to-rise (size ∷ sizes) = pieces_rise (counts_up_to sizes) 0 (size + 1) (up_to-rise sizes)
 
 -- and so they do with their weights
-weighed-pairs : (question : Question) (sizes : List ℕ) (all : List (List ℕ)) → AreRising all
+weighed-pairs : (question : Question) (sizes : Sizes) (all : List (List ℕ)) → AreRising all
     → AllPairs (λ (before later : List ℕ × ℕ). IsBefore before.0 later.0) (map (λ counts. (counts, class_weight question sizes counts)) all)
 weighed-pairs question sizes [] rise = λ i j d less within. absurd (omega arith)
 weighed-pairs question sizes (counts ∷ all) rise =
@@ -101,7 +102,7 @@ weighed-pairs question sizes (counts ∷ all) rise =
     (weighed-pairs question sizes all rise.1)
 
 -- the class layouts stand in strictly rising order
-pub class_layouts_rise : (question : Question) (sizes : List ℕ)
+pub class_layouts_rise : (question : Question) (sizes : Sizes)
     → AllPairs (λ before later. slice_cmp nat_cmp before.0 later.0 ≡ Less) (class_layouts question sizes)
 unfolding class_layouts weighed
 class_layouts_rise question sizes =

@@ -4,6 +4,7 @@ use Rattle.std.proofs.lemmas.List.{take_all}
 use Rattle.std.specs.List.{sum}
 use Rattle.std.proofs.lemmas.Nat.{pow-add}
 use Rattle.std.proofs.Math.Nat.{mul-le-mul, pow-le-pow_right}
+use Rattle.suit_cards.specs.Cards.{Counts, Sizes}
 use Rattle.suit_cards.proofs.HeldRanks.{length-IsHolding}
 use Rattle.suit_cards.proofs.HeldSuits.{IsHolding-others_of}
 use Rattle.suit_num.specs.Binomials.{binomial}
@@ -13,7 +14,7 @@ use Rattle.suit_game.specs.Question.{missing}
 use Rattle.suit_game.specs.Validity.{IsValid}
 use Rattle.suit_game.specs.Weights.{weight_in_range}
 use Rattle.suit_game.proofs.FilledPlaces.{weight-small}
-use Rattle.suit_layouts.specs.Blocks.{AreSizes}
+use Rattle.suit_game.specs.Blocks.{AreSizes}
 use Rattle.suit_layouts.specs.ClassLayouts.{class_weight, ways_of}
 use Rattle.suit_layouts.proofs.ClassWeights.{class_weight_counted}
 use Rattle.suit_layouts.proofs.GroupedSums.{sum-cons}
@@ -33,13 +34,13 @@ small_fits sum_of ways few small =
     omega arith
 
 -- a suit has no more cards than thirteen
-pub sizes_few : (question : Question) (sizes : List ℕ) → AreSizes question sizes → sum sizes ≤ 13
+pub sizes_few : (question : Question) (sizes : Sizes) → AreSizes question sizes → sum sizes ≤ 13
 sizes_few question sizes are =
     let missing_few : length (missing question) ≤ 13 = length-IsHolding (missing question) (IsHolding-others_of question.north question.south) in
     omega (arith, are.filled)
 
 -- where no way is left, the class layout weighs nothing
-pub none_weighs : (question : Question) (sizes counts : List ℕ) (ways : ℕ) → AreSizes question sizes → ways ≡ ways_of sizes counts → ways ≡ 0
+pub none_weighs : (question : Question) (sizes : Sizes) (counts : Counts) (ways : ℕ) → AreSizes question sizes → ways ≡ ways_of sizes counts → ways ≡ 0
     → 0 ≡ class_weight question sizes counts
 none_weighs question sizes counts ways are is none =
     let counted = class_weight_counted question sizes counts are.filled in
@@ -47,14 +48,14 @@ none_weighs question sizes counts ways are is none =
     sym (counted ∙ rw no_way (omega arith))
 
 -- where West can hold so many of each block, these are few
-pub counts_few : (question : Question) (sizes counts : List ℕ) (ways : ℕ) → AreSizes question sizes → ways ≡ ways_of sizes counts → (ways ≡ 0 → ⊥)
+pub counts_few : (question : Question) (sizes : Sizes) (counts : Counts) (ways : ℕ) → AreSizes question sizes → ways ≡ ways_of sizes counts → (ways ≡ 0 → ⊥)
     → sum counts ≤ 13
 counts_few question sizes counts ways are is some =
     let positive : 0 < ways_of sizes counts = omega arith in
     omega (arith, (Contains-up_to sizes counts positive).1, sizes_few question sizes are)
 
 -- the product fits
-pub deals_fit : (question : Question) (sizes : List ℕ) (count ways deals : ℕ) → IsValid question → AreSizes question sizes
+pub deals_fit : (question : Question) (sizes : Sizes) (count ways deals : ℕ) → IsValid question → AreSizes question sizes
     → ways ≤ 2 ^ sum sizes → deals ≡ weight_in_range question count → ways * deals ≤ 2 ^ 39
 deals_fit question sizes count ways deals valid are small is =
     let low : ways ≤ 2 ^ 13 = small_fits (sum sizes) ways (sizes_few question sizes are) small in
@@ -63,7 +64,7 @@ deals_fit question sizes count ways deals valid are small is =
     omega arith
 
 -- and is the weight of the class layout
-pub weighs : (question : Question) (sizes counts : List ℕ) (ways count deals : ℕ) → AreSizes question sizes
+pub weighs : (question : Question) (sizes : Sizes) (counts : Counts) (ways count deals : ℕ) → AreSizes question sizes
     → ways ≡ ways_of sizes counts → count ≡ sum counts → deals ≡ weight_in_range question count → ways * deals ≡ class_weight question sizes counts
 weighs question sizes counts ways count deals are is_ways is_count is_deals =
     let here : deals ≡ weight_in_range question (sum counts) = is_deals ∙ ap (weight_in_range question) is_count in
@@ -74,14 +75,14 @@ rest_of : (first : ℕ) (others : List ℕ) → take (length (first ∷ others) 
 rest_of first others = let long : length (first ∷ others) - 1 ≡ length others = omega arith in rw long (take_all (length others) others (omega arith))
 
 -- with no block and no count there is one way
-pub ways-none : (sizes counts : List ℕ) → length sizes ≡ 0 → length counts ≡ 0 → 1 ≡ ways_of sizes counts
+pub ways-none : (sizes : Sizes) (counts : Counts) → length sizes ≡ 0 → length counts ≡ 0 → 1 ≡ ways_of sizes counts
 unfolding ways_of
 ways-none [] [] no_size no_count = refl
 ways-none (size ∷ sizes) counts no_size no_count = absurd (omega arith)
 ways-none [] (count ∷ counts) no_size no_count = absurd (omega arith)
 
 -- as many counts as blocks, or else no way
-pub ways_apart : (sizes counts : List ℕ) → (length sizes ≡ length counts → ⊥) → 0 ≡ ways_of sizes counts
+pub ways_apart : (sizes : Sizes) (counts : Counts) → (length sizes ≡ length counts → ⊥) → 0 ≡ ways_of sizes counts
 unfolding ways_of
 ways_apart [] [] apart = absurd (apart refl)
 ways_apart [] (count ∷ counts) apart = refl
@@ -96,7 +97,7 @@ pub record FirstWays (sizes counts others_sizes others_counts : List ℕ) (size 
   pub sum_of : sum sizes ≡ size + sum others_sizes
 
 -- a slice that has a first element, by it and the others
-pub first_ways : (sizes counts : List ℕ) → 1 ≤ length sizes → 1 ≤ length counts
+pub first_ways : (sizes : Sizes) (counts : Counts) → 1 ≤ length sizes → 1 ≤ length counts
     → FirstWays sizes counts (take (length sizes - 1) (drop 1 sizes)) (take (length counts - 1) (drop 1 counts)) (get_or sizes 0 0) (get_or counts 0 0)
 unfolding ways_of
 first_ways [] counts some_size some_count = absurd (omega arith)

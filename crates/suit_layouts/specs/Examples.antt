@@ -1,7 +1,8 @@
 -- Worked examples: class layouts and their weights, written down by hand.
 use Rattle.std.specs.Prelude.{◌≡◌, [], ◌∷◌, take, length}
-use Rattle.suit_game.specs.Examples.{plain, eleven_cards, tenace}
+use Rattle.suit_game.specs.Examples.{eleven_cards, tenace}
 use Rattle.suit_game.specs.declared.question.Goal.TheVariants.{AtLeast, Tricks}
+use Rattle.suit_game.specs.Question.{plain}
 use Rattle.suit_layouts.specs.ClassLayouts.{class_layouts}
 
 -- the king and the two apart: four layouts, each a class layout of its own

@@ -1,4 +1,3 @@
-pub mod Blocks
 pub mod ClassLaws
 pub mod ClassLayouts
 pub mod Examples

@@ -12,9 +12,9 @@ pub struct ClassLayout {
 }
 
 impl Model for ClassLayout {
-    ghost use Rattle.std.specs.Prelude.{List, ℕ};
+    ghost use Rattle.suit_cards.specs.Cards.{Counts};
 
-    ghost Value = { List ℕ };
+    ghost Value = { Counts };
 
     ghost view = { λ layout. layout.counts.items };
 

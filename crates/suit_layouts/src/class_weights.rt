@@ -1,7 +1,7 @@
 //! The weight of one class layout.
 ghost use Rattle.std.specs.Prelude.{◌≡◌, ◌≤◌, ◌^◌, sum};
 ghost use Rattle.suit_game.specs.Validity.{IsValid};
-ghost use Rattle.suit_layouts.specs.Blocks.{AreSizes};
+ghost use Rattle.suit_game.specs.Blocks.{AreSizes};
 ghost use Rattle.suit_layouts.specs.ClassLayouts.{class_weight, ways_of};
 
 use suit_game::{Question, weight};

@@ -13,6 +13,6 @@ mod tests;
 mod walks;
 
 pub use class_layout::ClassLayout;
-pub use class_list::{Memory, class_layouts};
+pub use class_list::{MOST_CLASS_LAYOUTS, Memory, class_layouts};
 pub use class_weights::class_weight;
-pub use walks::{ClassWalk, class_place};
+pub use walks::{ClassWalk, class_index};

@@ -1,32 +1,22 @@
 //! Class layouts and their weights, worked out apart from the program.
 ghost use Rattle.std.specs.Prelude.{◌≡◌, ◌≤◌, length, sum, IsTrue};
-ghost use Rattle.suit_layouts.specs.Blocks.{AreSizes};
+ghost use Rattle.suit_game.specs.Blocks.{AreSizes};
 
 use super::*;
 use std::test::Fail;
 use suit_cards::Holding;
-use suit_game::{Entries, Goal, LeadAt, Question};
+use suit_game::{Goal, Question};
 
 // The king apart from eight low cards.
 const KING_AND_EIGHT: &[u8] = &[1, 8];
 
 // A question with free entries, all places vacant and no more known.
 fn plain(north: &'static str, south: &'static str) -> Result<Question, Fail> {
-    Ok(Question {
-        north: Holding::read(north.as_bytes()).ok().ok_or(north)?,
-        south: Holding::read(south.as_bytes()).ok().ok_or(south)?,
-        start: LeadAt::Either,
-        regain: LeadAt::Either,
-        entries_n: Entries::Free,
-        entries_s: Entries::Free,
-        vacant_w: 13,
-        vacant_e: 13,
-        west_least: 0,
-        west_most: 13,
-        goal: Goal::Tricks,
-        nodes: 200_000,
-        pivots: 100_000,
-    })
+    Ok(Question::plain(
+        Holding::read(north.as_bytes()).ok().ok_or(north)?,
+        Holding::read(south.as_bytes()).ok().ok_or(south)?,
+        Goal::Tricks,
+    ))
 }
 
 // How many cards so many blocks have.
@@ -165,12 +155,12 @@ fn single(rt: HostRuntime) -> Result<(), Fail> {
         (long_west, &[0, 1], 0, 0),
         (long_west, &[0, 2], 346_528, 0),
     ];
-    for (question, counts, deals, place) in cases {
+    for (question, counts, deals, index) in cases {
         assert!(rt; question.is_valid());
         assert!(rt; are_sizes(&question, KING_AND_EIGHT));
         assert_eq!(rt; class_weight(&question, KING_AND_EIGHT, counts), deals);
-        let found = class_place(&question, KING_AND_EIGHT, counts);
-        assert_eq!(rt; found, if deals > 0 { Some(place) } else { None });
+        let found = class_index(&question, KING_AND_EIGHT, counts);
+        assert_eq!(rt; found, if deals > 0 { Some(index) } else { None });
     }
     Ok(())
 }

@@ -16,14 +16,17 @@ loop-class-preserved c =
     c.is.ensures ∙ ap (λ (owner : Owner). same_owner owner c.args.owner) c.owner.ensures in
     elim c.if-is.branch [
       | then-is w ↦
-          filled_next (held_by c.args.classes.now c.args.owner) c.loop-class.dealt c.loop-class.class c.if-is.dealt w.size.result
+          filled_next
+          (held_by c.args.classes.now c.args.owner) c.loop-class.dealt c.loop-class.class c.if-is.dealt w.size.result
           (omega (arith, c.count-class-end.ensures.most)) c.loop-class.invariant w.dealt-is
           (w.size.ensures.value ∙ ap (λ (b : Bool). if b then class_size c.args.classes.now c.loop-class.class else 0) (sym w.if-is.true ∙ told))
       | else-is w ↦
-          filled_kept (held_by c.args.classes.now c.args.owner) c.loop-class.dealt c.loop-class.class c.if-is.dealt c.loop-class.invariant w.dealt-is
+          filled_kept
+          (held_by c.args.classes.now c.args.owner) c.loop-class.dealt c.loop-class.class c.if-is.dealt c.loop-class.invariant w.dealt-is
           (ap (λ (b : Bool). if b then class_size c.args.classes.now c.loop-class.class else 0) (sym told ∙ w.if-is.false))
     ]
 
 pub returns : goal.returns
 returns c =
-    filled_dealt c.args.classes.now c.args.owner c.loop-class.dealt c.loop-class.class (omega (arith, c.count-class-end.ensures.value)) c.loop-class.invariant
+    filled_dealt c.args.classes.now c.args.owner c.loop-class.dealt c.loop-class.class
+    (omega (arith, c.count-class-end.ensures.value)) c.loop-class.invariant

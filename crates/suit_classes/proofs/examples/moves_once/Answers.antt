@@ -1,7 +1,8 @@
 use Rattle.std.proofs.Common.{refl}
 use Rattle.suit_cards.specs.Holdings.{suit}
-use Rattle.suit_game.specs.Examples.{plain, from_south, eleven_cards, ten_cards, tenace}
-use Rattle.suit_game.specs.Places.{without, legal_in, step_in}
+use Rattle.suit_game.specs.Examples.{from_south, eleven_cards, ten_cards, tenace}
+use Rattle.suit_game.specs.Positions.{without, legal_in, step_in}
+use Rattle.suit_game.specs.Question.{plain}
 use Rattle.suit_classes.specs.ClassGame.{each_once}
 use Rattle.suit_classes.specs.Classes.{class_below}
 use Rattle.suit_classes.proofs.examples.moves_once.Goals as goal

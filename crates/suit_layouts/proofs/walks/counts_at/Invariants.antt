@@ -2,4 +2,4 @@ use Rattle.suit_layouts.proofs.PlacedCounts.{CountedOff}
 use Rattle.suit_layouts.proofs.walks.counts_at.Given as goal
 
 abbrev pub invariant-loop-size : goal.invariant-loop-size
-invariant-loop-size l = CountedOff l.sizes l.counts.items l.size-index l.place l.left l.fn.place
+invariant-loop-size l = CountedOff l.sizes l.counts.items l.size-index l.index l.left l.fn.index

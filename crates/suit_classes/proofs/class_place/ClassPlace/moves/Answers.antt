@@ -6,7 +6,7 @@ use Rattle.suit_classes.proofs.AgreedPlaces.{class_game_agrees}
 use Rattle.suit_classes.proofs.class_place.ClassPlace.moves.Goals as goal
 
 pub returns-clause-cards : goal.returns-clause-cards
-returns-clause-cards c = λ question layout history play is counts.
-    c.moves_for.ensures ∙ ap (λ (view : ClassView). class_moves view c.args.west.now) is
+returns-clause-cards c = λ question west history stands counts.
+    c.moves_for.ensures ∙ ap (λ (view : ClassView). class_moves view c.args.counts.now) stands.place
     ∙ ap (class_moves (class_after question (merged (hands_of question) history))) counts
-    ∙ (class_game_agrees question layout history play).moves
+    ∙ (class_game_agrees question west history stands.play).moves

@@ -4,5 +4,5 @@ use Rattle.suit_classes.proofs.AgreedPlaces.{class_game_agrees}
 use Rattle.suit_classes.proofs.class_place.ClassPlace.payoff.Goals as goal
 
 pub returns-clause-cards : goal.returns-clause-cards
-returns-clause-cards c = λ question west history play is.
-    c.worth.ensures ∙ ap class_payoff is ∙ (class_game_agrees question west history play).payoff
+returns-clause-cards c = λ question west history stands.
+    c.worth.ensures ∙ ap class_payoff stands.place ∙ (class_game_agrees question west history stands.play).payoff

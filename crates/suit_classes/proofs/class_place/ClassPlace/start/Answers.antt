@@ -6,4 +6,6 @@ pub invariant_of-result : goal.invariant_of-result
 invariant_of-result c = rw (c.dealt_to.ensures, c.dealt_to-2.ensures) (apart_dealt c.args.classes.now)
 
 pub returns : goal.returns
-returns c = rw (c.dealt_to.ensures, c.dealt_to-2.ensures, c.dealt_to-3.ensures, c.len.ensures.value, c.len-2.ensures.value, c.requires, ← none_played_is) refl
+returns c =
+    rw
+    (c.dealt_to.ensures, c.dealt_to-2.ensures, c.dealt_to-3.ensures, c.len.ensures.value, c.len-2.ensures.value, c.requires, ← none_played_is) refl

@@ -5,5 +5,6 @@ use Rattle.suit_classes.proofs.class_place.ClassPlace.step.Goals as goal
 
 pub returns : goal.returns
 returns c = λ question history short is.
-    c.stepped.ensures (subst IsSmall (sym is) (small_after question history short))
-    ∙ ap (λ (view : ClassView). class_step view c.args.mv) is ∙ sym (class_after_move question history c.args.mv)
+    let here = c.self.view_is ∙ is in
+    c.step.ensures.value (subst IsSmall (sym here) (small_after question history short))
+    ∙ ap (λ (view : ClassView). class_step view c.args.mv) here ∙ sym (class_after_move question history c.args.mv)

@@ -4,5 +4,5 @@ use Rattle.suit_classes.proofs.AgreedPlaces.{class_game_agrees}
 use Rattle.suit_classes.proofs.class_place.ClassPlace.turn.Goals as goal
 
 pub returns-clause-cards : goal.returns-clause-cards
-returns-clause-cards c = λ question west history play is.
-    c.turn_now.ensures.value ∙ ap class_turn is ∙ (class_game_agrees question west history play).turn
+returns-clause-cards c = λ question west history stands.
+    c.turn_now.ensures.value ∙ ap class_turn stands.place ∙ (class_game_agrees question west history stands.play).turn

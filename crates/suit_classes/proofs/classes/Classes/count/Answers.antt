@@ -11,7 +11,8 @@ overflow_add-result c =
     )
 
 pub returns-clause-value : goal.returns-clause-value
-returns-clause-value c = omega (arith, number_read c.self.inside.numbers _ c.args.self.now 12 c.self.invariant c.self.view_is (omega arith))
+returns-clause-value c =
+    omega (arith, number_read c.self.inside.numbers _ c.args.self.now 12 c.self.invariant c.self.view_is (omega arith))
 
 pub returns-clause-most : goal.returns-clause-most
 returns-clause-most c =

@@ -8,31 +8,36 @@ use Rattle.suit_classes.proofs.classes.Classes.of.Goals as goal
 use Rattle.suit_classes.proofs.classes.Classes.of.Goals.{then-starts_class, else-starts_class}
 
 pub overflow_add-class : goal.overflow_add-class
-overflow_add-class c = omega (arith, c.loop-place.invariant.class, class_below-most (hands_of c.args.question.now) (c.loop-place.place - 1))
+overflow_add-class c =
+    omega
+    (arith, c.loop-index.invariant.class, class_below-most (hands_of c.args.question.now) (c.loop-index.index - 1))
 
-pub loop-place-init : goal.loop-place-init
-loop-place-init c = record {
+pub loop-index-init : goal.loop-index-init
+loop-index-init c = record {
   long = refl;
-  numbered = λ k low. let first : k ≡ 0 = omega arith in rw first (sym (class_below-ace (hands_of c.args.question.now)));
+  numbered =
+      λ k low. let first : k ≡ 0 = omega arith in rw first (sym (class_below-ace (hands_of c.args.question.now)));
   class = sym (class_below-ace (hands_of c.args.question.now));
 }
 
-pub loop-place-preserved : goal.loop-place-preserved
-loop-place-preserved c =
-    let chosen : c.if-starts_class.class ≡ (if c.starts_class.result then c.loop-place.class + 1 else c.loop-place.class) =
+pub loop-index-preserved : goal.loop-index-preserved
+loop-index-preserved c =
+    let chosen : c.if-starts_class.class ≡ (if c.starts_class.result then c.loop-index.class + 1 else c.loop-index.class) =
     elim c.if-starts_class.branch [ then-starts_class w ↦ rw w.if-starts_class.true w.class-is | else-starts_class w ↦ rw w.if-starts_class.false w.class-is ] in
-    let here : c.if-starts_class.class ≡ class_below (hands_of c.args.question.now) c.loop-place.place =
-    class_below-later (hands_of c.args.question.now) (c.loop-place.place - 1) c.loop-place.place c.loop-place.class c.if-starts_class.class c.starts_class.result
-    (omega arith) c.loop-place.invariant.class (c.starts_class.ensures (hands_of c.args.question.now) (c.loop-place.place - 1) refl refl (omega arith)) chosen in
+    let here : c.if-starts_class.class ≡ class_below (hands_of c.args.question.now) c.loop-index.index =
+    class_below-later (hands_of c.args.question.now)
+    (c.loop-index.index - 1) c.loop-index.index c.loop-index.class c.if-starts_class.class c.starts_class.result
+    (omega arith) c.loop-index.invariant.class
+    (c.starts_class.ensures (hands_of c.args.question.now) (c.loop-index.index - 1) refl refl (omega arith)) chosen in
     record {
-      long = length-set c.loop-place.numbers c.loop-place.place c.if-starts_class.class ∙ c.loop-place.invariant.long;
+      long = length-set c.loop-index.numbers c.loop-index.index c.if-starts_class.class ∙ c.loop-index.invariant.long;
       numbered = λ k low. rw here
-          (fill_by_more (class_below (hands_of c.args.question.now)) c.loop-place.numbers c.loop-place.place 0 (omega (arith, c.loop-place.invariant.long))
-          c.loop-place.invariant.numbered k low);
+          (fill_by_more (class_below (hands_of c.args.question.now)) c.loop-index.numbers c.loop-index.index 0 (omega (arith, c.loop-index.invariant.long))
+          c.loop-index.invariant.numbered k low);
       class = here ∙ ap (class_below (hands_of c.args.question.now)) (omega arith);
     }
 
 pub invariant_of-result : goal.invariant_of-result
 invariant_of-result c =
-    numbers_of-filled (hands_of c.args.question.now) c.loop-place.numbers c.loop-place.invariant.long
-    (λ place small. c.loop-place.invariant.numbered place (omega arith))
+    numbers_of-filled (hands_of c.args.question.now) c.loop-index.numbers c.loop-index.invariant.long
+    (λ place small. c.loop-index.invariant.numbered place (omega arith))

@@ -12,4 +12,5 @@ returns-clause-value c =
     ∙ ap (λ (hands : Hands). class_size hands c.args.class) c.self.view_is
 
 pub returns-clause-some : goal.returns-clause-some
-returns-clause-some c = subst (λ (n : ℕ). 0 < n) (sym (returns-clause-value c)) (class_size-some c.args.self.now c.args.class c.requires)
+returns-clause-some c =
+    subst (λ (n : ℕ). 0 < n) (sym (returns-clause-value c)) (class_size-some c.args.self.now c.args.class c.requires)

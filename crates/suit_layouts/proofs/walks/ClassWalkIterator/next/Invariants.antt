@@ -4,9 +4,9 @@ use Rattle.suit_layouts.proofs.walks.ClassWalkIterator.next.Given as goal
 
 abbrev pub invariant-loop-self : goal.invariant-loop-self
 invariant-loop-self l = record {
-  walk : IsWalk l.self-inside.question.now l.self-inside.sizes.now l.self-inside.place l.self-inside.all;
-  left : weighed_from l.self-inside.question.now l.self-inside.sizes.now l.self-inside.place ≡ l.fn.self;
+  walk : IsWalk l.self-inside.question.now l.self-inside.sizes.now l.self-inside.index l.self-inside.all;
+  left : weighed_from l.self-inside.question.now l.self-inside.sizes.now l.self-inside.index ≡ l.fn.self;
 }
 
 abbrev pub decreases-loop-self : goal.decreases-loop-self
-decreases-loop-self l = l.self-inside.all - l.self-inside.place
+decreases-loop-self l = l.self-inside.all - l.self-inside.index

@@ -1,0 +1,5 @@
+use Rattle.suit_classes.proofs.AllowedLayouts.{counts_alike}
+use Rattle.suit_classes.proofs.laws.counts_alike.Goals as goal
+
+pub returns : goal.returns
+returns c = counts_alike
