@@ -7,7 +7,7 @@ use Rattle.suit_classes.specs.declared.class_moves.ClassMove.{ClassMove}
 use Rattle.suit_classes.specs.contracts.class_moves.ClassMovePartialEq.TheImpl as equal
 use Rattle.suit_classes.specs.ClassMoves.{same_class_move}
 use Rattle.suit_classes.proofs.DerivedOrders.{eq_same}
-use Rattle.suit_plans.specs.Orders.{is_earlier, same_history}
+use Rattle.suit_plans.specs.Orders.{is_earlier, same_class_history}
 
 -- by how the first elements stand
 step_earlier : (before alike rest : Bool) (later : Option Ordering) → is_some_and is_lt later ≡ rest
@@ -30,11 +30,11 @@ cmp_earlier {X} compare before alike tells (first ∷ rest) (other ∷ others) =
     (cmp_earlier compare before alike tells rest others)
 
 -- the equality of the library tells which histories are the same
-pub eq_same_history : (here there : List ClassMove) → pointwise equal.ghosts.eq here there ≡ same_history here there
-unfolding same_history
-eq_same_history [] [] = refl
-eq_same_history [] (other ∷ others) = refl
-eq_same_history (move ∷ moves) [] = refl
-eq_same_history (move ∷ moves) (other ∷ others) =
+pub eq_same_class_history : (here there : List ClassMove) → pointwise equal.ghosts.eq here there ≡ same_class_history here there
+unfolding same_class_history
+eq_same_class_history [] [] = refl
+eq_same_class_history [] (other ∷ others) = refl
+eq_same_class_history (move ∷ moves) [] = refl
+eq_same_class_history (move ∷ moves) (other ∷ others) =
     ap (λ (b : Bool). b && pointwise equal.ghosts.eq moves others) (eq_same move other)
-    ∙ ap (λ (b : Bool). same_class_move move other && b) (eq_same_history moves others)
+    ∙ ap (λ (b : Bool). same_class_move move other && b) (eq_same_class_history moves others)

@@ -11,8 +11,8 @@ use Rattle.suit_classes.specs.ClassPlaces.{class_after, class_moves, class_start
 use Rattle.suit_plans.specs.declared.faults.PlanFault.{PlanFault}
 use Rattle.suit_plans.specs.declared.faults.PlanKind.{PlanKind}
 use Rattle.suit_plans.specs.declared.faults.PlanKind.TheVariants.{History, Order, Illegal, Negative, Sum}
-use Rattle.suit_plans.specs.Masses.{Side, mass_of}
-use Rattle.suit_plans.specs.Properness.{after_den, are_rising, at_row, first_fault, moves_of, row_fault, goes_undecided, total}
+use Rattle.suit_plans.specs.Masses.{Shares, Side, mass_of}
+use Rattle.suit_plans.specs.Properness.{after_den, are_rising, at_row, first_fault, moves_of, row_fault, goes_undecided, sum_of}
 
 err_is_not : (verdict : Result ⊤ PlanFault) (fault : PlanFault) → verdict ≡ Err fault → verdict ≡ Ok tt → ⊥
 err_is_not verdict fault same fine = absurd (cc)
@@ -55,7 +55,7 @@ pub after_den-parts : (den : ℤ) (rows : Result ⊤ PlanFault) → after_den de
 after_den-parts den rows fine = den_parts (int_le (pos 1) den) (int_le den (pos (2 ^ 90))) rows _ fine
 
 -- a row that is not at fault shares out the mass of its history among legal moves
-pub record FitsTurn (question : Question) (side : Side) (history : List ClassMove) (counts : List (ClassMove × ℤ)) (may_have stands : Bool) : Type 0 where
+pub record FitsTurn (question : Question) (side : Side) (history : List ClassMove) (shares : Shares) (may_have stands : Bool) : Type 0 where
   -- the history may have a row, stays undecided, and it is the side's turn there
   pub allowed : may_have ≡ true
   pub undecided : goes_undecided (class_start question) history ≡ true
@@ -63,10 +63,10 @@ pub record FitsTurn (question : Question) (side : Side) (history : List ClassMov
   -- the row stands after the one before it
   pub ordered : stands ≡ true
   -- its moves are legal and rise, no count is negative, and the counts add up to the mass
-  pub legal : list_all (is_among (class_moves (class_after question history) side.west)) (moves_of counts) ≡ true
-  pub rising : are_rising (moves_of counts) ≡ true
-  pub positive : list_all (λ (count : ClassMove × ℤ). int_le (pos 0) count.1) counts ≡ true
-  pub adds : total (map (λ (count : ClassMove × ℤ). count.1) counts) ≡ mass_of question side history
+  pub legal : list_all (is_among (class_moves (class_after question history) side.counts)) (moves_of shares) ≡ true
+  pub rising : are_rising (moves_of shares) ≡ true
+  pub positive : list_all (λ (count : ClassMove × ℤ). int_le (pos 0) count.1) shares ≡ true
+  pub adds : sum_of (map (λ (count : ClassMove × ℤ). count.1) shares) ≡ mass_of question side history
 
 tests_passed : (legal rising positive adds allowed undecided plays ordered : Bool)
     → (if not (allowed && (undecided && plays)) then Some History
@@ -87,14 +87,14 @@ tests_passed true true true false true true true true none = absurd (some_is_not
 tests_passed true true true true true true true true none = (refl, refl, refl, refl, refl, refl, refl, refl)
 
 -- what is known of a row that is not at fault
-pub FitsTurn-from : (question : Question) (side : Side) (history : List ClassMove) (counts : List (ClassMove × ℤ)) (may_have stands : Bool)
-    → row_fault question side history counts may_have stands ≡ None → FitsTurn question side history counts may_have stands
-FitsTurn-from question side history counts may_have stands none =
-    let legal : Bool = list_all (is_among (class_moves (class_after question history) side.west)) (moves_of counts) in
-    let positive : Bool = list_all (λ (count : ClassMove × ℤ). int_le (pos 0) count.1) counts in
+pub FitsTurn-from : (question : Question) (side : Side) (history : List ClassMove) (shares : Shares) (may_have stands : Bool)
+    → row_fault question side history shares may_have stands ≡ None → FitsTurn question side history shares may_have stands
+FitsTurn-from question side history shares may_have stands none =
+    let legal : Bool = list_all (is_among (class_moves (class_after question history) side.counts)) (moves_of shares) in
+    let positive : Bool = list_all (λ (count : ClassMove × ℤ). int_le (pos 0) count.1) shares in
     let mass : ℤ = mass_of question side history in
-    let sum : ℤ = total (map (λ (count : ClassMove × ℤ). count.1) counts) in
-    let parts = tests_passed legal (are_rising (moves_of counts)) positive (int_eq sum mass) may_have (goes_undecided (class_start question) history) (side.plays (class_turn (class_after question history))) stands none in
+    let sum : ℤ = sum_of (map (λ (count : ClassMove × ℤ). count.1) shares) in
+    let parts = tests_passed legal (are_rising (moves_of shares)) positive (int_eq sum mass) may_have (goes_undecided (class_start question) history) (side.plays (class_turn (class_after question history))) stands none in
     record {
       allowed = parts.0;
       undecided = parts.1;

@@ -3,9 +3,10 @@ use Rattle.std.proofs.Common.{◌≡◌, ℕ, Bool, true, false, ◌&&◌, ◌||
 use Rattle.std.specs.Prelude.{nat_lt, ◌==◌}
 use Rattle.std.proofs.lemmas.Bool.{and_from, and_parts, and_right, eq-eqb, eqb-true, false≢true, le-ltb, lt-ltb, ltb-true, or_cases, or_from, or_left, or_right}
 use Rattle.suit_classes.specs.declared.class_moves.ClassMove.{ClassMove}
-use Rattle.suit_classes.specs.ClassMoves.{class_named, kind_of, same_class_move, stands_before}
+use Rattle.suit_classes.specs.ClassMoves.{same_class_move}
+use Rattle.suit_classes.specs.MoveOrder.{class_named, kind_of, stands_before}
 use Rattle.suit_classes.proofs.SameMoves.{same_move-itself, same_move_is}
-use Rattle.suit_plans.specs.Orders.{is_earlier, same_history}
+use Rattle.suit_plans.specs.Orders.{is_earlier, same_class_history}
 
 -- a test tells a strict order, and another which elements are alike
 pub record IsStrict {X : Type 0} (before alike : X → X → Bool) : Type 0 where
@@ -100,17 +101,17 @@ IsStrict-moves = record {
 }
 
 -- a history is the same as itself
-pub same_history-itself : (history : List ClassMove) → same_history history history ≡ true
-unfolding same_history
-same_history-itself [] = refl
-same_history-itself (move ∷ moves) = and_from (same_class_move move move) (same_history moves moves) (same_move-itself move) (same_history-itself moves)
+pub same_class_history-itself : (history : List ClassMove) → same_class_history history history ≡ true
+unfolding same_class_history
+same_class_history-itself [] = refl
+same_class_history-itself (move ∷ moves) = and_from (same_class_move move move) (same_class_history moves moves) (same_move-itself move) (same_class_history-itself moves)
 
 -- and only as itself
-pub same_history_is : (history other : List ClassMove) → same_history history other ≡ true → history ≡ other
-unfolding same_history
-same_history_is [] [] same = refl
-same_history_is [] (other ∷ others) same = absurd (false≢true same)
-same_history_is (move ∷ moves) [] same = absurd (false≢true same)
-same_history_is (move ∷ moves) (other ∷ others) same =
-    let parts = and_parts (same_class_move move other) (same_history moves others) same in
-    ap (λ (m : ClassMove). m ∷ moves) (same_move_is move other parts.0) ∙ ap (λ (l : List ClassMove). other ∷ l) (same_history_is moves others parts.1)
+pub same_class_history_is : (history other : List ClassMove) → same_class_history history other ≡ true → history ≡ other
+unfolding same_class_history
+same_class_history_is [] [] same = refl
+same_class_history_is [] (other ∷ others) same = absurd (false≢true same)
+same_class_history_is (move ∷ moves) [] same = absurd (false≢true same)
+same_class_history_is (move ∷ moves) (other ∷ others) same =
+    let parts = and_parts (same_class_move move other) (same_class_history moves others) same in
+    ap (λ (m : ClassMove). m ∷ moves) (same_move_is move other parts.0) ∙ ap (λ (l : List ClassMove). other ∷ l) (same_class_history_is moves others parts.1)

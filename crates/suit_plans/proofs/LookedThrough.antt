@@ -3,7 +3,7 @@ use Rattle.std.proofs.Common.{◌≡◌, ℕ, ◌+◌, ◌-◌, ◌<◌, ◌≤�
 use Rattle.std.specs.List.{list_all}
 use Rattle.std.proofs.lemmas.List.{at_drop_more, drop_all, drop_more}
 use Rattle.suit_classes.specs.declared.class_moves.ClassMove.{ClassMove}
-use Rattle.suit_classes.specs.ClassMoves.{stands_before}
+use Rattle.suit_classes.specs.MoveOrder.{stands_before}
 use Rattle.suit_plans.specs.Properness.{are_rising}
 
 -- all pass from a place on where the one there does and all after it do

@@ -1,7 +1,7 @@
 -- The rows of a proper plan and of a proper defence stand in order.
 use Rattle.suit_game.specs.declared.question.Question.{Question}
-use Rattle.suit_plans.specs.declared.rows.Plan.{Plan}
-use Rattle.suit_plans.specs.declared.defence_rows.Defence.{Defence}
+use Rattle.suit_plans.specs.declared.plan.Plan.{Plan}
+use Rattle.suit_plans.specs.declared.defence.Defence.{Defence}
 use Rattle.suit_plans.specs.Orders.{InOrder, defence_row_before, plan_row_before}
 use Rattle.suit_plans.specs.Properness.{IsProperDefence, IsProperPlan, defence_row_fault, plan_row_fault}
 use Rattle.suit_plans.proofs.ProperDefences as defences

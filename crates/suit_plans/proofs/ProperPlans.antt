@@ -4,16 +4,17 @@ use Rattle.std.specs.Prelude.{ℤ, pos, ◌^◌, ◌≤ℤ◌, find, option_map,
 use Rattle.std.proofs.lemmas.Int.{ints}
 use Rattle.suit_game.specs.declared.question.Question.{Question}
 use Rattle.suit_classes.specs.declared.class_moves.ClassMove.{ClassMove}
-use Rattle.suit_classes.specs.ClassMoves.{same_class_move, stands_before}
+use Rattle.suit_classes.specs.ClassMoves.{same_class_move}
+use Rattle.suit_classes.specs.MoveOrder.{stands_before}
 use Rattle.suit_classes.specs.ClassPlaces.{class_after}
-use Rattle.suit_plans.specs.declared.rows.Row.{Row}
-use Rattle.suit_plans.specs.declared.rows.Plan.{Plan}
-use Rattle.suit_plans.specs.Masses.{declarer, mass_of, plan_counts_at}
-use Rattle.suit_plans.specs.Orders.{history_before, plan_row_before, same_history}
+use Rattle.suit_plans.specs.declared.plan.Row.{Row}
+use Rattle.suit_plans.specs.declared.plan.Plan.{Plan}
+use Rattle.suit_plans.specs.Masses.{Shares, declarer, mass_of, plan_shares_at}
+use Rattle.suit_plans.specs.Orders.{history_before, plan_row_before, same_class_history}
 use Rattle.suit_plans.specs.PlanLaws.{PlansAreRealised}
 use Rattle.suit_plans.specs.Properness.{IsProperPlan, first_fault, last_passes, plan_row_fault, plan_verdict, some_allows}
 use Rattle.suit_plans.proofs.FirstFaults.{FitsTurn, FitsTurn-from, IsFaultless, IsFaultless-from, after_den-parts, faultless_at}
-use Rattle.suit_plans.proofs.HistoryOrder.{IsStrict-moves, earlier-start, same_history_is}
+use Rattle.suit_plans.proofs.HistoryOrder.{IsStrict-moves, earlier-start, same_class_history_is}
 use Rattle.suit_plans.proofs.MassSteps.{mass_of_same}
 use Rattle.suit_plans.proofs.RealisedSides.{IsSound, SharesMass, sound_realised}
 use Rattle.suit_plans.proofs.RowOrder.{FoundRow, FoundRow-from, IsRowOrder-histories, find_before}
@@ -39,21 +40,21 @@ told_order question den rows next none =
 
 -- at each beginning of a row's history the rows before it have what all have
 counts_before_row : (question : Question) (den : ℤ) (start : List Row) (row : Row) (rest : List Row) → IsFaultless (plan_row_fault question den) [] (start ++ row ∷ rest)
-    → (begun : List ClassMove) (move : ClassMove) (more : List ClassMove) → row.history ≡ begun ++ move ∷ more → plan_counts_at (start ++ row ∷ rest) begun ≡ plan_counts_at start begun
-unfolding plan_counts_at
+    → (begun : List ClassMove) (move : ClassMove) (more : List ClassMove) → row.history ≡ begun ++ move ∷ more → plan_shares_at (start ++ row ∷ rest) begun ≡ plan_shares_at start begun
+unfolding plan_shares_at
 counts_before_row question den start row rest fine begun move more is =
     ap (option_map (λ (other : Row). other.counts))
-    (find_before plan_row_before (plan_row_fault question den) (λ (other : Row). same_history other.history begun) start row rest IsRowOrder-histories
+    (find_before plan_row_before (plan_row_fault question den) (λ (other : Row). same_class_history other.history begun) start row rest IsRowOrder-histories
     (told_order question den) fine
     (λ other same. subst (λ (h : List ClassMove). history_before other.history h ≡ true) (sym is)
-    (subst (λ (h : List ClassMove). history_before h (begun ++ move ∷ more) ≡ true) (sym (same_history_is other.history begun same))
+    (subst (λ (h : List ClassMove). history_before h (begun ++ move ∷ more) ≡ true) (sym (same_class_history_is other.history begun same))
     (earlier-start stands_before same_class_move begun move more IsStrict-moves))))
 
 -- the mass of a row's history is the same over the rows before it as over all
 pub row_mass : (question : Question) (den : ℤ) (start : List Row) (row : Row) (rest : List Row) → IsFaultless (plan_row_fault question den) [] (start ++ row ∷ rest)
     → mass_of question (declarer den (start ++ row ∷ rest)) row.history ≡ mass_of question (declarer den start) row.history
 row_mass question den start row rest fine =
-    mass_of_same question (declarer den (start ++ row ∷ rest)) (plan_counts_at start) row.history (counts_before_row question den start row rest fine)
+    mass_of_same question (declarer den (start ++ row ∷ rest)) (plan_shares_at start) row.history (counts_before_row question den start row rest fine)
 
 -- each row of a proper plan fits its turn, also over all rows
 pub plan_row_fits : (question : Question) (den : ℤ) (start : List Row) (row : Row) (rest : List Row) → IsFaultless (plan_row_fault question den) [] (start ++ row ∷ rest)
@@ -76,24 +77,24 @@ pub option_map-from : {X Y : Type 0} (f : X → Y) (some : Option X) (y : Y) →
 option_map-from f None y is = absurd (cc)
 option_map-from f (Some x) y is = (x, refl, cc)
 
-shares_at : (question : Question) (den : ℤ) (rows : List Row) (history : List ClassMove) (row : Row) → IsFaultless (plan_row_fault question den) [] rows
-    → FoundRow (λ (other : Row). same_history other.history history) rows row → SharesMass question (declarer den rows) row.history row.counts
-shares_at question den rows history row fine found =
+row_shares_at : (question : Question) (den : ℤ) (rows : List Row) (history : List ClassMove) (row : Row) → IsFaultless (plan_row_fault question den) [] rows
+    → FoundRow (λ (other : Row). same_class_history other.history history) rows row → SharesMass question (declarer den rows) row.history row.counts
+row_shares_at question den rows history row fine found =
     let fits = plan_row_fits question den found.start row found.rest (subst (IsFaultless (plan_row_fault question den) []) found.parts fine) in
     subst (λ (l : List Row). SharesMass question (declarer den l) row.history row.counts) (sym found.parts)
     (record { legal = fits.legal; rising = fits.rising; positive = fits.positive; adds = fits.adds })
 
 -- the counts of a proper plan at a history share out its mass
-pub plan_shares : (question : Question) (plan : Plan) (history : List ClassMove) (counts : List (ClassMove × ℤ)) → IsProperPlan question plan → plan_counts_at plan.rows history ≡ Some counts
-    → SharesMass question (declarer plan.den plan.rows) history counts
-unfolding plan_counts_at
-plan_shares question plan history counts proper is =
-    let some = option_map-from (λ (row : Row). row.counts) (find (λ (row : Row). same_history row.history history) plan.rows) counts is in
-    let found = FoundRow-from (λ (row : Row). same_history row.history history) plan.rows some.0 some.1 in
-    let here : some.0.history ≡ history = same_history_is some.0.history history found.found in
+pub plan_shares : (question : Question) (plan : Plan) (history : List ClassMove) (shares : Shares) → IsProperPlan question plan → plan_shares_at plan.rows history ≡ Some shares
+    → SharesMass question (declarer plan.den plan.rows) history shares
+unfolding plan_shares_at
+plan_shares question plan history shares proper is =
+    let some = option_map-from (λ (row : Row). row.counts) (find (λ (row : Row). same_class_history row.history history) plan.rows) shares is in
+    let found = FoundRow-from (λ (row : Row). same_class_history row.history history) plan.rows some.0 some.1 in
+    let here : some.0.history ≡ history = same_class_history_is some.0.history history found.found in
     subst (SharesMass question (declarer plan.den plan.rows) history) some.2
     (subst (λ (h : List ClassMove). SharesMass question (declarer plan.den plan.rows) h some.0.counts) here
-    (shares_at question plan.den plan.rows history some.0 (proper_plan question plan proper).2 found))
+    (row_shares_at question plan.den plan.rows history some.0 (proper_plan question plan proper).2 found))
 
 -- declarer with the rows of a proper plan is a sound side
 pub plan_sound : (question : Question) (plan : Plan) → IsProperPlan question plan → IsSound question (declarer plan.den plan.rows)
@@ -102,10 +103,10 @@ plan_sound question plan proper =
     record {
       begins = omega (arith, ints, least);
       decided = refl;
-      rows = λ history counts is. plan_shares question plan history counts proper is;
+      rows = λ history shares is. plan_shares question plan history shares proper is;
     }
 
 -- so a proper plan is a realisation plan, whatever West's counts
 pub plans_are_realised : PlansAreRealised
-plans_are_realised question plan west valid proper =
-    sound_realised question (declarer plan.den plan.rows) west (plan_sound question plan proper) (λ history plays. declarers_moves (class_after question history) [] west plays)
+plans_are_realised question plan counts valid proper =
+    sound_realised question (declarer plan.den plan.rows) counts (plan_sound question plan proper) (λ history plays. declarers_moves (class_after question history) [] counts plays)

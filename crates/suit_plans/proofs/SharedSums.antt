@@ -7,11 +7,12 @@ use Rattle.std.proofs.lemmas.Int.{ints}
 use Rattle.suit_game.proofs.EachElement.{Contains-cons_cases, Contains-first, Contains-later, Contains-nil, each_at, each_gives, map_same}
 use Rattle.suit_classes.specs.declared.class_moves.ClassMove.{ClassMove}
 use Rattle.suit_classes.specs.AllowedHistories.{is_among}
-use Rattle.suit_classes.specs.ClassMoves.{same_class_move, stands_before}
+use Rattle.suit_classes.specs.ClassMoves.{same_class_move}
+use Rattle.suit_classes.specs.MoveOrder.{stands_before}
 use Rattle.suit_classes.proofs.DistinctMoves.{IsOnce}
 use Rattle.suit_classes.proofs.SameMoves.{among-Contains, same_move-itself, same_move_is}
-use Rattle.suit_plans.specs.Masses.{count_of, is_first, share}
-use Rattle.suit_plans.specs.Properness.{are_rising, moves_of, total}
+use Rattle.suit_plans.specs.Masses.{Shares, count_of, is_first, share}
+use Rattle.suit_plans.specs.Properness.{are_rising, moves_of, sum_of}
 use Rattle.suit_plans.proofs.HistoryOrder.{IsStrict-moves}
 
 -- the test of the order tells it
@@ -34,18 +35,18 @@ rising_parts move (next ∷ moves) rising =
     )
 
 -- a move that stands before all that are named has no count
-count_none : (move : ClassMove) (counts : List (ClassMove × ℤ)) → AllByRecursion (λ later. stands_before move later ≡ true) (moves_of counts) → count_of counts move ≡ pos 0
+count_none : (move : ClassMove) (shares : Shares) → AllByRecursion (λ later. stands_before move later ≡ true) (moves_of shares) → count_of shares move ≡ pos 0
 unfolding count_of
 count_none move [] after = refl
-count_none move (count ∷ counts) after =
+count_none move (count ∷ shares) after =
     let other : same_class_move count.0 move ≡ false = false_from_ne_true (same_class_move count.0 move)
     (λ same. false≢true (sym (IsStrict-moves.never move) ∙ subst (λ (m : ClassMove). stands_before move m ≡ true) (same_move_is count.0 move same) after.0)) in
-    cond-false (same_class_move count.0 move) count.1 (count_of counts move) other ∙ count_none move counts after.1
+    cond-false (same_class_move count.0 move) count.1 (count_of shares move) other ∙ count_none move shares after.1
 
-total_none : (moves : List ClassMove) → total (map (λ (move : ClassMove). pos 0) moves) ≡ pos 0
-unfolding total
-total_none [] = refl
-total_none (move ∷ moves) = let rest = total_none moves in omega (arith, ints, rest)
+sum_none : (moves : List ClassMove) → sum_of (map (λ (move : ClassMove). pos 0) moves) ≡ pos 0
+unfolding sum_of
+sum_none [] = refl
+sum_none (move ∷ moves) = let rest = sum_none moves in omega (arith, ints, rest)
 
 -- a move that is none of some is the same as none of them
 apart_from : (move : ClassMove) (moves : List ClassMove) (other : ClassMove) → AllByRecursion (λ later. move ≡ later → ⊥) moves → Contains moves other → same_class_move move other ≡ false
@@ -56,46 +57,46 @@ abbrev with_one : ℤ → ClassMove → (ClassMove → ℤ) → ClassMove → �
 with_one number move f other = if same_class_move move other then number else f other
 
 -- the number of one move more adds to the sum, where its number was 0
-total_one : (number : ℤ) (move : ClassMove) (f : ClassMove → ℤ) (moves : List ClassMove) → IsOnce moves → Contains moves move → f move ≡ pos 0
-    → total (map (with_one number move f) moves) ≡ number +ℤ total (map f moves)
-unfolding total IsOnce
-total_one number move f [] once found none = absurd (Contains-nil move found)
-total_one number move f (first ∷ moves) once found none = elim (Contains-cons_cases first moves move found) [
+sum_one : (number : ℤ) (move : ClassMove) (f : ClassMove → ℤ) (moves : List ClassMove) → IsOnce moves → Contains moves move → f move ≡ pos 0
+    → sum_of (map (with_one number move f) moves) ≡ number +ℤ sum_of (map f moves)
+unfolding sum_of IsOnce
+sum_one number move f [] once found none = absurd (Contains-nil move found)
+sum_one number move f (first ∷ moves) once found none = elim (Contains-cons_cases first moves move found) [
   | inl here ↦
       let head : with_one number move f first ≡ number = cond-true (same_class_move move first) number (f first) (subst (λ (m : ClassMove). same_class_move m first ≡ true) here (same_move-itself first)) in
       let same : map (with_one number move f) moves ≡ map f moves = map_same (with_one number move f) f moves
       (λ other later. cond-false (same_class_move move other) number (f other) (apart_from move moves other (subst (λ (m : ClassMove). AllByRecursion (λ y. m ≡ y → ⊥) moves) here once.0) later)) in
       let zero : f first ≡ pos 0 = ap f here ∙ none in
-      let tail : total (map (with_one number move f) moves) ≡ total (map f moves) = ap total same in
+      let tail : sum_of (map (with_one number move f) moves) ≡ sum_of (map f moves) = ap sum_of same in
       omega (arith, ints, head, zero, tail)
   | inr there ↦
       let apart : same_class_move move first ≡ false = false_from_ne_true (same_class_move move first)
       (λ same. each_at (λ later. first ≡ later → ⊥) moves move once.0 there (sym (same_move_is move first same))) in
       let head : with_one number move f first ≡ f first = cond-false (same_class_move move first) number (f first) apart in
-      let tail = total_one number move f moves once.1 there none in
+      let tail = sum_one number move f moves once.1 there none in
       omega (arith, ints, head, tail)
 ]
 
 -- the counts of legal moves that rise add up alike over all legal moves, of which none comes twice
-pub total_counts : (counts : List (ClassMove × ℤ)) (legal : List ClassMove) → IsOnce legal → list_all (is_among legal) (moves_of counts) ≡ true → are_rising (moves_of counts) ≡ true
-    → total (map (count_of counts) legal) ≡ total (map (λ (count : ClassMove × ℤ). count.1) counts)
-unfolding total count_of
-total_counts [] legal once among rising = total_none legal
-total_counts (count ∷ counts) legal once among rising =
-    let parts = and_parts (is_among legal count.0) (list_all (is_among legal) (moves_of counts)) among in
-    let rises = rising_parts count.0 (moves_of counts) rising in
-    total_one count.1 count.0 (count_of counts) legal once (among-Contains legal count.0 parts.0) (count_none count.0 counts rises.0)
-    ∙ ap (λ (z : ℤ). count.1 +ℤ z) (total_counts counts legal once parts.1 rises.1)
+pub sum_counts : (shares : Shares) (legal : List ClassMove) → IsOnce legal → list_all (is_among legal) (moves_of shares) ≡ true → are_rising (moves_of shares) ≡ true
+    → sum_of (map (count_of shares) legal) ≡ sum_of (map (λ (count : ClassMove × ℤ). count.1) shares)
+unfolding sum_of count_of
+sum_counts [] legal once among rising = sum_none legal
+sum_counts (count ∷ shares) legal once among rising =
+    let parts = and_parts (is_among legal count.0) (list_all (is_among legal) (moves_of shares)) among in
+    let rises = rising_parts count.0 (moves_of shares) rising in
+    sum_one count.1 count.0 (count_of shares) legal once (among-Contains legal count.0 parts.0) (count_none count.0 shares rises.0)
+    ∙ ap (λ (z : ℤ). count.1 +ℤ z) (sum_counts shares legal once parts.1 rises.1)
 
 -- without a row the first move gets all
-pub total_first : (mass : ℤ) (first : ClassMove) (moves : List ClassMove) → IsOnce (first ∷ moves) → total (map (λ move. share None (is_first (first ∷ moves) move) mass move) (first ∷ moves)) ≡ mass
-unfolding total IsOnce
-total_first mass first moves once =
+pub sum_first : (mass : ℤ) (first : ClassMove) (moves : List ClassMove) → IsOnce (first ∷ moves) → sum_of (map (λ move. share None (is_first (first ∷ moves) move) mass move) (first ∷ moves)) ≡ mass
+unfolding sum_of IsOnce
+sum_first mass first moves once =
     let head : share None (same_class_move first first) mass first ≡ mass = ap (λ (b : Bool). share None b mass first) (same_move-itself first) in
     let same : map (λ move. share None (same_class_move first move) mass move) moves ≡ map (λ move. pos 0) moves =
     map_same (λ move. share None (same_class_move first move) mass move) (λ move. pos 0) moves
     (λ move later. ap (λ (b : Bool). share None b mass move) (apart_from first moves move once.0 later)) in
-    let tail : total (map (λ move. share None (same_class_move first move) mass move) moves) ≡ pos 0 = ap total same ∙ total_none moves in
+    let tail : sum_of (map (λ move. share None (same_class_move first move) mass move) moves) ≡ pos 0 = ap sum_of same ∙ sum_none moves in
     omega (arith, ints, head, tail)
 
 -- a choice of two numbers that are not negative is not negative
@@ -104,34 +105,34 @@ count_case true number other low high = low
 count_case false number other low high = high
 
 -- counts of which none is negative give no move a negative one
-pub count_positive : (counts : List (ClassMove × ℤ)) (move : ClassMove) → list_all (λ (count : ClassMove × ℤ). int_le (pos 0) count.1) counts ≡ true → pos 0 ≤ℤ count_of counts move
+pub count_positive : (shares : Shares) (move : ClassMove) → list_all (λ (count : ClassMove × ℤ). int_le (pos 0) count.1) shares ≡ true → pos 0 ≤ℤ count_of shares move
 unfolding count_of
 count_positive [] move positive = omega (arith, ints)
-count_positive (count ∷ counts) move positive =
-    let parts = and_parts (int_le (pos 0) count.1) (list_all (λ (count : ClassMove × ℤ). int_le (pos 0) count.1) counts) positive in
-    count_case (same_class_move count.0 move) count.1 (count_of counts move) (int_le-true (pos 0) count.1 parts.0) (count_positive counts move parts.1)
+count_positive (count ∷ shares) move positive =
+    let parts = and_parts (int_le (pos 0) count.1) (list_all (λ (count : ClassMove × ℤ). int_le (pos 0) count.1) shares) positive in
+    count_case (same_class_move count.0 move) count.1 (count_of shares move) (int_le-true (pos 0) count.1 parts.0) (count_positive shares move parts.1)
 
 -- where no number is negative the sum is not
-pub total_positive : {X : Type 0} (f : X → ℤ) (xs : List X) → ((y : X) → Contains xs y → pos 0 ≤ℤ f y) → pos 0 ≤ℤ total (map f xs)
-unfolding total
-total_positive f [] positive = omega (arith, ints)
-total_positive f (first ∷ xs) positive =
+pub sum_positive : {X : Type 0} (f : X → ℤ) (xs : List X) → ((y : X) → Contains xs y → pos 0 ≤ℤ f y) → pos 0 ≤ℤ sum_of (map f xs)
+unfolding sum_of
+sum_positive f [] positive = omega (arith, ints)
+sum_positive f (first ∷ xs) positive =
     let head : pos 0 ≤ℤ f first = positive first (Contains-first first xs) in
-    let rest : pos 0 ≤ℤ total (map f xs) = total_positive f xs (λ y later. positive y (Contains-later first xs y later)) in
+    let rest : pos 0 ≤ℤ sum_of (map f xs) = sum_positive f xs (λ y later. positive y (Contains-later first xs y later)) in
     omega (arith, ints, head, rest)
 
 -- and none is more than it
-pub within_total : {X : Type 0} (f : X → ℤ) (xs : List X) (x : X) → ((y : X) → Contains xs y → pos 0 ≤ℤ f y) → Contains xs x
-    → f x ≤ℤ total (map f xs)
-unfolding total
-within_total f [] x positive found = absurd (Contains-nil x found)
-within_total f (first ∷ xs) x positive found = elim (Contains-cons_cases first xs x found) [
+pub within_sum : {X : Type 0} (f : X → ℤ) (xs : List X) (x : X) → ((y : X) → Contains xs y → pos 0 ≤ℤ f y) → Contains xs x
+    → f x ≤ℤ sum_of (map f xs)
+unfolding sum_of
+within_sum f [] x positive found = absurd (Contains-nil x found)
+within_sum f (first ∷ xs) x positive found = elim (Contains-cons_cases first xs x found) [
   | inl here ↦
       let same : f first ≡ f x = ap f here in
-      let rest : pos 0 ≤ℤ total (map f xs) = total_positive f xs (λ y later. positive y (Contains-later first xs y later)) in
+      let rest : pos 0 ≤ℤ sum_of (map f xs) = sum_positive f xs (λ y later. positive y (Contains-later first xs y later)) in
       omega (arith, ints, same, rest)
   | inr there ↦
       let head : pos 0 ≤ℤ f first = positive first (Contains-first first xs) in
-      let later : f x ≤ℤ total (map f xs) = within_total f xs x (λ y after. positive y (Contains-later first xs y after)) there in
+      let later : f x ≤ℤ sum_of (map f xs) = within_sum f xs x (λ y after. positive y (Contains-later first xs y after)) there in
       omega (arith, ints, head, later)
 ]

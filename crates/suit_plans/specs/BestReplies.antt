@@ -3,31 +3,35 @@ use Rattle.std.specs.Prelude.{ℕ, zero, suc, ◌-◌, ◌&&◌, nat_lt, Bool, t
 use Rattle.std.specs.Int.{int_min, int_max}
 use Rattle.std.specs.List.{flat_map, list_any, range_with_len}
 use Rattle.std.specs.Ordering.{int_eq}
+use Rattle.suit_cards.specs.Cards.{Counts}
 use Rattle.suit_game.specs.declared.question.Question.{Question}
+use Rattle.suit_game.specs.declared.limits.TheConstants.{MOST_MOVES}
 use Rattle.suit_classes.specs.declared.class_moves.ClassMove.{ClassMove}
 use Rattle.suit_classes.specs.declared.class_moves.ClassMove.TheVariants.{ShowOut}
-use Rattle.suit_classes.specs.AllowedHistories.{allows, every_move, question_layouts}
-use Rattle.suit_classes.specs.ClassMoves.{same_class_move}
+use Rattle.suit_classes.specs.AllowedHistories.{allows, every_move}
+use Rattle.suit_classes.specs.ClassMoves.{ClassHistory, same_class_move}
 use Rattle.suit_classes.specs.ClassPlaces.{class_after, class_decided, class_moves, class_payoff, class_turn}
+use Rattle.suit_classes.specs.Classes.{sizes_of}
 use Rattle.suit_plans.specs.declared.moves.DeclarerMove.{DeclarerMove}
 use Rattle.suit_plans.specs.declared.moves.DefenceMove.{DefenceMove}
-use Rattle.suit_plans.specs.declared.rows.Plan.{Plan}
-use Rattle.suit_plans.specs.declared.defence_rows.Defence.{Defence}
+use Rattle.suit_plans.specs.declared.plan.Plan.{Plan}
+use Rattle.suit_plans.specs.declared.defence.Defence.{Defence}
 use Rattle.suit_plans.specs.Masses.{is_declarers, is_defences, plan_mass, defence_mass}
-use Rattle.suit_plans.specs.Properness.{some_allows, total}
+use Rattle.suit_plans.specs.Properness.{some_allows, sum_of}
+use Rattle.suit_layouts.specs.ClassLayouts.{class_layouts}
 
 -- the play as one side meets it that replies to the rows of the other
 pub record Reply : Type 0 where
   -- the moves with which a class history goes on, none where it is decided
-  pub moves : List ClassMove → List ClassMove
+  pub moves : ClassHistory → List ClassMove
   -- whether the side that replies is on turn
-  pub replies : List ClassMove → Bool
+  pub replies : ClassHistory → Bool
   -- which worth it takes: the least or the most
   pub best : ℤ → ℤ → ℤ
   -- what a decided class history is worth
-  pub earned : List ClassMove → ℤ
+  pub earned : ClassHistory → ℤ
   -- whether any mass comes to a class history
-  pub live : List ClassMove → Bool
+  pub live : ClassHistory → Bool
 
 -- the best of some worths
 unfoldable pub best_of : (ℤ → ℤ → ℤ) → List ℤ → ℤ
@@ -36,18 +40,18 @@ best_of best (worth ∷ []) = worth
 best_of best (worth ∷ next ∷ worths) = best worth (best_of best (next ∷ worths))
 
 -- what a class history is worth where its moves are worth so much: what is earned where it has none, the best at a turn of the side that replies, and else the sum
-abbrev pub worth_at : Reply → List ClassMove → List ℤ → ℤ
+abbrev pub worth_at : Reply → ClassHistory → List ℤ → ℤ
 worth_at reply history [] = reply.earned history
-worth_at reply history (worth ∷ worths) = if reply.replies history then best_of reply.best (worth ∷ worths) else total (worth ∷ worths)
+worth_at reply history (worth ∷ worths) = if reply.replies history then best_of reply.best (worth ∷ worths) else sum_of (worth ∷ worths)
 
 -- what a class history is worth, which at most so many moves follow
-unfoldable pub worth_within : ℕ → Reply → List ClassMove → ℤ
+unfoldable pub worth_within : ℕ → Reply → ClassHistory → ℤ
 worth_within zero reply history = reply.earned history
 worth_within (suc more) reply history = worth_at reply history (map (λ move. worth_within more reply (history ++ move ∷ [])) (reply.moves history))
 
 -- what it is worth; no class history has more than 52 moves
-abbrev pub worth : Reply → List ClassMove → ℤ
-worth reply history = worth_within (52 - length history) reply history
+abbrev pub worth : Reply → ClassHistory → ℤ
+worth reply history = worth_within (MOST_MOVES - length history) reply history
 
 -- the first of some moves, and any move where there is none
 abbrev pub first_of : List ClassMove → ClassMove
@@ -55,36 +59,36 @@ first_of [] = ShowOut
 first_of (move ∷ moves) = move
 
 -- the move of the reply: the first that is worth as much as the turn
-unfoldable pub reply_move : Reply → List ClassMove → ClassMove
+unfoldable pub reply_move : Reply → ClassHistory → ClassMove
 reply_move reply history = first_of (filter (λ move. int_eq (worth reply (history ++ move ∷ [])) (worth reply history)) (reply.moves history))
 
 -- whether the moves that go on from a class history are, at the turns of the side that replies, those of the reply
-unfoldable pub follows : Reply → List ClassMove → List ClassMove → Bool
+unfoldable pub follows : Reply → ClassHistory → List ClassMove → Bool
 follows reply history [] = true
 follows reply history (move ∷ moves) =
     (if reply.replies history then same_class_move (reply_move reply history) move else true) && follows reply (history ++ move ∷ []) moves
 
 -- whether a class history is reached
-abbrev pub is_reached : Reply → List ClassMove → Bool
+abbrev pub is_reached : Reply → ClassHistory → Bool
 is_reached reply history = reply.live history && follows reply [] history
 
 -- whether the side that replies has a choice there
-abbrev pub has_choice : Reply → List ClassMove → Bool
+abbrev pub has_choice : Reply → ClassHistory → Bool
 has_choice reply history = reply.replies history && nat_lt 1 (length (reply.moves history))
 
 -- a class history and those that go on from it by at most so many moves, in order
-unfoldable pub histories_within : ℕ → Reply → List ClassMove → List (List ClassMove)
+unfoldable pub histories_within : ℕ → Reply → ClassHistory → List ClassHistory
 histories_within zero reply history = history ∷ []
 histories_within (suc more) reply history = history ∷ flat_map (λ move. histories_within more reply (history ++ move ∷ [])) (reply.moves history)
 
 -- the class histories that are reached and where there is a choice, in order
-unfoldable pub choices : Reply → List (List ClassMove)
-choices reply = filter (λ history. has_choice reply history && is_reached reply history) (histories_within 52 reply [])
+unfoldable pub choices : Reply → List ClassHistory
+choices reply = filter (λ history. has_choice reply history && is_reached reply history) (histories_within MOST_MOVES reply [])
 
 -- the defence in one class layout, replying to a plan
-abbrev pub reply_to_plan : Question → Plan → List ℕ → Reply
-reply_to_plan question plan west = record {
-  moves = λ history. if class_decided (class_after question history) then [] else class_moves (class_after question history) west;
+abbrev pub reply_to_plan : Question → Plan → Counts → Reply
+reply_to_plan question plan counts = record {
+  moves = λ history. if class_decided (class_after question history) then [] else class_moves (class_after question history) counts;
   replies = λ history. is_defences (class_turn (class_after question history));
   best = int_min;
   earned = λ history. pos (class_payoff (class_after question history)) *ℤ plan_mass question plan history;
@@ -92,32 +96,37 @@ reply_to_plan question plan west = record {
 }
 
 -- the class layouts of positive weight that allow a class history
-abbrev pub allowing_layouts : Question → List ClassMove → List (List ℕ × ℕ)
-allowing_layouts question history = filter (λ (layout : List ℕ × ℕ). allows question layout.0 history) (question_layouts question)
+abbrev pub allowing_layouts : Question → ClassHistory → List (Counts × ℕ)
+allowing_layouts question history = filter (λ (layout : Counts × ℕ). allows question layout.0 history) (class_layouts question (sizes_of question))
 
--- declarer, replying to a defence; he sees the class history alone, which goes on with each move with which some class layout of positive weight allows it
+-- the moves with which a class history goes on for who sees it alone: none where it is decided, else in order those with which some class layout of positive weight allows it
+abbrev pub public_moves : Question → ClassHistory → List ClassMove
+public_moves question history =
+    if class_decided (class_after question history) then [] else filter (λ move. some_allows question (history ++ move ∷ [])) every_move
+
+-- declarer, replying to a defence; he sees the class history alone
 abbrev pub reply_to_defence : Question → Defence → Reply
 reply_to_defence question defence = record {
-  moves = λ history. if class_decided (class_after question history) then [] else filter (λ move. some_allows question (history ++ move ∷ [])) every_move;
+  moves = λ history. public_moves question history;
   replies = λ history. is_declarers (class_turn (class_after question history));
   best = int_max;
-  earned = λ history. total (map (λ (layout : List ℕ × ℕ). pos (class_payoff (class_after question history)) *ℤ defence_mass question defence layout.0 history) (allowing_layouts question history));
-  live = λ history. list_any (λ (layout : List ℕ × ℕ). int_lt (pos 0) (defence_mass question defence layout.0 history)) (allowing_layouts question history);
+  earned = λ history. sum_of (map (λ (layout : Counts × ℕ). pos (class_payoff (class_after question history)) *ℤ defence_mass question defence layout.0 history) (allowing_layouts question history));
+  live = λ history. list_any (λ (layout : Counts × ℕ). int_lt (pos 0) (defence_mass question defence layout.0 history)) (allowing_layouts question history);
 }
 
 -- what a plan earns at least, not yet divided by its denominator and the total weight of the question
 unfoldable pub least : Question → Plan → ℤ
-least question plan = total (map (λ (layout : List ℕ × ℕ). pos layout.1 *ℤ worth (reply_to_plan question plan layout.0) []) (question_layouts question))
+least question plan = sum_of (map (λ (layout : Counts × ℕ). pos layout.1 *ℤ worth (reply_to_plan question plan layout.0) []) (class_layouts question (sizes_of question)))
 
--- the best reply to a plan in the class layout at a place: its moves where it is reached and there is a choice
-abbrev pub least_reply_in : Question → Plan → List ℕ → ℕ → List DefenceMove
-least_reply_in question plan west place =
-    map (λ history. record { layout = place; history = history; mv = reply_move (reply_to_plan question plan west) history }) (choices (reply_to_plan question plan west))
+-- the best reply to a plan in the class layout at an index: its moves where it is reached and there is a choice
+abbrev pub least_reply_in : Question → Plan → Counts → ℕ → List DefenceMove
+least_reply_in question plan counts index =
+    map (λ history. record { layout = index; history = history; mv = reply_move (reply_to_plan question plan counts) history }) (choices (reply_to_plan question plan counts))
 
 -- the best reply to a plan, by class layouts
 unfoldable pub least_reply : Question → Plan → List DefenceMove
 least_reply question plan =
-    flat_map (λ place. least_reply_in question plan (get_or (question_layouts question) place ([], 0)).0 place) (range_with_len 0 (length (question_layouts question)))
+    flat_map (λ index. least_reply_in question plan (get_or (class_layouts question (sizes_of question)) index ([], 0)).0 index) (range_with_len 0 (length (class_layouts question (sizes_of question))))
 
 -- what a defence lets declarer earn at most, not yet divided by its denominator and the total weight of the question
 unfoldable pub most : Question → Defence → ℤ

@@ -5,3 +5,4 @@ pub mod PlanLaws
 pub mod Properness
 pub mod Starts
 pub mod Players
+pub mod ReplyLaws

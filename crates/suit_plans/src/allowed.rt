@@ -7,20 +7,20 @@ ghost use Rattle.suit_plans.specs.Masses.{weight_of};
 ghost use Rattle.suit_plans.specs.Properness.{goes_undecided, some_allows};
 ghost use Rattle.suit_plans.specs.Starts.{IsStart};
 
-use suit_classes::{ClassMove, ClassPlace, Classes};
+use suit_classes::{ClassMove, ClassPlace, Classes, is_among};
 use suit_game::Question;
 use suit_layouts::ClassWalk;
 
 /// Whether a class layout of positive weight allows a class history.
 #[tactic(auto, unfolding(suit_classes::specs::AllowedHistories::allows))]
-pub(crate) fn allows(question: &Question, west: &[u8], history: &[ClassMove]) -> bool
+pub(crate) fn allows(question: &Question, counts: &[u8], history: &[ClassMove]) -> bool
     requires valid { IsValid question.now }
-    requires weighs { 0 < weight_of question.now west.now }
-    ensures { result ≡ allows question.now west.now history.now }
+    requires weighs { 0 < weight_of question.now counts.now }
+    ensures { result ≡ allows question.now counts.now history.now }
 {
     allows_from(
         &ClassPlace::start(question, &Classes::of(question)),
-        west,
+        counts,
         history,
     )
 }
@@ -42,13 +42,13 @@ pub(crate) fn some_allows(question: &Question, history: &[ClassMove]) -> bool
 }
 
 // Whether the moves are, one after the other, moves for these counts, from the first position on.
-fn allows_from(start: &ClassPlace, west: &[u8], history: &[ClassMove]) -> bool
-    requires { IsStart start.now west.now }
-    ensures { result ≡ allows_from west.now start.now history.now }
+fn allows_from(start: &ClassPlace, counts: &[u8], history: &[ClassMove]) -> bool
+    requires { IsStart start.now counts.now }
+    ensures { result ≡ allows_from counts.now start.now history.now }
 {
     let mut place = *start;
     for index in 0..history.len() {
-        if !has_move(&place, west, history[index]) {
+        if !has_move(&place, counts, history[index]) {
             return false;
         }
         place = place.step(history[index]);
@@ -57,17 +57,10 @@ fn allows_from(start: &ClassPlace, west: &[u8], history: &[ClassMove]) -> bool
 }
 
 // Whether a move is one of those at a place for these counts.
-fn has_move(place: &ClassPlace, west: &[u8], mv: ClassMove) -> bool
-    ensures { result ≡ is_among (class_moves place.now west.now) mv }
+fn has_move(place: &ClassPlace, counts: &[u8], mv: ClassMove) -> bool
+    ensures { result ≡ is_among (class_moves place.now counts.now) mv }
 {
-    is_among(&place.moves(west), mv)
-}
-
-/// Whether a move is among some.
-pub(crate) fn is_among(moves: &[ClassMove], mv: ClassMove) -> bool
-    ensures { result ≡ is_among moves.now mv }
-{
-    moves.contains(&mv)
+    is_among(&place.moves(counts), mv)
 }
 
 /// Where a class history leads that goes past no decided position.

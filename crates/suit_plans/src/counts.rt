@@ -1,12 +1,12 @@
 //! How a row shares out its mass.
 ghost use Rattle.std.specs.Prelude.{◌≡◌, Option, option_map};
-ghost use Rattle.suit_classes.specs.ClassMoves.{same_class_move};
 ghost use Rattle.suit_plans.specs.Masses.{count_of, share};
 
 use std::marker::Model;
 use suit_classes::ClassMove;
 
-/// Moves and how much of the mass each gets. Contracts see them as the list of these pairs.
+/// The shares of a row: moves, each with a count of how much of the mass it gets. Contracts see them as
+/// the list of these pairs.
 #[derive(Debug, Drop)]
 pub struct Counts {
     items: Vec<(ClassMove, i128)>,
@@ -41,7 +41,7 @@ impl Counts {
         ensures { result ≡ count_of self.now mv }
     {
         for count in &self.items {
-            if is_same(count.0, mv) {
+            if count.0.is_same(mv) {
                 return count.1;
             }
         }
@@ -51,18 +51,11 @@ impl Counts {
 
 /// What a move gets of the mass at a turn of its side: its count where there is a row, and without a
 /// row all of the mass or none, by whether it is the first move there.
-pub fn share(counts: Option<&Counts>, first: bool, mass: i128, mv: ClassMove) -> i128
-    ensures { result ≡ share (option_map (λ counts. counts.now) counts.entry) first mass mv }
+pub fn share(shares: Option<&Counts>, first: bool, mass: i128, mv: ClassMove) -> i128
+    ensures { result ≡ share (option_map (λ shares. shares.now) shares.entry) first mass mv }
 {
-    match counts {
-        Some(counts) => counts.count_of(mv),
+    match shares {
+        Some(shares) => shares.count_of(mv),
         None => if first { mass } else { 0 },
     }
-}
-
-// Whether two moves are the same.
-fn is_same(here: ClassMove, there: ClassMove) -> bool
-    ensures { result ≡ same_class_move here there }
-{
-    here == there
 }

@@ -1,5 +1,6 @@
-//! Laws of the masses: each is the contract of an empty function.
+//! Laws of the masses and of best replies: each is the contract of an empty function.
 ghost use Rattle.suit_plans.specs.PlanLaws.{DefencesAreRealised, PlansAreRealised};
+ghost use Rattle.suit_plans.specs.ReplyLaws.{DefencesArePaid, DefencesAtDecided, DefencesAtDeclarers, DefencesAtDefences, DefenceChoicesRise, LeastRepliesAreChoices, LeastsAreBounded, MostRepliesAreChoices, MostsAreBounded, NoMassesAreWorthNothing, NoMassIsWorthNothing, PlanChoicesRise, PlansArePaid, PlansAtDecided, PlansAtDeclarers, PlansAtDefences, WorthsUnfold};
 
 /// The masses of a proper plan are a realisation plan.
 pub fn plans_are_realised()
@@ -9,4 +10,89 @@ pub fn plans_are_realised()
 /// The masses of a proper defence are a realisation plan in each class layout of positive weight.
 pub fn defences_are_realised()
     ensures { DefencesAreRealised }
+{}
+
+/// What a class history of fewer than 52 moves is worth to a reply is what its moves make of it.
+pub fn worths_unfold()
+    ensures { WorthsUnfold }
+{}
+
+/// Against a plan a decided class history is worth its payoff for the mass that came to it.
+pub fn plans_at_decided()
+    ensures { PlansAtDecided }
+{}
+
+/// At a turn of declarer's it is worth the sum over his class moves.
+pub fn plans_at_declarers()
+    ensures { PlansAtDeclarers }
+{}
+
+/// At a turn of a defender's it is worth the least of his class moves.
+pub fn plans_at_defences()
+    ensures { PlansAtDefences }
+{}
+
+/// Against a proper plan it is worth between nothing and thirteen tricks of the mass that came to it.
+pub fn plans_are_paid()
+    ensures { PlansArePaid }
+{}
+
+/// So it is worth nothing where no mass came to it.
+pub fn no_mass_is_worth_nothing()
+    ensures { NoMassIsWorthNothing }
+{}
+
+/// Against a defence a decided class history is worth its payoff for the masses that came to it.
+pub fn defences_at_decided()
+    ensures { DefencesAtDecided }
+{}
+
+/// At a turn of declarer's it is worth the most of the moves.
+pub fn defences_at_declarers()
+    ensures { DefencesAtDeclarers }
+{}
+
+/// At a turn of a defender's it is worth the sum over the moves.
+pub fn defences_at_defences()
+    ensures { DefencesAtDefences }
+{}
+
+/// Against a proper defence it is worth between nothing and thirteen tricks of the masses that came to it.
+pub fn defences_are_paid()
+    ensures { DefencesArePaid }
+{}
+
+/// So it is worth nothing where no mass came to it in any class layout.
+pub fn no_masses_are_worth_nothing()
+    ensures { NoMassesAreWorthNothing }
+{}
+
+/// What a proper plan earns at least is not negative, and below 2^118.
+pub fn leasts_are_bounded()
+    ensures { LeastsAreBounded }
+{}
+
+/// What a proper defence lets declarer earn at most is not negative, and below 2^118.
+pub fn mosts_are_bounded()
+    ensures { MostsAreBounded }
+{}
+
+/// Each entry of the best reply to a plan is a legal move of the defence's at a class history where it has a choice and some mass comes.
+pub fn least_replies_are_choices()
+    ensures { LeastRepliesAreChoices }
+{}
+
+/// Each entry of the best reply to a defence is a legal move of declarer's at a class history where he has a choice and some mass comes.
+pub fn most_replies_are_choices()
+    ensures { MostRepliesAreChoices }
+{}
+
+/// The choices against a plan in a class layout stand in the order of their class histories.
+pub fn plan_choices_rise()
+    ensures { PlanChoicesRise }
+{}
+
+/// The choices against a defence stand in the order of their class histories.
+pub fn defence_choices_rise()
+    ensures { DefenceChoicesRise }
 {}

@@ -3,25 +3,24 @@
 
 mod allowed;
 mod counts;
-mod defence_rows;
+mod defence;
 mod faults;
 pub mod laws;
 mod lookup;
-mod masses;
 mod moves;
 mod order;
+mod plan;
 mod player;
 mod proper;
 mod row_faults;
-mod rows;
 mod sharing;
 #[cfg(test)]
 mod tests;
 
 pub use counts::{Counts, share};
-pub use defence_rows::{Defence, DefenceRow, DefenceRows};
+pub use defence::{Defence, DefenceRow, DefenceRows};
 pub use faults::{PlanFault, PlanKind};
-pub use lookup::{defence_counts_at, plan_counts_at};
+pub use lookup::{defence_shares_at, plan_shares_at};
 pub use moves::{DeclarerMove, DeclarerMoves, DefenceMove, DefenceMoves};
+pub use plan::{MOST_DEN, Plan, Row, Rows};
 pub use proper::{proper_defence, proper_plan};
-pub use rows::{Plan, Row, Rows};

@@ -16,7 +16,7 @@ pub struct DeclarerMove {
 /// A move of the defence's in a class layout, at a class history.
 #[derive(Debug, Drop)]
 pub struct DefenceMove {
-    /// The place of the class layout among those of positive weight, from 0 on.
+    /// The index of the class layout among those of positive weight, in their order.
     pub layout: u8,
     /// The class history.
     pub history: History,

@@ -1,6 +1,6 @@
 //! In what order class histories and West's counts stand.
 ghost use Rattle.std.specs.Prelude.{◌≡◌, bytes_eq};
-ghost use Rattle.suit_plans.specs.Orders.{counts_before, history_before, same_history};
+ghost use Rattle.suit_plans.specs.Orders.{counts_before, history_before, same_class_history};
 
 use suit_classes::ClassMove;
 
@@ -13,7 +13,7 @@ pub(crate) fn history_is_before(here: &[ClassMove], there: &[ClassMove]) -> bool
 
 /// Whether two class histories are the same.
 pub(crate) fn is_same_history(here: &[ClassMove], there: &[ClassMove]) -> bool
-    ensures { result ≡ same_history here.now there.now }
+    ensures { result ≡ same_class_history here.now there.now }
 {
     here == there
 }

@@ -1,6 +1,7 @@
 //! The test that a plan or a defence is a realisation plan.
 ghost use Rattle.std.specs.Prelude.{◌≡◌, ◌&&◌, ◌≤◌, ◌≤ℤ◌, ◌^◌, int_le, length, pos, true};
 ghost use Rattle.suit_game.specs.Validity.{IsValid};
+ghost use Rattle.suit_plans.specs.declared.plan.TheConstants.{MOST_DEN};
 ghost use Rattle.suit_plans.specs.Masses.{weight_of};
 ghost use Rattle.suit_plans.specs.Orders.{InOrder, defence_row_before, plan_row_before};
 ghost use Rattle.suit_plans.specs.Players.{AreOrdered, side_of};
@@ -10,14 +11,11 @@ use super::allowed::{allows, some_allows, undecided_place};
 use super::lookup::is_row_before;
 use super::order::history_is_before;
 use super::player::Player;
-use super::row_faults::counts_fault;
-use super::{Counts, Defence, DefenceRow, Plan, PlanFault, PlanKind, Row};
+use super::row_faults::shares_fault;
+use super::{Counts, Defence, DefenceRow, MOST_DEN, Plan, PlanFault, PlanKind, Row};
 use suit_classes::{ClassMove, Classes};
 use suit_game::Question;
 use suit_layouts::class_weight;
-
-// The largest denominator.
-const MOST_DEN: i128 = 1 << 90;
 
 /// Whether a plan is a realisation plan of declarer's: the masses of class histories are not negative,
 /// and at each of declarer's turns the moves share out exactly the mass that came to it. (The sequence
@@ -83,7 +81,7 @@ pub fn proper_defence(question: &Question, defence: &Defence) -> Result<(), Plan
 
 // Whether a number is from 1 to the largest denominator.
 fn is_den(den: i128) -> bool
-    ensures { result ≡ (int_le (pos 1) den && int_le den (pos (2 ^ 90))) }
+    ensures { result ≡ (int_le (pos 1) den && int_le den (MOST_DEN)) }
 {
     1 <= den && den <= MOST_DEN
 }
@@ -126,20 +124,20 @@ fn defence_row_fault(
     row: &DefenceRow,
 ) -> Option<PlanKind>
     requires valid { IsValid question.now }
-    requires den { (pos 1 ≤ℤ den) × (den ≤ℤ pos (2 ^ 90)) }
+    requires den { (pos 1 ≤ℤ den) × (den ≤ℤ MOST_DEN) }
     requires order { InOrder defence_row_before before.now }
     ensures { result ≡ defence_row_fault question.now den before.now row.now }
 {
-    let west = row.west.counts();
+    let counts = row.west.counts();
     let history = row.history.items();
-    let weight = weight_of(question, west);
+    let weight = weight_of(question, counts);
     if weight == 0 {
         return Some(PlanKind::Layout);
     }
-    if !allows(question, west, history) {
+    if !allows(question, counts, history) {
         return Some(PlanKind::History);
     }
-    let player = Player::defence(weight, den, before, west);
+    let player = Player::defence(weight, den, before, counts);
     row_fault(
         question,
         &player,
@@ -160,12 +158,12 @@ fn defence_stands_after(before: &[DefenceRow], row: &DefenceRow) -> bool
 }
 
 // The weight of a class layout.
-fn weight_of(question: &Question, west: &[u8]) -> u64
+fn weight_of(question: &Question, counts: &[u8]) -> u64
     requires { IsValid question.now }
-    ensures value { result ≡ weight_of question.now west.now }
+    ensures value { result ≡ weight_of question.now counts.now }
     ensures few { result ≤ 10400600 }
 {
-    class_weight(question, Classes::of(question).sizes().as_slice(), west)
+    class_weight(question, Classes::of(question).sizes().as_slice(), counts)
 }
 
 // What is wrong with a row of a side at a class history that is allowed, where it is told whether the
@@ -174,12 +172,12 @@ fn row_fault(
     question: &Question,
     player: &Player,
     history: &[ClassMove],
-    counts: &Counts,
+    shares: &Counts,
     ordered: bool,
 ) -> Option<PlanKind>
     requires order { AreOrdered player.now.rows }
     requires short { length history.now ≤ 52 }
-    ensures { result ≡ row_fault question.now (side_of player.now) history.now counts.now true ordered }
+    ensures { result ≡ row_fault question.now (side_of player.now) history.now shares.now true ordered }
 {
     let Some(place) = undecided_place(question, history) else {
         return Some(PlanKind::History);
@@ -190,6 +188,6 @@ fn row_fault(
     if !ordered {
         return Some(PlanKind::Order);
     }
-    let legal = place.moves(player.west);
-    counts_fault(&legal, player.mass(question, history), counts.items())
+    let legal = place.moves(player.counts);
+    shares_fault(&legal, player.mass(question, history), shares.items())
 }

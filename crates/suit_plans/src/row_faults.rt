@@ -1,28 +1,27 @@
-//! What is wrong with the counts of a row.
+//! What is wrong with the shares of a row.
 ghost use Rattle.std.specs.Prelude.{◌≡◌, ◌-ℤ◌, ◌≤ℤ◌, IsTrue, int_le, int_lt, map, pos};
 ghost use Rattle.std.specs.List.{list_all};
 ghost use Rattle.std.specs.Ordering.{int_eq};
 ghost use Rattle.suit_classes.specs.AllowedHistories.{is_among};
-ghost use Rattle.suit_classes.specs.ClassMoves.{stands_before};
-ghost use Rattle.suit_plans.specs.Properness.{are_rising, counts_fault, moves_of, total};
+ghost use Rattle.suit_classes.specs.MoveOrder.{stands_before};
+ghost use Rattle.suit_plans.specs.Properness.{are_rising, shares_fault, moves_of, sum_of};
 
 use super::PlanKind;
-use super::allowed::is_among;
-use suit_classes::ClassMove;
+use suit_classes::{ClassMove, is_among};
 
-/// What is wrong with counts, where the legal moves are given and the mass that is to be shared out.
-pub(crate) fn counts_fault(
+/// What is wrong with shares, where the legal moves are given and the mass that is to be shared out.
+pub(crate) fn shares_fault(
     legal: &[ClassMove],
     mass: i128,
-    counts: &[(ClassMove, i128)],
+    shares: &[(ClassMove, i128)],
 ) -> Option<PlanKind>
-    ensures { result ≡ counts_fault legal.now mass counts.now }
+    ensures { result ≡ shares_fault legal.now mass shares.now }
 {
-    if !(are_legal(legal, counts) && are_rising(counts)) {
+    if !(are_legal(legal, shares) && are_rising(shares)) {
         Some(PlanKind::Illegal)
-    } else if !are_positive(counts) {
+    } else if !are_positive(shares) {
         Some(PlanKind::Negative)
-    } else if !add_up(counts, mass) {
+    } else if !add_up(shares, mass) {
         Some(PlanKind::Sum)
     } else {
         None
@@ -30,10 +29,10 @@ pub(crate) fn counts_fault(
 }
 
 // Whether all moves that are named are legal.
-fn are_legal(legal: &[ClassMove], counts: &[(ClassMove, i128)]) -> bool
-    ensures { result ≡ list_all (is_among legal.now) (moves_of counts.now) }
+fn are_legal(legal: &[ClassMove], shares: &[(ClassMove, i128)]) -> bool
+    ensures { result ≡ list_all (is_among legal.now) (moves_of shares.now) }
 {
-    for count in counts {
+    for count in shares {
         if !is_among(legal, count.0) {
             return false;
         }
@@ -42,11 +41,11 @@ fn are_legal(legal: &[ClassMove], counts: &[(ClassMove, i128)]) -> bool
 }
 
 // Whether the moves rise strictly.
-fn are_rising(counts: &[(ClassMove, i128)]) -> bool
-    ensures { result ≡ are_rising (moves_of counts.now) }
+fn are_rising(shares: &[(ClassMove, i128)]) -> bool
+    ensures { result ≡ are_rising (moves_of shares.now) }
 {
-    for index in 1..counts.len() {
-        if !stands_before(counts[index - 1].0, counts[index].0) {
+    for index in 1..shares.len() {
+        if !stands_before(shares[index - 1].0, shares[index].0) {
             return false;
         }
     }
@@ -61,10 +60,10 @@ fn stands_before(here: ClassMove, there: ClassMove) -> bool
 }
 
 // Whether no count is below 0.
-fn are_positive(counts: &[(ClassMove, i128)]) -> bool
-    ensures { result ≡ list_all (λ count. int_le (pos 0) count.1) counts.now }
+fn are_positive(shares: &[(ClassMove, i128)]) -> bool
+    ensures { result ≡ list_all (λ count. int_le (pos 0) count.1) shares.now }
 {
-    for count in counts {
+    for count in shares {
         if !is_positive(count.1) {
             return false;
         }
@@ -102,14 +101,14 @@ fn is_zero(number: i128) -> bool
     number == 0
 }
 
-// Whether counts, none of them below 0, add up to a mass. The sum may have more than 128 bits, so each
+// Whether shares, none of them below 0, add up to a mass. The sum may have more than 128 bits, so each
 // count is taken from what is left of the mass.
-fn add_up(counts: &[(ClassMove, i128)], mass: i128) -> bool
-    requires { IsTrue (list_all (λ count. int_le (pos 0) count.1) counts.now) }
-    ensures { result ≡ int_eq (total (map (λ count. count.1) counts.now)) mass }
+fn add_up(shares: &[(ClassMove, i128)], mass: i128) -> bool
+    requires { IsTrue (list_all (λ count. int_le (pos 0) count.1) shares.now) }
+    ensures { result ≡ int_eq (sum_of (map (λ count. count.1) shares.now)) mass }
 {
     let mut rest = mass;
-    for count in counts {
+    for count in shares {
         if is_more(count.1, rest) {
             return false;
         }

@@ -12,9 +12,6 @@ use suit_classes::{ClassMove, History as Moves};
 use suit_game::{Entries, Goal, LeadAt, Question};
 use suit_layouts::ClassLayout;
 
-// The largest denominator.
-const MOST_DEN: i128 = 1_237_940_039_285_380_274_899_124_224;
-
 // The number after it.
 const PAST_DEN: i128 = 1_237_940_039_285_380_274_899_124_225;
 
@@ -27,20 +24,13 @@ type Case = (i128, Lines, Option<(PlanKind, u32)>);
 
 // A question where South leads first and no hand has an entry.
 fn led(north: &'static str, south: &'static str, goal: Goal) -> Result<Question, Fail> {
+    let north = Holding::read(north.as_bytes()).ok().ok_or(north)?;
+    let south = Holding::read(south.as_bytes()).ok().ok_or(south)?;
     Ok(Question {
-        north: Holding::read(north.as_bytes()).ok().ok_or(north)?,
-        south: Holding::read(south.as_bytes()).ok().ok_or(south)?,
         start: LeadAt::S,
-        regain: LeadAt::Either,
         entries_n: Entries::Count(0),
         entries_s: Entries::Count(0),
-        vacant_w: 13,
-        vacant_e: 13,
-        west_least: 0,
-        west_most: 13,
-        goal,
-        nodes: 200_000,
-        pivots: 100_000,
+        ..Question::plain(north, south, goal)
     })
 }
 
@@ -467,7 +457,7 @@ fn plan_counts<'a>(question: &Question, plan: &'a Plan, history: &[ClassMove]) -
     requires { IsValid question.now }
 {
     match proper_plan(question, plan) {
-        Ok(()) => plan_counts_at(plan.rows.items(), history),
+        Ok(()) => plan_shares_at(plan.rows.items(), history),
         Err(_) => None,
     }
 }
@@ -483,7 +473,7 @@ fn defence_counts<'a>(
     requires { IsValid question.now }
 {
     match proper_defence(question, defence) {
-        Ok(()) => defence_counts_at(defence.rows.items(), west, history),
+        Ok(()) => defence_shares_at(defence.rows.items(), west, history),
         Err(_) => None,
     }
 }

@@ -1,6 +1,7 @@
-use Rattle.std.proofs.Common.{◌∙◌, ◌<◌, ℕ, List, sym, ap, subst}
-use Rattle.suit_classes.specs.AllowedHistories.{allows, allows_from, question_layouts}
-use Rattle.suit_classes.specs.ClassPlaces.{ClassView}
+use Rattle.std.proofs.Common.{◌∙◌, ◌<◌, sym, ap, subst}
+use Rattle.suit_cards.specs.Cards.{Counts}
+use Rattle.suit_classes.specs.AllowedHistories.{allows, allows_from}
+use Rattle.suit_classes.specs.declared.class_view.ClassView.{ClassView}
 use Rattle.suit_classes.specs.Classes.{defence_sizes}
 use Rattle.suit_layouts.specs.ClassLayouts.{class_layouts}
 use Rattle.suit_plans.specs.Masses.{weight_of}
@@ -8,7 +9,6 @@ use Rattle.suit_plans.proofs.LayoutWalks.{StillToCome, all_to_come, found_to_com
 use Rattle.suit_plans.proofs.allowed.some_allows.Goals as goal
 
 pub loop-layout-init : goal.loop-layout-init
-unfolding question_layouts
 loop-layout-init c =
     let sizes = c.as_slice.ensures.value ∙ c.sizes-sizes.ensures.value ∙ ap defence_sizes c.of-classes.ensures in
     let all = c.into_iter-layout-iterator.ensures.into_iter_gives ∙ c.new-layout-items.ensures.value ∙ ap (class_layouts c.args.question.now) sizes in
@@ -20,7 +20,7 @@ allows_from-requires c =
     record {
       question = c.args.question.now;
       valid = c.requires;
-      weighs = subst (λ (west : List ℕ). 0 < weight_of c.args.question.now west) (sym c.counts.ensures.value) come.weigh.0;
+      weighs = subst (λ (counts : Counts). 0 < weight_of c.args.question.now counts) (sym c.counts.ensures.value) come.weigh.0;
       first = c.start-start.ensures;
     }
 
@@ -29,7 +29,7 @@ unfolding allows
 returns-then-allows_from c =
     let come = subst (StillToCome c.args.question.now c.args.history.now) c.in-Some.ensures.steps c.loop-layout.invariant in
     found_to_come c.args.question.now c.args.history.now (c.in-Some.layout, c.in-Some.field-0-1) c.next.new.self come
-    (c.if-allows_from.ensures ∙ ap (λ (west : List ℕ). allows_from west c.start-start.result c.args.history.now) c.counts.ensures.value
+    (c.if-allows_from.ensures ∙ ap (λ (counts : Counts). allows_from counts c.start-start.result c.args.history.now) c.counts.ensures.value
     ∙ ap (λ (v : ClassView). allows_from c.in-Some.layout v c.args.history.now) c.start-start.ensures)
 
 pub loop-layout-preserved : goal.loop-layout-preserved
@@ -37,7 +37,7 @@ unfolding allows
 loop-layout-preserved c =
     let come = subst (StillToCome c.args.question.now c.args.history.now) c.in-Some.ensures.steps c.loop-layout.invariant in
     next_to_come c.args.question.now c.args.history.now (c.in-Some.layout, c.in-Some.field-0-1) c.next.new.self come
-    (c.if-allows_from.ensures ∙ ap (λ (west : List ℕ). allows_from west c.start-start.result c.args.history.now) c.counts.ensures.value
+    (c.if-allows_from.ensures ∙ ap (λ (counts : Counts). allows_from counts c.start-start.result c.args.history.now) c.counts.ensures.value
     ∙ ap (λ (v : ClassView). allows_from c.in-Some.layout v c.args.history.now) c.start-start.ensures)
 
 pub returns : goal.returns

@@ -1,6 +1,7 @@
 use Rattle.std.proofs.Common.{◌∙◌}
 use Rattle.suit_classes.specs.contracts.class_moves.ClassMovePartialOrd.TheImpl as order
-use Rattle.suit_classes.specs.ClassMoves.{same_class_move, stands_before}
+use Rattle.suit_classes.specs.ClassMoves.{same_class_move}
+use Rattle.suit_classes.specs.MoveOrder.{stands_before}
 use Rattle.suit_classes.proofs.DerivedOrders.{cmp_stands}
 use Rattle.suit_plans.proofs.EarlierLists.{cmp_earlier}
 use Rattle.suit_plans.proofs.order.history_is_before.Goals as goal

@@ -1,6 +1,6 @@
 use Rattle.std.proofs.Common.{◌∙◌, sym, ap, List}
 use Rattle.suit_classes.specs.declared.class_moves.ClassMove.{ClassMove}
-use Rattle.suit_plans.specs.declared.rows.Row.{Row}
+use Rattle.suit_plans.specs.declared.plan.Row.{Row}
 use Rattle.suit_plans.specs.Orders.{history_before, plan_row_before}
 use Rattle.suit_plans.proofs.RowOrder.{last_asked}
 use Rattle.suit_plans.proofs.proper.stands_after.Goals as goal

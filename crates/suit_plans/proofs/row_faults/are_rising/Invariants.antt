@@ -3,4 +3,4 @@ use Rattle.suit_plans.proofs.LookedThrough.{HasRisen}
 use Rattle.suit_plans.proofs.row_faults.are_rising.Given as goal
 
 abbrev pub invariant-loop-index : goal.invariant-loop-index
-invariant-loop-index l = HasRisen (moves_of l.counts) l.index
+invariant-loop-index l = HasRisen (moves_of l.shares) l.index

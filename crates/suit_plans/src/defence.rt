@@ -25,7 +25,7 @@ pub struct DefenceRows {
 
 impl Model for DefenceRows {
     ghost use Rattle.std.specs.Prelude.{List, ◌≤◌, vec_len};
-    ghost use Rattle.suit_plans.specs.declared.defence_rows.DefenceRow.{DefenceRow};
+    ghost use Rattle.suit_plans.specs.declared.defence.DefenceRow.{DefenceRow};
 
     ghost Value = { List DefenceRow };
 

@@ -5,6 +5,9 @@ use super::Counts;
 use std::marker::Model;
 use suit_classes::History;
 
+/// The largest denominator of a plan or a defence: 2^90.
+pub const MOST_DEN: i128 = 1 << 90;
+
 /// How declarer goes on from one class history.
 #[derive(Debug, Drop)]
 pub struct Row {
@@ -22,7 +25,7 @@ pub struct Rows {
 
 impl Model for Rows {
     ghost use Rattle.std.specs.Prelude.{List, ◌≤◌, vec_len};
-    ghost use Rattle.suit_plans.specs.declared.rows.Row.{Row};
+    ghost use Rattle.suit_plans.specs.declared.plan.Row.{Row};
 
     ghost Value = { List Row };
 

@@ -1,0 +1,5 @@
+use Rattle.suit_plans.proofs.DefenceWorths.{defences_at_decided}
+use Rattle.suit_plans.proofs.laws.defences_at_decided.Goals as goal
+
+pub returns : goal.returns
+returns c = defences_at_decided

@@ -1,0 +1,5 @@
+use Rattle.suit_plans.proofs.PlanWorths.{plans_at_decided}
+use Rattle.suit_plans.proofs.laws.plans_at_decided.Goals as goal
+
+pub returns : goal.returns
+returns c = plans_at_decided

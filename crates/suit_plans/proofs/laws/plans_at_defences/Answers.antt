@@ -1,0 +1,5 @@
+use Rattle.suit_plans.proofs.PlanWorths.{plans_at_defences}
+use Rattle.suit_plans.proofs.laws.plans_at_defences.Goals as goal
+
+pub returns : goal.returns
+returns c = plans_at_defences
