@@ -7,28 +7,28 @@ use Rattle.std.proofs.lemmas.List.{get_or-map, length-map}
 use Rattle.std.proofs.lemmas.List.Elements.{All-contains, All-contains_itself, All-filter, Contains-get_or, filter_passes}
 use Rattle.suit_game.specs.declared.question.Question.{Question}
 use Rattle.suit_game.specs.Validity.{IsValid}
-use Rattle.suit_game.proofs.EachElement.{Contains-first}
+use Rattle.suit_game.proofs.EachElement.{Contains-first, Contains-filter, Contains-range}
 use Rattle.suit_classes.specs.declared.class_moves.ClassMove.{ClassMove}
-use Rattle.suit_classes.specs.Classes.{hands_of, defence_sizes}
+use Rattle.suit_classes.specs.Classes.{hands_of, defence_sizes, sizes_of}
 use Rattle.suit_classes.specs.ClassGame.{Allows}
 use Rattle.suit_classes.specs.ClassPlaces.{class_after, class_decided, class_start}
 use Rattle.suit_classes.proofs.DecidedPlays.{class_histories_are_short}
 use Rattle.suit_classes.proofs.DefenceSizes.{range_below, sum-defence_sizes}
 use Rattle.suit_layouts.proofs.ClassWeights.{class_weights_add_up}
-use Rattle.suit_layouts.proofs.ListedCounts.{Contains-filter, Contains-range}
+use Rattle.suit_layouts.specs.ClassLayouts.{class_layouts}
 use Rattle.suit_tree.specs.declared.node.Node.{Node}
-use Rattle.suit_classes.specs.AllowedHistories.{allows, question_layouts}
+use Rattle.suit_classes.specs.AllowedHistories.{allows}
 use Rattle.suit_tree.specs.Nodes.{children_of, move_to}
 use Rattle.suit_tree.specs.Paths.{IsCounted, is_by, nodes_at, nodes_by}
-use Rattle.suit_tree.specs.Trees.{AllFit, IsTreeAt, StandsAt, allowing, counts_at, layout_places, moves_on}
+use Rattle.suit_tree.specs.Trees.{AllFit, IsTreeAt, StandsAt, allowing, counts_at, layout_indices, moves_on}
 use Rattle.suit_tree.specs.TreeLaws.{listed_counts}
-use Rattle.suit_classes.proofs.AllowedLayouts.{allows_tells, layouts_allow}
+use Rattle.suit_tree.proofs.ListedLayouts.{listed_allow, listed_tells}
 use Rattle.suit_tree.proofs.ListedHistories.{GoesOn, goes_on, goes_past}
 use Rattle.suit_tree.proofs.NodePaths.{IsOpen, no_node, one_node, tree_stands}
 
 -- a number of those below one is below it
-pub in_range_below : (count place : ℕ) → Contains (range_with_len 0 count) place → place < count
-in_range_below count place found = All-contains (λ (k : ℕ). k < count) (range_with_len 0 count) place (range_below count) found
+pub in_range_below : (count index : ℕ) → Contains (range_with_len 0 count) index → index < count
+in_range_below count index found = All-contains (λ (k : ℕ). k < count) (range_with_len 0 count) index (range_below count) found
 
 -- what a filter keeps was there, and passes
 pub kept_parts : {X : Type 0} (test : X → Bool) (xs : List X) (x : X) → Contains (filter test xs) x → Contains xs x × (test x ≡ true)
@@ -37,39 +37,39 @@ kept_parts {X} test xs x found = (
   All-contains (λ (y : X). test y ≡ true) (filter test xs) x (filter_passes test xs) found,
 )
 
--- the counts at a place are those of a class layout
-counts_listed : (question : Question) (place : ℕ) → place < length (question_layouts question) → Contains (listed_counts question) (counts_at (question_layouts question) place)
-counts_listed question place below =
-    let layouts : List (List ℕ × ℕ) = question_layouts question in
+-- the counts at an index are those of a class layout
+counts_listed : (question : Question) (index : ℕ) → index < length (class_layouts question (sizes_of question)) → Contains (listed_counts question) (counts_at (class_layouts question (sizes_of question)) index)
+counts_listed question index below =
+    let layouts : List (List ℕ × ℕ) = class_layouts question (sizes_of question) in
     let counts : List ℕ × ℕ → List ℕ = λ layout. layout.0 in
-    subst (Contains (listed_counts question)) (get_or-map counts layouts place ([], 0) [] below)
-    (Contains-get_or (listed_counts question) place [] (omega (arith, below, length-map layouts counts)))
+    subst (Contains (listed_counts question)) (get_or-map counts layouts index ([], 0) [] below)
+    (Contains-get_or (listed_counts question) index [] (omega (arith, below, length-map layouts counts)))
 
--- a node holds the places of exactly those class layouts that allow its history
-pub kept_layouts : (question : Question) (history : List ClassMove) (place : ℕ) → IsValid question
-    → Contains (allowing question history) place ↔ ((place < length (question_layouts question)) × Allows question (counts_at (question_layouts question) place) history)
+-- a node holds the indices of exactly those class layouts that allow its history
+pub kept_layouts : (question : Question) (history : List ClassMove) (index : ℕ) → IsValid question
+    → Contains (allowing question history) index ↔ ((index < length (class_layouts question (sizes_of question))) × Allows question (counts_at (class_layouts question (sizes_of question)) index) history)
 unfolding allowing
-kept_layouts question history place valid =
-    let layouts : List (List ℕ × ℕ) = question_layouts question in
+kept_layouts question history index valid =
+    let layouts : List (List ℕ × ℕ) = class_layouts question (sizes_of question) in
     let test : ℕ → Bool = λ at. allows question (counts_at layouts at) history in (
       λ found.
-          let parts = kept_parts test (layout_places layouts) place found in
-          let below = in_range_below (length layouts) place parts.0 in
-          (below, (allows_tells question (counts_at layouts place) history valid (counts_listed question place below)).0 parts.1),
+          let parts = kept_parts test (layout_indices layouts) index found in
+          let below = in_range_below (length layouts) index parts.0 in
+          (below, (listed_tells question (counts_at layouts index) history valid (counts_listed question index below)).0 parts.1),
       λ is.
-          Contains-filter test (layout_places layouts) place (Contains-range 0 (length layouts) place (omega arith) (omega (arith, is.0)))
-          ((allows_tells question (counts_at layouts place) history valid (counts_listed question place is.0)).1 is.1),
+          Contains-filter test (layout_indices layouts) index (Contains-range 0 (length layouts) index (omega arith) (omega (arith, is.0)))
+          ((listed_tells question (counts_at layouts index) history valid (counts_listed question index is.0)).1 is.1),
     )
 
 -- a list with an element is not empty
 pub some_of : (xs : List ℕ) (x : ℕ) → Contains xs x → 0 < length xs
 some_of xs x found = omega (arith, found.1)
 
--- counts of a class layout stand at some place
-place_of : (question : Question) (counts : List ℕ) → Contains (listed_counts question) counts
-    → (place : ℕ) × (place < length (question_layouts question)) × (counts_at (question_layouts question) place ≡ counts)
-place_of question counts found =
-    let layouts : List (List ℕ × ℕ) = question_layouts question in
+-- counts of a class layout stand at some index
+index_of : (question : Question) (counts : List ℕ) → Contains (listed_counts question) counts
+    → (index : ℕ) × (index < length (class_layouts question (sizes_of question))) × (counts_at (class_layouts question (sizes_of question)) index ≡ counts)
+index_of question counts found =
+    let layouts : List (List ℕ × ℕ) = class_layouts question (sizes_of question) in
     let here : List ℕ × ℕ → List ℕ = λ layout. layout.0 in
     let below : found.0 < length layouts = omega (arith, found.1, length-map layouts here) in
     (found.0, below, sym (get_or-map here layouts found.0 ([], 0) counts below) ∙ found.2)
@@ -78,11 +78,11 @@ place_of question counts found =
 counted_open : (question : Question) (counts : List ℕ) (history : List ClassMove) → IsValid question → Contains (listed_counts question) counts
     → IsCounted question counts history → IsOpen question [] history
 counted_open question counts history valid found counted =
-    let place = place_of question counts found in
+    let index = index_of question counts found in
     record {
       past = goes_on (class_start question) history counted.undecided;
-      some = some_of (allowing question history) place.0
-          ((kept_layouts question history place.0 valid).1 (place.1, subst (λ (told : List ℕ). Allows question told history) (sym place.2) counted.allowed));
+      some = some_of (allowing question history) index.0
+          ((kept_layouts question history index.0 valid).1 (index.1, subst (λ (told : List ℕ). Allows question told history) (sym index.2) counted.allowed));
     }
 
 -- at its path stands one node
@@ -93,7 +93,7 @@ one_node_at_each_path question counts history root valid found counted tree =
     (one.0, one.1, tree_stands (52 - length history) question history one.0 one.2)
 
 -- where nodes fit, each of them has what fits give
-fit_each : (Fits : ClassMove → Node → Type 0) (P : Node → Type 0) → ((move : ClassMove) (node : Node) → Fits move node → P node)
+pub fit_each : (Fits : ClassMove → Node → Type 0) (P : Node → Type 0) → ((move : ClassMove) (node : Node) → Fits move node → P node)
     → (moves : List ClassMove) (nodes : List Node) → AllFit Fits moves nodes → AllByRecursion P nodes
 unfolding AllFit
 fit_each Fits P gives [] [] fit = tt
@@ -125,10 +125,10 @@ open_counted : (question : Question) (history : List ClassMove) → IsValid ques
     → (counts : List ℕ) × Contains (listed_counts question) counts × IsCounted question counts history
 open_counted question history valid is =
     let kept : List ℕ = allowing question history in
-    let place : ℕ = get_or kept 0 0 in
-    let parts = (kept_layouts question history place valid).0 (Contains-get_or kept 0 0 is.some) in (
-      counts_at (question_layouts question) place,
-      counts_listed question place parts.0,
+    let index : ℕ = get_or kept 0 0 in
+    let parts = (kept_layouts question history index valid).0 (Contains-get_or kept 0 0 is.some) in (
+      counts_at (class_layouts question (sizes_of question)) index,
+      counts_listed question index parts.0,
       record {
         allowed = parts.1;
         undecided = λ start rest same some. goes_past (class_start question) start rest (subst (GoesOn (class_start question)) same is.past) some;
@@ -141,10 +141,14 @@ first_of (layout ∷ layouts) some = (layout.0, Contains-first layout.0 (map (λ
 
 -- some class layout has a weight
 some_layout : (question : Question) → IsValid question → (counts : List ℕ) × Contains (listed_counts question) counts
-unfolding question_layouts
 some_layout question valid =
     let sizes : List ℕ = defence_sizes (hands_of question) in
-    first_of (question_layouts question) (omega (arith, valid.has_weight, class_weights_add_up question sizes (sum-defence_sizes (hands_of question))))
+    first_of (class_layouts question (sizes_of question)) (omega (arith, valid.has_weight, class_weights_add_up question sizes (sum-defence_sizes (hands_of question))))
+
+pub some_listed : (question : Question) → IsValid question → 0 < length (class_layouts question (sizes_of question))
+some_listed question valid =
+    let some = some_layout question valid in
+    omega (arith, some.1.1, length-map (class_layouts question (sizes_of question)) (λ (layout : List ℕ × ℕ). layout.0))
 
 none_before : (question : Question) (start rest : List ClassMove) → [] ≡ start ++ rest → (rest ≡ [] → ⊥) → class_decided (class_after question start) ≡ false
 none_before question [] rest same some = absurd (some (sym same))
@@ -155,7 +159,7 @@ pub no_other_node : (question : Question) (history : List ClassMove) (root : Nod
     → ((counts : List ℕ) → Contains (listed_counts question) counts → IsCounted question counts history → ⊥) → IsTreeAt 52 question [] root → nodes_at history root ≡ []
 no_other_node question [] root valid other tree =
     let some = some_layout question valid in
-    absurd (other some.0 some.1 (record { allowed = layouts_allow question some.0 valid some.1; undecided = none_before question }))
+    absurd (other some.0 some.1 (record { allowed = listed_allow question some.0 valid some.1; undecided = none_before question }))
 no_other_node question (move ∷ path) root valid other tree = elim (cases_lt 52 (length (move ∷ path))) [
   | inl deep ↦ too_deep 52 question [] (move ∷ path) root tree deep
   | inr few ↦

@@ -4,14 +4,17 @@ use Rattle.std.specs.Prelude.{filter, nat_lt, Some, if◌then◌else◌}
 use Rattle.std.proofs.lemmas.List.Elements.{filter_agree}
 use Rattle.suit_game.specs.declared.question.Question.{Question}
 use Rattle.suit_classes.specs.declared.class_moves.ClassMove.{ClassMove}
-use Rattle.suit_classes.specs.ClassPlaces.{ClassView, class_after, class_decided, class_moves, class_step}
+use Rattle.suit_classes.specs.declared.class_view.ClassView.{ClassView}
+use Rattle.suit_classes.specs.ClassPlaces.{class_after, class_decided, class_moves, class_step}
 use Rattle.suit_classes.proofs.SmallCounts.{class_after_move}
 use Rattle.suit_classes.proofs.ToldHistories.{allows-push}
 use Rattle.suit_tree.specs.declared.node.Node.{Node}
-use Rattle.suit_classes.specs.AllowedHistories.{allows, allows_from, is_among, every_move, question_layouts}
+use Rattle.suit_classes.specs.AllowedHistories.{allows, allows_from, is_among, every_move}
+use Rattle.suit_classes.specs.Classes.{sizes_of}
 use Rattle.suit_tree.specs.Growing.{IsGrown, StandsFor, keeping, moves_from}
 use Rattle.suit_tree.specs.Nodes.{children_of, move_to}
-use Rattle.suit_tree.specs.Trees.{AllFit, IsTreeAt, StandsAt, allowing, counts_at, layout_places, moves_on}
+use Rattle.suit_tree.specs.Trees.{AllFit, IsTreeAt, StandsAt, allowing, counts_at, layout_indices, moves_on}
+use Rattle.suit_layouts.specs.ClassLayouts.{class_layouts}
 
 filtered_either : {X : Type 0} (p q : X → Bool) (x : X) (xs : List X) (b : Bool)
     → filter p (cond b (x ∷ filter q xs) (filter q xs)) ≡ cond (b && p x) (x ∷ filter p (filter q xs)) (filter p (filter q xs))
@@ -24,25 +27,25 @@ filter_both p q [] = refl
 filter_both {X} p q (x ∷ xs) =
     filtered_either p q x xs (q x) ∙ ap (λ (l : List X). cond (q x && p x) (x ∷ l) l) (filter_both p q xs)
 
--- of the places that allow a history, those at which a move may be made allow it with this move
+-- of the indices that allow a history, those at which a move may be made allow it with this move
 pub kept_allowing : (question : Question) (history : List ClassMove) (move : ClassMove)
-    → keeping (question_layouts question) (class_after question history) (allowing question history) move ≡ allowing question (history ++ move ∷ [])
+    → keeping (class_layouts question (sizes_of question)) (class_after question history) (allowing question history) move ≡ allowing question (history ++ move ∷ [])
 unfolding keeping allowing
 kept_allowing question history move =
-    let layouts : List (List ℕ × ℕ) = question_layouts question in
-    let may : ℕ → Bool = λ place. is_among (class_moves (class_after question history) (counts_at layouts place)) move in
-    let before : ℕ → Bool = λ place. allows question (counts_at layouts place) history in
-    filter_both may before (layout_places layouts)
-    ∙ filter_agree (λ place. before place && may place) (λ place. allows question (counts_at layouts place) (history ++ move ∷ []))
-    (λ place. sym (allows-push question (counts_at layouts place) history move)) (layout_places layouts)
+    let layouts : List (List ℕ × ℕ) = class_layouts question (sizes_of question) in
+    let may : ℕ → Bool = λ index. is_among (class_moves (class_after question history) (counts_at layouts index)) move in
+    let before : ℕ → Bool = λ index. allows question (counts_at layouts index) history in
+    filter_both may before (layout_indices layouts)
+    ∙ filter_agree (λ index. before index && may index) (λ index. allows question (counts_at layouts index) (history ++ move ∷ []))
+    (λ index. sym (allows-push question (counts_at layouts index) history move)) (layout_indices layouts)
 
 -- so the moves by which a position goes on are those of its history
 pub moves_from_on : (question : Question) (history : List ClassMove)
-    → moves_from (question_layouts question) (class_after question history) (allowing question history) ≡ moves_on question history
+    → moves_from (class_layouts question (sizes_of question)) (class_after question history) (allowing question history) ≡ moves_on question history
 unfolding moves_from moves_on
 moves_from_on question history =
     let view = class_after question history in
-    let layouts : List (List ℕ × ℕ) = question_layouts question in
+    let layouts : List (List ℕ × ℕ) = class_layouts question (sizes_of question) in
     ap (λ (l : List ClassMove). if class_decided view then [] else l)
     (filter_agree (λ move. nat_lt 0 (length (keeping layouts view (allowing question history) move))) (λ move. nat_lt 0 (length (allowing question (history ++ move ∷ []))))
     (λ move. ap (λ (l : List ℕ). nat_lt 0 (length l)) (kept_allowing question history move)) every_move)
@@ -60,16 +63,16 @@ stands_at : (question : Question) (history : List ClassMove) (node : Node)
     → StandsFor (class_after question history) (allowing question history) node → StandsAt question history node
 stands_at question history node stands = record { turn = stands.turn; layouts = stands.layouts; payoff = stands.payoff }
 
--- a node grown from the position after a history, with the places that allow it, is the tree at this history
+-- a node grown from the position after a history, with the indices that allow it, is the tree at this history
 pub grown_is_tree : (more : ℕ) (question : Question) (history : List ClassMove) (node : Node)
-    → IsGrown more (question_layouts question) (class_after question history) (allowing question history) node → IsTreeAt more question history node
+    → IsGrown more (class_layouts question (sizes_of question)) (class_after question history) (allowing question history) node → IsTreeAt more question history node
 unfolding IsGrown IsTreeAt
 grown_is_tree zero question history node grown = (stands_at question history node grown.0, grown.1)
 grown_is_tree (suc more) question history node grown =
     let view = class_after question history in
-    let layouts : List (List ℕ × ℕ) = question_layouts question in
-    let places = allowing question history in
-    let Grown : ClassMove → Node → Type 0 = λ move child. (move_to child ≡ Some move) × IsGrown more layouts (class_step view move) (keeping layouts view places move) child in
+    let layouts : List (List ℕ × ℕ) = class_layouts question (sizes_of question) in
+    let indices = allowing question history in
+    let Grown : ClassMove → Node → Type 0 = λ move child. (move_to child ≡ Some move) × IsGrown more layouts (class_step view move) (keeping layouts view indices move) child in
     let Tree : ClassMove → Node → Type 0 = λ move child. (move_to child ≡ Some move) × IsTreeAt more question (history ++ move ∷ []) child in (
       stands_at question history node grown.0,
       subst (λ (moves : List ClassMove). AllFit Tree moves (children_of node)) (moves_from_on question history)
@@ -78,9 +81,9 @@ grown_is_tree (suc more) question history node grown =
             fits.0,
             grown_is_tree more question (history ++ move ∷ []) child
                 (subst (λ (kept : List ℕ). IsGrown more layouts (class_after question (history ++ move ∷ [])) kept child) (kept_allowing question history move)
-                (subst (λ (after : ClassView). IsGrown more layouts after (keeping layouts view places move) child) (sym (class_after_move question history move)) fits.1)),
+                (subst (λ (after : ClassView). IsGrown more layouts after (keeping layouts view indices move) child) (sym (class_after_move question history move)) fits.1)),
           ))
-          (moves_from layouts view places) (children_of node) grown.1),
+          (moves_from layouts view indices) (children_of node) grown.1),
     )
 
 filter-all : (xs : List ℕ) → filter (λ x. true) xs ≡ xs
@@ -88,6 +91,6 @@ filter-all [] = refl
 filter-all (x ∷ xs) = ap (λ (l : List ℕ). x ∷ l) (filter-all xs)
 
 -- every class layout allows the empty history
-pub allowing_first : (question : Question) → allowing question [] ≡ layout_places (question_layouts question)
+pub allowing_first : (question : Question) → allowing question [] ≡ layout_indices (class_layouts question (sizes_of question))
 unfolding allowing allows allows_from
-allowing_first question = filter-all (layout_places (question_layouts question))
+allowing_first question = filter-all (layout_indices (class_layouts question (sizes_of question)))

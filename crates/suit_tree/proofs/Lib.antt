@@ -1,9 +1,14 @@
+pub mod ListedLayouts
+pub mod Branches
+pub mod TakenOffers
 pub mod CountedNodes
+pub mod FittedNodes
+pub mod HeldMoves
+pub mod ToldPlays
 pub mod GrowingSteps
 pub mod GrownTrees
-pub mod KeptPlaces
+pub mod KeptIndices
 pub mod ListedHistories
-pub mod MoveLists
 pub mod MovesOn
 pub mod NodePaths
 pub mod PairCounts

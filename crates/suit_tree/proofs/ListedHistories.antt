@@ -6,18 +6,20 @@ use Rattle.std.proofs.lemmas.Bool.{and_from, and_parts}
 use Rattle.std.proofs.lemmas.List.{append-nil, append_assoc, append_cancel_left, length-append}
 use Rattle.suit_game.specs.declared.question.Question.{Question}
 use Rattle.suit_game.specs.Validity.{IsValid}
-use Rattle.suit_game.proofs.EachElement.{Contains-first, Contains-later, each_at, each_gives}
+use Rattle.suit_game.proofs.EachElement.{Contains-first, Contains-later, each_at, each_gives, Contains-flat_map}
 use Rattle.suit_classes.specs.declared.class_moves.ClassMove.{ClassMove}
-use Rattle.suit_classes.specs.ClassPlaces.{ClassView, class_after, class_decided, class_moves, class_start, class_step}
+use Rattle.suit_classes.specs.declared.class_view.ClassView.{ClassView}
+use Rattle.suit_classes.specs.ClassPlaces.{class_after, class_decided, class_moves, class_start, class_step}
 use Rattle.suit_classes.proofs.DecidedPlays.{class_histories_are_short}
 use Rattle.suit_classes.proofs.SmallCounts.{class_after_move}
-use Rattle.suit_classes.specs.AllowedHistories.{allows, allows_from, is_among, question_layouts}
-use Rattle.suit_layouts.proofs.ListedCounts.{Contains-flat_map}
+use Rattle.suit_classes.specs.AllowedHistories.{allows, allows_from, is_among}
 use Rattle.suit_tree.specs.CountedHistories.{continued, counted_histories}
 use Rattle.suit_tree.specs.Paths.{IsCounted}
 use Rattle.suit_classes.proofs.SameMoves.{among-Contains, among_contained}
-use Rattle.suit_classes.proofs.AllowedLayouts.{allows_tells}
+use Rattle.suit_tree.proofs.ListedLayouts.{listed_tells}
 use Rattle.suit_classes.proofs.DistinctMoves.{IsOnce, each_flat_map, once_class_moves, once_flat_map, once_pairs, once_unless}
+use Rattle.suit_classes.specs.Classes.{sizes_of}
+use Rattle.suit_layouts.specs.ClassLayouts.{class_layouts}
 
 -- no position that moves go past is decided
 unfoldable pub GoesOn : ClassView → List ClassMove → Type 0
@@ -154,19 +156,19 @@ continued_once (suc more) question counts before =
 
 -- exactly the histories that counts allow and that go past no decided position are counted
 pub counted_exactly : (question : Question) (counts : List ℕ) (history : List ClassMove) → IsValid question
-    → Contains (map (λ (layout : List ℕ × ℕ). layout.0) (question_layouts question)) counts
+    → Contains (map (λ (layout : List ℕ × ℕ). layout.0) (class_layouts question (sizes_of question))) counts
     → Contains (counted_histories question counts) history ↔ IsCounted question counts history
 unfolding counted_histories allows
 counted_exactly question counts history valid layout = (
   λ found.
       let goes = each_at (Continues 52 question counts []) (continued 52 question counts []) history (continued_go 52 question counts []) found in
       record {
-        allowed = (allows_tells question counts history valid layout).0 (subst (λ (h : List ClassMove). allows_from counts (class_start question) h ≡ true) (sym goes.parts) goes.allowed);
+        allowed = (listed_tells question counts history valid layout).0 (subst (λ (h : List ClassMove). allows_from counts (class_start question) h ≡ true) (sym goes.parts) goes.allowed);
         undecided = λ start rest is some. goes_past (class_start question) start rest (subst (GoesOn (class_start question)) (sym goes.parts ∙ is) goes.undecided) some;
       },
   λ counted.
       Contains-continued 52 question counts [] history (class_histories_are_short question counts history counted.allowed)
-      ((allows_tells question counts history valid layout).1 counted.allowed)
+      ((listed_tells question counts history valid layout).1 counted.allowed)
       (goes_on (class_start question) history counted.undecided),
 )
 

@@ -6,18 +6,22 @@ use Rattle.std.proofs.lemmas.Bool.{and_from, and_parts, ltb-true, lt-ltb}
 use Rattle.std.proofs.lemmas.List.Elements.{All-contains, Contains-append_left, Contains-append_right, filter_passes}
 use Rattle.suit_cards.specs.declared.seats.Seat.TheVariants.{N, S}
 use Rattle.suit_game.specs.declared.question.Question.{Question}
-use Rattle.suit_game.proofs.EachElement.{Contains-first, Contains-nil, each_append, each_at, each_filter, each_gives, each_in, each_map, each_of}
+use Rattle.suit_game.proofs.EachElement.{Contains-first, Contains-nil, each_append, each_at, each_filter, each_gives, each_in, each_map, each_of, Contains-filter, Contains-map}
 use Rattle.suit_classes.specs.declared.class_moves.ClassMove.{ClassMove}
 use Rattle.suit_classes.specs.declared.class_moves.ClassMove.TheVariants.{Lead, Follow, ShowOut}
-use Rattle.suit_classes.specs.ClassMoves.{class_named, kind_of}
-use Rattle.suit_classes.specs.ClassPlaces.{ClassTrick, ClassView, Closed, Open, class_after, class_decided, class_moves, class_moves_in, class_numbers, class_start, class_step, classes_left, counted_classes, left, may_lead, or_show_out}
-use Rattle.suit_layouts.proofs.ListedCounts.{Contains-filter, Contains-map}
-use Rattle.suit_classes.specs.AllowedHistories.{allows, allows_from, is_among, every_move, question_layouts}
-use Rattle.suit_tree.specs.Trees.{allowing, counts_at, layout_places, moves_on}
+use Rattle.suit_classes.specs.MoveOrder.{class_named, kind_of}
+use Rattle.suit_classes.specs.declared.class_trick.ClassTrick.TheVariants.{Closed, Open}
+use Rattle.suit_classes.specs.declared.class_view.ClassView.{ClassView}
+use Rattle.suit_classes.specs.declared.class_trick.ClassTrick.{ClassTrick}
+use Rattle.suit_classes.specs.ClassPlaces.{class_after, class_decided, class_moves, class_moves_in, class_numbers, class_start, class_step, classes_left, counted_classes, left, may_lead, or_show_out}
+use Rattle.suit_classes.specs.AllowedHistories.{allows, allows_from, is_among, every_move}
+use Rattle.suit_tree.specs.Trees.{allowing, counts_at, layout_indices, moves_on}
 use Rattle.suit_classes.proofs.ClassNumbers.{kept_some}
 use Rattle.suit_classes.proofs.SameMoves.{among-Contains}
 use Rattle.suit_classes.proofs.DistinctMoves.{IsOnce, each_if, once_append, once_filter, once_map, once_range, once_unless}
 use Rattle.suit_classes.proofs.ToldHistories.{allows-push}
+use Rattle.suit_classes.specs.Classes.{sizes_of}
+use Rattle.suit_layouts.specs.ClassLayouts.{class_layouts}
 
 abbrev leads_n : List ClassMove
 leads_n = map (Lead N) class_numbers
@@ -152,19 +156,19 @@ allows_start counts view (move ∷ start) later allowed =
 pub allowing_start : (question : Question) (start later : List ClassMove) → 0 < length (allowing question (start ++ later)) → 0 < length (allowing question start)
 unfolding allowing allows
 allowing_start question start later some =
-    let layouts : List (List ℕ × ℕ) = question_layouts question in
-    some_kept (λ place. allows question (counts_at layouts place) (start ++ later)) (λ place. allows question (counts_at layouts place) start) (layout_places layouts)
-    (λ place allowed. allows_start (counts_at layouts place) (class_start question) start later allowed) some
+    let layouts : List (List ℕ × ℕ) = class_layouts question (sizes_of question) in
+    some_kept (λ index. allows question (counts_at layouts index) (start ++ later)) (λ index. allows question (counts_at layouts index) start) (layout_indices layouts)
+    (λ index allowed. allows_start (counts_at layouts index) (class_start question) start later allowed) some
 
 -- and its last move is one of all moves
 pub allowing_move : (question : Question) (history : List ClassMove) (move : ClassMove) → 0 < length (allowing question (history ++ move ∷ [])) → Contains every_move move
 unfolding allowing
 allowing_move question history move some =
-    let layouts : List (List ℕ × ℕ) = question_layouts question in
+    let layouts : List (List ℕ × ℕ) = class_layouts question (sizes_of question) in
     let view : ClassView = class_after question history in
-    let place = some_passes (λ place. allows question (counts_at layouts place) (history ++ move ∷ [])) (layout_places layouts) some in
-    let counts : List ℕ = counts_at layouts place.0 in
-    let parts = and_parts (allows question counts history) (is_among (class_moves view counts) move) (sym (allows-push question counts history move) ∙ place.1) in
+    let index = some_passes (λ index. allows question (counts_at layouts index) (history ++ move ∷ [])) (layout_indices layouts) some in
+    let counts : List ℕ = counts_at layouts index.0 in
+    let parts = and_parts (allows question counts history) (is_among (class_moves view counts) move) (sym (allows-push question counts history move) ∙ index.1) in
     Contains-every_move view counts move (among-Contains (class_moves view counts) move parts.1)
 
 -- a move by which some class layout allows an undecided history to go on is one of those

@@ -8,7 +8,8 @@ use Rattle.suit_game.specs.declared.question.Question.{Question}
 use Rattle.suit_game.proofs.EachElement.{Contains-cons_cases, Contains-nil, each_at, each_in}
 use Rattle.suit_classes.specs.declared.class_moves.ClassMove.{ClassMove}
 use Rattle.suit_classes.specs.ClassMoves.{same_class_move}
-use Rattle.suit_classes.specs.ClassPlaces.{ClassView, class_after, class_decided}
+use Rattle.suit_classes.specs.declared.class_view.ClassView.{ClassView}
+use Rattle.suit_classes.specs.ClassPlaces.{class_after, class_decided}
 use Rattle.suit_classes.proofs.SmallCounts.{class_after_move}
 use Rattle.suit_tree.specs.declared.node.Node.{Node}
 use Rattle.suit_tree.specs.Nodes.{children_of, move_to}
@@ -19,7 +20,7 @@ use Rattle.suit_classes.proofs.DistinctMoves.{IsOnce}
 use Rattle.suit_tree.proofs.MovesOn.{Contains-moves_on, allowing_start, moves_on-parts, once_moves_on}
 use Rattle.suit_tree.proofs.ListedHistories.{GoesOn}
 
--- the nodes that moves lead to, each in its place
+-- the nodes that moves lead to, each in its turn
 abbrev pub AreLed : (ClassMove → Node → Type 0) → List ClassMove → List Node → Type 0
 AreLed Fits moves nodes = AllFit (λ move node. (move_to node ≡ Some move) × Fits move node) moves nodes
 

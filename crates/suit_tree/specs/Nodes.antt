@@ -1,5 +1,7 @@
 -- What a node holds.
-use Rattle.std.specs.Prelude.{ℕ, List, Option}
+use Rattle.std.specs.Prelude.{ℕ, ◌==◌, Bool, List, Option}
+use Rattle.std.specs.List.{list_any}
+use Rattle.suit_cards.specs.Cards.{Indices}
 use Rattle.suit_classes.specs.declared.class_moves.ClassMove.{ClassMove}
 use Rattle.suit_classes.specs.declared.class_turn.ClassTurn.{ClassTurn}
 use Rattle.suit_tree.specs.declared.node.Node.{Node, out-Node}
@@ -12,9 +14,9 @@ move_to node = (out-Node node).by
 abbrev pub turn_at : Node → ClassTurn
 turn_at node = (out-Node node).turn
 
--- the places, in the tree's list, of the class layouts that allow the node's history
-abbrev pub layouts_at : Node → List ℕ
-layouts_at node = (out-Node node).layouts.items
+-- the indices, in the tree's list, of the class layouts that allow the node's history, rising
+abbrev pub layouts_at : Node → Indices
+layouts_at node = (out-Node node).layouts.now
 
 -- what the tricks won are worth where it is decided, and 0 elsewhere
 abbrev pub payoff_at : Node → ℕ
@@ -22,4 +24,12 @@ payoff_at node = (out-Node node).payoff
 
 -- the nodes below
 abbrev pub children_of : Node → List Node
-children_of node = (out-Node node).children.items
+children_of node = (out-Node node).children.now
+
+-- whether an index is one of some
+abbrev pub is_held : ℕ → Indices → Bool
+is_held index indices = list_any (λ other. other == index) indices
+
+-- whether a node holds the class layout at an index
+abbrev pub holds_index : ℕ → Node → Bool
+holds_index index node = is_held index (layouts_at node)

@@ -1,11 +1,13 @@
 //! The stopped class tree: all class histories of a question up to decided positions, each with the
-//! class layouts that allow it.
+//! class layouts that allow it. Its nodes stand in an arena.
 #![tactic(auto)]
 
+mod branch;
 mod growing;
 pub mod laws;
-mod move_table;
 mod node;
+mod offers;
+mod sharing;
 #[cfg(test)]
 mod tests;
 mod tree;

@@ -1,5 +1,6 @@
 //! How many pairs trees have, counted by another program or by hand, and one small tree written down.
 use super::*;
+use bumpalo::Bump;
 use std::test::Fail;
 use suit_cards::{Holding, Seat};
 use suit_classes::{ClassMove, ClassTurn};
@@ -7,21 +8,9 @@ use suit_game::{Entries, Goal, LeadAt, Question};
 
 // A question with free entries, all places vacant and no more known.
 fn plain(north: &'static str, south: &'static str, goal: Goal) -> Result<Question, Fail> {
-    Ok(Question {
-        north: Holding::read(north.as_bytes()).ok().ok_or(north)?,
-        south: Holding::read(south.as_bytes()).ok().ok_or(south)?,
-        start: LeadAt::Either,
-        regain: LeadAt::Either,
-        entries_n: Entries::Free,
-        entries_s: Entries::Free,
-        vacant_w: 13,
-        vacant_e: 13,
-        west_least: 0,
-        west_most: 13,
-        goal,
-        nodes: 200_000,
-        pivots: 100_000,
-    })
+    let north = Holding::read(north.as_bytes()).ok().ok_or(north)?;
+    let south = Holding::read(south.as_bytes()).ok().ok_or(south)?;
+    Ok(Question::plain(north, south, goal))
 }
 
 // The same with the lead in one hand first, and so many entries to North and to South.
@@ -121,7 +110,8 @@ fn counted(rt: HostRuntime) -> Result<(), Fail> {
     ];
     for (question, pairs) in cases {
         assert!(rt; question.is_valid());
-        let tree = grow(rt.alloc(), &question).ok().ok_or("no tree")?;
+        let arena = Bump::new(rt.alloc());
+        let tree = grow(rt.alloc(), &arena, &question).ok().ok_or("no tree")?;
         assert_eq!(rt; tree.pairs(), pairs);
     }
     for (question, budget) in [(suit, 52), (ace, 107), (ace, 1), (tenace, 8099)] {
@@ -130,7 +120,8 @@ fn counted(rt: HostRuntime) -> Result<(), Fail> {
             ..question
         };
         assert!(rt; small.is_valid());
-        let end = grow(rt.alloc(), &small).err();
+        let arena = Bump::new(rt.alloc());
+        let end = grow(rt.alloc(), &arena, &small).err();
         assert_eq!(rt; end, Some(TreeEnd::Nodes { budget }));
     }
     Ok(())
@@ -148,7 +139,8 @@ fn ace_facing_the_two(rt: HostRuntime) -> Result<(), Fail> {
     ];
     let question = plain("A", "2", Goal::AtLeast(1))?;
     assert!(rt; question.is_valid());
-    let tree = grow(rt.alloc(), &question).ok().ok_or("no tree")?;
+    let arena = Bump::new(rt.alloc());
+    let tree = grow(rt.alloc(), &arena, &question).ok().ok_or("no tree")?;
     assert_eq!(rt; tree.layouts().len(), 12);
     assert_eq!(rt; tree.root().by(), None);
     assert_eq!(rt; tree.root().turn(), ClassTurn::Lead);
@@ -158,7 +150,8 @@ fn ace_facing_the_two(rt: HostRuntime) -> Result<(), Fail> {
         assert_eq!(rt; child.turn(), ClassTurn::Defence(next));
     }
     let mut nodes = Vec::new(rt.alloc());
-    nodes.push(tree.root())?;
+    let root = *tree.root();
+    nodes.push(root)?;
     for held in levels {
         assert_eq!(rt; nodes.len(), held.len());
         let mut below = Vec::new(rt.alloc());
@@ -169,7 +162,7 @@ fn ace_facing_the_two(rt: HostRuntime) -> Result<(), Fail> {
             assert_eq!(rt; node.payoff(), u64::from(decided));
             for child in node.children() {
                 assert!(rt; child.by().is_some());
-                below.push(child)?;
+                below.push(*child)?;
             }
         }
         nodes = below;

@@ -4,17 +4,17 @@ ghost use Rattle.std.specs.Prelude.{◌≡◌};
 use super::Node;
 use suit_layouts::ClassLayout;
 
-/// All class histories of a question that count, as a tree.
+/// All class histories of a question that count, as a tree. Its nodes stand in an arena, and go with it.
 #[derive(Debug, Drop)]
-pub struct Tree {
+pub struct Tree<'a> {
     pub(crate) layouts: Vec<(ClassLayout, u64)>,
-    pub(crate) root: Node,
+    pub(crate) root: Node<'a>,
     pub(crate) pairs: u32,
 }
 
-impl Tree {
+impl<'a> Tree<'a> {
     /// The node of the empty history.
-    pub fn root(&self) -> &Node
+    pub fn root(&self) -> &Node<'a>
         ensures { result.now ≡ self.now.root }
     {
         &self.root

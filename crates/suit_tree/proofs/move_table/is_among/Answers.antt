@@ -1,6 +1,0 @@
-use Rattle.std.proofs.Common.{◌∙◌}
-use Rattle.suit_classes.proofs.DerivedOrders.{any_among}
-use Rattle.suit_tree.proofs.move_table.is_among.Goals as goal
-
-pub returns : goal.returns
-returns c = c.contains.ensures.value ∙ any_among c.args.moves.now c.args.mv
