@@ -1,248 +1,307 @@
--- What the best reply to a defence is worth lies between nothing and thirteen tricks of the masses.
-use Rattle.std.proofs.Common.{◌≡◌, ℕ, zero, suc, ◌≤◌, Bool, true, false, List, [], ◌∷◌, ◌++◌, map, take, refl, sym, ap, ◌∙◌, subst, arith}
+-- most_paid: what the best reply to a defence is worth lies between nothing and thirteen tricks of the masses.
+use Rattle.std.proofs.Common.{◌≡◌, ℕ, zero, suc, ◌≤◌, Bool, true, false, List, [], ◌∷◌, ◌++◌, map, take, refl, sym, ap}
+use Rattle.std.proofs.Common.{◌∙◌, subst, arith}
 use Rattle.std.specs.Prelude.{Contains, if◌then◌else◌, ℤ, pos, ◌*ℤ◌, ◌≤ℤ◌, int_lt}
 use Rattle.std.specs.Int.{int_max}
 use Rattle.std.proofs.lemmas.Int.{ints, clamps}
 use Rattle.std.proofs.lemmas.List.Elements.{All-contains, filter_agree, filter_passes}
-use Rattle.suit_num.proofs.IntegerLaws.{le-mul_right, mul_not_negative}
+use Rattle.suit_cards.specs.Cards.{Indices}
 use Rattle.suit_game.specs.declared.question.Question.{Question}
 use Rattle.suit_game.proofs.EachElement.{Contains-nil, map_same}
 use Rattle.suit_classes.specs.declared.class_moves.ClassMove.{ClassMove}
 use Rattle.suit_classes.specs.AllowedHistories.{is_among}
-use Rattle.suit_classes.specs.ClassPlaces.{class_after, class_decided, class_moves, class_payoff, class_turn}
+use Rattle.suit_classes.specs.ClassPlaces.{class_after, class_decided, class_payoff}
+use Rattle.suit_classes.specs.ClassMoves.{ClassHistory}
 use Rattle.suit_plans.specs.BestReplies.{Reply, best_of, reply_to_defence, worth_within}
-use Rattle.suit_plans.specs.Masses.{defence_mass, is_defences}
-use Rattle.suit_plans.specs.Properness.{total}
-use Rattle.suit_plans.specs.declared.defence_rows.Defence.{Defence}
-use Rattle.suit_plans.proofs.SharedSums.{within_total}
+use Rattle.suit_plans.specs.Masses.{defence_mass}
+use Rattle.suit_plans.specs.Properness.{sum_of}
+use Rattle.suit_plans.specs.ReplyLaws.{IsPaid}
+use Rattle.suit_plans.proofs.NumberSums.{first_sums, sum_kept, sums_exchanged}
+use Rattle.suit_plans.proofs.PaidWorths.{paid_most, product_paid, sum_paid}
+use Rattle.suit_plans.specs.declared.defence.Defence.{Defence}
+use Rattle.suit_plans.proofs.SharedSums.{within_sum}
 use Rattle.suit_tree.specs.declared.node.Node.{Node}
 use Rattle.suit_tree.specs.Nodes.{payoff_at}
 use Rattle.suit_tree.specs.Trees.{StandsAt, allowing, moves_on}
-use Rattle.suit_reply.specs.NodeReplies.{is_live}
-use Rattle.suit_reply.proofs.AllowingPlaces.{earned_at, mass_at}
-use Rattle.suit_reply.proofs.ExchangedTotals.{total_kept, totals_exchanged}
-use Rattle.suit_reply.proofs.HeldMoves.{Declarers, Defences, Over, WhoseTurn, held_is, held_moves, is_held, whose_turn}
-use Rattle.suit_reply.proofs.LeastBounds.{IsPaid, best_paid, first_sums, paid_most, total_paid}
-use Rattle.suit_reply.proofs.LeastCases.{west_at}
-use Rattle.suit_reply.proofs.LiveMasses.{held_at, live_total}
-use Rattle.suit_reply.proofs.MassesBelow.{going_with, goes_with, masses_stay}
-use Rattle.suit_reply.proofs.MostCases.{MostCase, masses_at, most_decided, most_moves, most_next, none_left, place_allows, place_positive, place_realised, some_on, some_place}
-use Rattle.suit_reply.proofs.ReplySteps.{worth_on}
+use Rattle.suit_reply.specs.AgainstDefence.{LayoutMasses, is_live}
+use Rattle.suit_reply.proofs.MostByNodes.AllowingLayouts.{earned_at, mass_at}
+use Rattle.suit_reply.proofs.Totals.{le_through}
+use Rattle.suit_plans.proofs.WhoseTurns.{Declarers, Defences, Over, WhoseTurn, whose_turn}
+use Rattle.suit_tree.proofs.HeldMoves.{held_is, held_moves}
+use Rattle.suit_tree.specs.Nodes.{is_held}
+use Rattle.suit_reply.proofs.HeldMoves.{IsDefencesTurn, IsGoing, layout_counts, layout_moves}
+use Rattle.suit_reply.proofs.LeastBounds.{best_paid}
+use Rattle.suit_reply.proofs.MostByNodes.LiveMasses.{held_at, live_total}
+use Rattle.suit_reply.proofs.MostByNodes.MassesBelow.{going_with, goes_with, masses_stay}
+use Rattle.suit_reply.proofs.MostByNodes.Cases.{MostCase, masses_at, most_decided, most_moves, most_next, none_left}
+use Rattle.suit_reply.proofs.MostByNodes.Cases.{index_allows, index_positive, index_realised, some_on, some_index}
+use Rattle.suit_reply.proofs.TurnReplies.{worth_on}
 
 -- the mass that the defence lets through to a class history in all class layouts
-abbrev pub mass_sum : Question → Defence → List ClassMove → ℤ
-mass_sum question defence history = total (map (λ held. held.1) (masses_at question defence history))
+abbrev pub mass_sum : Question → Defence → ClassHistory → ℤ
+mass_sum question defence history = sum_of (map (λ held. held.1) (masses_at question defence history))
 
 -- the same over all class layouts that allow the history
-abbrev mass_all : Question → Defence → List ClassMove → ℤ
-mass_all question defence history = total (map (mass_at question defence history) (allowing question history))
-
--- it is that over all class layouts that allow the history
-pub sum_all : (more : ℕ) (question : Question) (defence : Defence) (history : List ClassMove) → MostCase more question defence history
-    → mass_sum question defence history ≡ total (map (mass_at question defence history) (allowing question history))
-sum_all more question defence history is =
-    live_total (λ mass. mass) (mass_at question defence history) (allowing question history) refl (λ place found. place_positive more question defence history place is found)
-
--- and is not negative
-pub sum_positive : (more : ℕ) (question : Question) (defence : Defence) (history : List ClassMove) → MostCase more question defence history → pos 0 ≤ℤ mass_sum question defence history
-sum_positive more question defence history is =
-    subst (λ (z : ℤ). pos 0 ≤ℤ z) (sym (sum_all more question defence history is))
-    (first_sums (mass_at question defence history) (allowing question history) 0 (λ place found. place_positive more question defence history place is found)).2
-
--- ---- at a turn of the defence
-
-goes_place : (question : Question) (defence : Defence) (history : List ClassMove) (move : ClassMove)
-    → mass_all question defence (history ++ move ∷ [])
-    ≡ total (map (λ place. if goes_with question history move place then mass_at question defence (history ++ move ∷ []) place else pos 0) (allowing question history))
-goes_place question defence history move =
-    ap (λ (l : List ℕ). total (map (mass_at question defence (history ++ move ∷ [])) l)) (sym (going_with question history move))
-    ∙ total_kept (goes_with question history move) (mass_at question defence (history ++ move ∷ [])) (allowing question history)
-
-place_shares : (more : ℕ) (question : Question) (defence : Defence) (history : List ClassMove) (place : ℕ) → MostCase more question defence history → class_decided (class_after question history) ≡ false
-    → is_defences (class_turn (class_after question history)) ≡ true → Contains (allowing question history) place
-    → total (map (λ move. if goes_with question history move place then mass_at question defence (history ++ move ∷ []) place else pos 0) (moves_on question history))
-    ≡ mass_at question defence history place
-unfolding defence_mass
-place_shares more question defence history place is going theirs found =
-    let moves : List ClassMove = class_moves (class_after question history) (west_at question place) in
-    let next : ClassMove → ℤ = λ move. mass_at question defence (history ++ move ∷ []) place in
-    sym (total_kept (is_among moves) next (moves_on question history))
-    ∙ ap (λ (l : List ClassMove). total (map next l))
-    (sym (filter_agree (λ move. is_held place (allowing question (history ++ move ∷ []))) (is_among moves) (λ move. held_is question history move place is.valid found) (moves_on question history))
-    ∙ held_moves question history place is.valid found going)
-    ∙ (place_realised more question defence history place is found).shared history (place_allows question history place is.valid found) theirs
-
--- the moves share out the masses
-pub sums_shared : (more : ℕ) (question : Question) (defence : Defence) (history : List ClassMove) → MostCase (suc more) question defence history → class_decided (class_after question history) ≡ false
-    → is_defences (class_turn (class_after question history)) ≡ true
-    → total (map (λ move. mass_sum question defence (history ++ move ∷ [])) (moves_on question history)) ≡ mass_sum question defence history
-sums_shared more question defence history is going theirs =
-    let places : List ℕ = allowing question history in
-    let moves : List ClassMove = moves_on question history in
-    let term : ClassMove → ℕ → ℤ = λ move place. if goes_with question history move place then mass_at question defence (history ++ move ∷ []) place else pos 0 in
-    ap total
-    (map_same (λ move. mass_sum question defence (history ++ move ∷ [])) (λ move. total (map (term move) places)) moves
-    (λ move found. sum_all more question defence (history ++ move ∷ []) (most_next more question defence history move is found) ∙ goes_place question defence history move))
-    ∙ totals_exchanged term moves places
-    ∙ ap total
-    (map_same (λ place. total (map (λ move. term move place) moves)) (mass_at question defence history) places
-    (λ place found. place_shares (suc more) question defence history place is going theirs found))
-    ∙ sym (sum_all (suc more) question defence history is)
-
--- no move raises the sum of the masses
-pub sum_falls : (more : ℕ) (question : Question) (defence : Defence) (history : List ClassMove) (move : ClassMove) → MostCase (suc more) question defence history → Contains (moves_on question history) move
-    → mass_sum question defence (history ++ move ∷ []) ≤ℤ mass_sum question defence history
-sum_falls more question defence history move is found = at (whose_turn (class_after question history))
-  where
-    alike : (a b : ℤ) → a ≡ b → a ≤ℤ b
-    alike a b same = omega (arith, ints, same)
-
-    at : WhoseTurn (class_after question history) → mass_sum question defence (history ++ move ∷ []) ≤ℤ mass_sum question defence history
-    at (Over decided turn) = absurd (Contains-nil move (subst (λ (l : List ClassMove). Contains l move) (none_left question history decided) found))
-    at (Declarers going own not_theirs) =
-        alike (mass_sum question defence (history ++ move ∷ [])) (mass_sum question defence history)
-        (ap (λ (l : List (ℕ × ℤ)). total (map (λ held. held.1) l)) (masses_stay question defence history move is.valid own not_theirs found))
-    at (Defences going not_own theirs) =
-        subst (λ (z : ℤ). mass_sum question defence (history ++ move ∷ []) ≤ℤ z) (sums_shared more question defence history is going theirs)
-        (within_total (λ other. mass_sum question defence (history ++ other ∷ [])) (moves_on question history) move
-        (λ other there. sum_positive more question defence (history ++ other ∷ []) (most_next more question defence history other is there)) found)
-
--- ---- what a history is worth
-
--- what a payoff is worth for a mass lies within its bounds
-pub product_paid : (payoff : ℕ) (mass : ℤ) → payoff ≤ 13 → pos 0 ≤ℤ mass → IsPaid mass (pos payoff *ℤ mass)
-product_paid payoff mass few positive =
-    let some : pos 0 ≤ℤ pos payoff = omega (arith, ints) in
-    let most : pos payoff ≤ℤ pos 13 = omega (arith, ints) in
-    (mul_not_negative (pos payoff) mass some positive, le-mul_right (pos payoff) (pos 13) mass most positive)
-
-earned_paid : (more : ℕ) (question : Question) (defence : Defence) (history : List ClassMove) → MostCase more question defence history
-    → IsPaid (mass_sum question defence history) ((reply_to_defence question defence).earned history)
-earned_paid more question defence history is =
-    let payoff : ℕ = class_payoff (class_after question history) in
-    let mass : ℕ → ℤ = mass_at question defence history in
-    subst (λ (z : ℤ). IsPaid z ((reply_to_defence question defence).earned history)) (sym (sum_all more question defence history is))
-    (subst (IsPaid (mass_all question defence history)) (sym (earned_at question defence history))
-    (total_paid (λ place. pos payoff *ℤ mass place) mass (allowing question history)
-    (λ place found. product_paid payoff (mass place) (paid_most question (west_at question place) history (place_allows question history place is.valid found))
-    (place_positive more question defence history place is found))))
+abbrev mass_all : Question → Defence → ClassHistory → ℤ
+mass_all question defence history = sum_of (map (mass_at question defence history) (allowing question history))
 
 greater_paid : (mass a b : ℤ) → IsPaid mass a → IsPaid mass b → IsPaid mass (int_max a b)
-greater_paid mass a b first later = greater a b (pos 13 *ℤ mass) first.0 first.1 later.0 later.1
+greater_paid mass a b first later =
+    let most = greater a b (pos 13 *ℤ mass) first.some first.few later.some later.few in
+    record { some = most.0; few = most.1 }
   where
-    greater : (a b top : ℤ) → pos 0 ≤ℤ a → a ≤ℤ top → pos 0 ≤ℤ b → b ≤ℤ top → (pos 0 ≤ℤ int_max a b) × (int_max a b ≤ℤ top)
+    greater : (a b top : ℤ) → pos 0 ≤ℤ a → a ≤ℤ top → pos 0 ≤ℤ b → b ≤ℤ top
+        → (pos 0 ≤ℤ int_max a b) × (int_max a b ≤ℤ top)
     greater a b top p q r s = (omega (arith, ints, clamps), omega (arith, ints, clamps))
 
 -- what the moves of a turn are worth
-abbrev most_next_worth : ℕ → Question → Defence → List ClassMove → ClassMove → ℤ
-most_next_worth more question defence history move = worth_within more (reply_to_defence question defence) (history ++ move ∷ [])
+abbrev most_next_worth : ℕ → Question → Defence → ClassHistory → ClassMove → ℤ
+most_next_worth more question defence history move =
+    worth_within more (reply_to_defence question defence) (history ++ move ∷ [])
 
 -- each lies within its bounds
-abbrev ArePaid : ℕ → Question → Defence → List ClassMove → Type 0
+abbrev ArePaid : ℕ → Question → Defence → ClassHistory → Type 0
 ArePaid more question defence history = (move : ClassMove) → Contains (moves_on question history) move
     → IsPaid (mass_sum question defence (history ++ move ∷ [])) (most_next_worth more question defence history move)
 
-shared_paid : (more : ℕ) (question : Question) (defence : Defence) (history : List ClassMove) → MostCase (suc more) question defence history → ArePaid more question defence history
-    → class_decided (class_after question history) ≡ false → is_defences (class_turn (class_after question history)) ≡ true
-    → IsPaid (mass_sum question defence history) (total (map (most_next_worth more question defence history) (moves_on question history)))
-shared_paid more question defence history is paid going theirs =
-    subst (λ (mass : ℤ). IsPaid mass (total (map (most_next_worth more question defence history) (moves_on question history)))) (sums_shared more question defence history is going theirs)
-    (total_paid (most_next_worth more question defence history) (λ move. mass_sum question defence (history ++ move ∷ [])) (moves_on question history) paid)
-
-turn_paid : (more : ℕ) (question : Question) (defence : Defence) (history moves : List ClassMove) → MostCase (suc more) question defence history → ArePaid more question defence history
-    → moves_on question history ≡ moves → WhoseTurn (class_after question history)
-    → IsPaid (mass_sum question defence history) (worth_within (suc more) (reply_to_defence question defence) history)
-turn_paid more question defence history moves is paid some (Over decided turn) =
-    subst (IsPaid (mass_sum question defence history)) (sym (most_decided (suc more) question defence history decided)) (earned_paid (suc more) question defence history is)
-turn_paid more question defence history [] is paid none (Declarers going own not_theirs) = absurd (some_on (suc more) question defence history is going none)
-turn_paid more question defence history (move ∷ moves) is paid some (Declarers going own not_theirs) =
-    let reply : Reply = reply_to_defence question defence in
-    let worths : ClassMove → ℤ = most_next_worth more question defence history in
-    let whole : worth_within (suc more) reply history ≡ best_of int_max (map worths (move ∷ moves)) =
-    worth_on reply more history (move ∷ moves) (most_moves question defence history (move ∷ moves) some)
-    ∙ ap (λ (b : Bool). if b then best_of reply.best (map worths (move ∷ moves)) else total (map worths (move ∷ moves))) own in
-    subst (IsPaid (mass_sum question defence history)) (sym whole)
-    (best_paid int_max worths (mass_sum question defence history) move moves (greater_paid (mass_sum question defence history))
-    (λ other found.
-    let there : Contains (moves_on question history) other = subst (λ (l : List ClassMove). Contains l other) (sym some) found in
-    subst (λ (l : List (ℕ × ℤ)). IsPaid (total (map (λ held. held.1) l)) (worths other)) (masses_stay question defence history other is.valid own not_theirs there) (paid other there)))
-turn_paid more question defence history [] is paid none (Defences going not_own theirs) = absurd (some_on (suc more) question defence history is going none)
-turn_paid more question defence history (move ∷ moves) is paid some (Defences going not_own theirs) =
-    let reply : Reply = reply_to_defence question defence in
-    let worths : ClassMove → ℤ = most_next_worth more question defence history in
-    let whole : worth_within (suc more) reply history ≡ total (map worths (move ∷ moves)) =
-    worth_on reply more history (move ∷ moves) (most_moves question defence history (move ∷ moves) some)
-    ∙ ap (λ (b : Bool). if b then best_of reply.best (map worths (move ∷ moves)) else total (map worths (move ∷ moves))) not_own in
-    subst (IsPaid (mass_sum question defence history)) (ap (λ (l : List ClassMove). total (map worths l)) some ∙ sym whole) (shared_paid more question defence history is paid going theirs)
-
--- what the best reply to a defence is worth from a class history on is not negative, and at most thirteen tricks of the masses that come to it
-pub most_paid : (more : ℕ) (question : Question) (defence : Defence) (history : List ClassMove) → MostCase more question defence history
-    → IsPaid (mass_sum question defence history) (worth_within more (reply_to_defence question defence) history)
-unfolding worth_within
-most_paid zero question defence history is = earned_paid zero question defence history is
-most_paid (suc more) question defence history is =
-    turn_paid more question defence history (moves_on question history) is
-    (λ move found. most_paid more question defence (history ++ move ∷ []) (most_next more question defence history move is found)) refl (whose_turn (class_after question history))
-
--- ---- sums on the way
-
 within_bounds : (a b mass : ℤ) → pos 0 ≤ℤ a → a ≤ℤ b → b ≤ℤ (pos 13 *ℤ mass) → IsPaid mass a
-within_bounds a b mass positive first last = (positive, through a b (pos 13 *ℤ mass) first last)
-  where
-    through : (a b c : ℤ) → a ≤ℤ b → b ≤ℤ c → a ≤ℤ c
-    through a b c p q = omega (arith, ints)
+within_bounds a b mass positive first last =
+    record { some = positive; few = le_through a b (pos 13 *ℤ mass) first last }
 
--- nor does the sum over the first moves of a turn of the defence leave these bounds
-pub most_sums_paid : (more : ℕ) (question : Question) (defence : Defence) (history : List ClassMove) (i : ℕ) → MostCase (suc more) question defence history
-    → class_decided (class_after question history) ≡ false → is_defences (class_turn (class_after question history)) ≡ true
-    → IsPaid (mass_sum question defence history) (total (take i (map (λ move. worth_within more (reply_to_defence question defence) (history ++ move ∷ [])) (moves_on question history))))
-most_sums_paid more question defence history i is going theirs =
-    let moves : List ClassMove = moves_on question history in
-    let worths : ClassMove → ℤ = most_next_worth more question defence history in
-    let paid : ArePaid more question defence history = λ move found. most_paid more question defence (history ++ move ∷ []) (most_next more question defence history move is found) in
-    let whole = shared_paid more question defence history is paid going theirs in
-    let first = first_sums worths moves i (λ move found. (paid move found).0) in
-    within_bounds (total (take i (map worths moves))) (total (map worths moves)) (mass_sum question defence history) first.0 first.1 whole.1
+module _ (question : Question) (defence : Defence) where
+  -- it is that over all class layouts that allow the history
+  pub sum_all : (more : ℕ) (history : ClassHistory) → MostCase more question defence history
+      → mass_sum question defence history ≡ sum_of (map (mass_at question defence history) (allowing question history))
+  sum_all more history is =
+      live_total (λ mass. mass) (mass_at question defence history) (allowing question history) refl
+      (λ index found. index_positive question defence more history index is found)
 
--- none of these masses is negative
-pub live_positive : (question : Question) (defence : Defence) (history : List ClassMove) (held : ℕ × ℤ) → Contains (masses_at question defence history) held → pos 0 ≤ℤ held.1
-live_positive question defence history held found =
-    above held.1 (All-contains (λ (other : ℕ × ℤ). is_live other ≡ true) (masses_at question defence history) held (filter_passes is_live (map (held_at (mass_at question defence history)) (allowing question history))) found)
-  where
-    above : (mass : ℤ) → int_lt (pos 0) mass ≡ true → pos 0 ≤ℤ mass
-    above mass is = grind (arith, ints)
+  -- and is not negative
+  pub sum_positive : (more : ℕ) (history : ClassHistory) → MostCase more question defence history
+      → pos 0 ≤ℤ mass_sum question defence history
+  sum_positive more history is =
+      subst (λ (z : ℤ). pos 0 ≤ℤ z) (sym (sum_all more history is))
+      (first_sums (mass_at question defence history) (allowing question history) 0
+      (λ index found. index_positive question defence more history index is found)).2
 
--- a node pays at most thirteen tricks
-pub node_pays : (more : ℕ) (question : Question) (defence : Defence) (history : List ClassMove) (node : Node) → MostCase more question defence history → StandsAt question history node → payoff_at node ≤ 13
-node_pays more question defence history node is stands =
-    let at = some_place more question defence history is in
-    subst (λ (n : ℕ). n ≤ 13) (sym stands.payoff)
-    (one (class_decided (class_after question history)) (class_payoff (class_after question history)) (paid_most question (west_at question at.0) history (place_allows question history at.0 is.valid at.1)))
-  where
-    one : (b : Bool) (n : ℕ) → n ≤ 13 → (if b then n else 0) ≤ 13
-    one true n few = few
-    one false n few = omega arith
+  -- ---- at a turn of the defence
 
--- so what it pays for one of the masses lies within these bounds
-pub mass_paid : (more : ℕ) (question : Question) (defence : Defence) (history : List ClassMove) (node : Node) (held : ℕ × ℤ) → MostCase more question defence history → StandsAt question history node
-    → Contains (masses_at question defence history) held → IsPaid (mass_sum question defence history) (pos (payoff_at node) *ℤ held.1)
-mass_paid more question defence history node held is stands found =
-    let masses : List (ℕ × ℤ) = masses_at question defence history in
-    let one = product_paid (payoff_at node) held.1 (node_pays more question defence history node is stands) (live_positive question defence history held found) in
-    let within : held.1 ≤ℤ mass_sum question defence history = within_total (λ (other : ℕ × ℤ). other.1) masses held (λ other there. live_positive question defence history other there) found in
-    within_bounds (pos (payoff_at node) *ℤ held.1) (pos 13 *ℤ held.1) (mass_sum question defence history) one.0 one.1 (thirteen held.1 (mass_sum question defence history) within)
-  where
-    thirteen : (a b : ℤ) → a ≤ℤ b → (pos 13 *ℤ a) ≤ℤ (pos 13 *ℤ b)
-    thirteen a b le = omega (arith, ints)
+  goes_index : (history : ClassHistory) (move : ClassMove) → mass_all question defence (history ++ move ∷ [])
+      ≡ sum_of (map (λ index. if goes_with question history move index
+      then mass_at question defence (history ++ move ∷ []) index else pos 0) (allowing question history))
+  goes_index history move =
+      ap (λ (l : Indices). sum_of (map (mass_at question defence (history ++ move ∷ [])) l))
+      (sym (going_with question history move))
+      ∙ sum_kept (goes_with question history move) (mass_at question defence (history ++ move ∷ []))
+      (allowing question history)
 
--- and so do the sums of what it pays for the first of them
-pub node_sums_paid : (more : ℕ) (question : Question) (defence : Defence) (history : List ClassMove) (node : Node) (i : ℕ) → MostCase more question defence history → StandsAt question history node
-    → IsPaid (mass_sum question defence history) (total (take i (map (λ held. pos (payoff_at node) *ℤ held.1) (masses_at question defence history))))
-node_sums_paid more question defence history node i is stands =
-    let masses : List (ℕ × ℤ) = masses_at question defence history in
-    let pays : ℕ × ℤ → ℤ = λ held. pos (payoff_at node) *ℤ held.1 in
-    let paid : (held : ℕ × ℤ) → Contains masses held → IsPaid held.1 (pays held) =
-    λ held found. product_paid (payoff_at node) held.1 (node_pays more question defence history node is stands) (live_positive question defence history held found) in
-    let whole = total_paid pays (λ held. held.1) masses paid in
-    let first = first_sums pays masses i (λ held found. (paid held found).0) in
-    within_bounds (total (take i (map pays masses))) (total (map pays masses)) (mass_sum question defence history) first.0 first.1 whole.1
+  index_shares : (more : ℕ) (history : ClassHistory) (index : ℕ) → MostCase more question defence history
+      → IsGoing question history → IsDefencesTurn question history → Contains (allowing question history) index
+      → sum_of (map (λ move. if goes_with question history move index
+      then mass_at question defence (history ++ move ∷ []) index else pos 0) (moves_on question history))
+      ≡ mass_at question defence history index
+  unfolding defence_mass
+  index_shares more history index is going theirs found =
+      let moves : List ClassMove = layout_moves question index history in
+      let next : ClassMove → ℤ = λ move. mass_at question defence (history ++ move ∷ []) index in
+      sym (sum_kept (is_among moves) next (moves_on question history))
+      ∙ ap (λ (l : List ClassMove). sum_of (map next l))
+      (sym (filter_agree (λ move. is_held index (allowing question (history ++ move ∷ []))) (is_among moves)
+      (λ move. held_is question history move index is.valid found) (moves_on question history))
+      ∙ held_moves question history index is.valid found going)
+      ∙ (index_realised question defence more history index is found).shared history
+      (index_allows question history index is.valid found) theirs
+
+  -- the moves share out the masses
+  pub sums_shared : (more : ℕ) (history : ClassHistory) → MostCase (suc more) question defence history
+      → IsGoing question history → IsDefencesTurn question history
+      → sum_of (map (λ move. mass_sum question defence (history ++ move ∷ [])) (moves_on question history))
+      ≡ mass_sum question defence history
+  sums_shared more history is going theirs =
+      let indices : Indices = allowing question history in
+      let moves : List ClassMove = moves_on question history in
+      let term : ClassMove → ℕ → ℤ =
+      λ move index. if goes_with question history move index then mass_at question defence (history ++ move ∷ []) index
+      else pos 0 in
+      ap sum_of
+      (map_same (λ move. mass_sum question defence (history ++ move ∷ [])) (λ move. sum_of (map (term move) indices))
+      moves
+      (λ move found. sum_all more (history ++ move ∷ []) (most_next question defence more history move is found)
+      ∙ goes_index history move))
+      ∙ sums_exchanged term moves indices
+      ∙ ap sum_of
+      (map_same (λ index. sum_of (map (λ move. term move index) moves)) (mass_at question defence history) indices
+      (λ index found. index_shares (suc more) history index is going theirs found))
+      ∙ sym (sum_all (suc more) history is)
+
+  -- no move raises the sum of the masses
+  pub sum_falls : (more : ℕ) (history : ClassHistory) (move : ClassMove) → MostCase (suc more) question defence history
+      → Contains (moves_on question history) move
+      → mass_sum question defence (history ++ move ∷ []) ≤ℤ mass_sum question defence history
+  sum_falls more history move is found = at (whose_turn (class_after question history))
+    where
+      alike : (a b : ℤ) → a ≡ b → a ≤ℤ b
+      alike a b same = omega (arith, ints, same)
+
+      at : WhoseTurn (class_after question history)
+          → mass_sum question defence (history ++ move ∷ []) ≤ℤ mass_sum question defence history
+      at (Over decided turn) =
+          absurd (Contains-nil move (subst (λ (l : List ClassMove). Contains l move)
+          (none_left question history decided) found))
+      at (Declarers going own not_theirs) =
+          alike (mass_sum question defence (history ++ move ∷ [])) (mass_sum question defence history)
+          (ap (λ (l : LayoutMasses). sum_of (map (λ held. held.1) l))
+          (masses_stay question defence history move is.valid own not_theirs found))
+      at (Defences going not_own theirs) =
+          subst (λ (z : ℤ). mass_sum question defence (history ++ move ∷ []) ≤ℤ z)
+          (sums_shared more history is going theirs)
+          (within_sum (λ other. mass_sum question defence (history ++ other ∷ [])) (moves_on question history) move
+          (λ other there. sum_positive more (history ++ other ∷ [])
+          (most_next question defence more history other is there)) found)
+
+  -- ---- what a history is worth
+
+  earned_paid : (more : ℕ) (history : ClassHistory) → MostCase more question defence history
+      → IsPaid (mass_sum question defence history) ((reply_to_defence question defence).earned history)
+  earned_paid more history is =
+      let payoff : ℕ = class_payoff (class_after question history) in
+      let mass : ℕ → ℤ = mass_at question defence history in
+      subst (λ (z : ℤ). IsPaid z ((reply_to_defence question defence).earned history)) (sym (sum_all more history is))
+      (subst (IsPaid (mass_all question defence history)) (sym (earned_at question defence history))
+      (sum_paid (λ index. pos payoff *ℤ mass index) mass (allowing question history)
+      (λ index found. product_paid payoff (mass index)
+      (paid_most question (layout_counts question index) history (index_allows question history index is.valid found))
+      (index_positive question defence more history index is found))))
+
+  shared_paid : (more : ℕ) (history : ClassHistory) → MostCase (suc more) question defence history
+      → ArePaid more question defence history → IsGoing question history → IsDefencesTurn question history
+      → IsPaid (mass_sum question defence history)
+      (sum_of (map (most_next_worth more question defence history) (moves_on question history)))
+  shared_paid more history is paid going theirs =
+      subst (λ (mass : ℤ). IsPaid mass
+      (sum_of (map (most_next_worth more question defence history) (moves_on question history))))
+      (sums_shared more history is going theirs)
+      (sum_paid (most_next_worth more question defence history)
+      (λ move. mass_sum question defence (history ++ move ∷ [])) (moves_on question history) paid)
+
+  turn_paid : (more : ℕ) (history : ClassHistory) (moves : List ClassMove)
+      → MostCase (suc more) question defence history → ArePaid more question defence history
+      → moves_on question history ≡ moves → WhoseTurn (class_after question history)
+      → IsPaid (mass_sum question defence history) (worth_within (suc more) (reply_to_defence question defence) history)
+  turn_paid more history moves is paid some (Over decided turn) =
+      subst (IsPaid (mass_sum question defence history))
+      (sym (most_decided question defence (suc more) history decided)) (earned_paid (suc more) history is)
+  turn_paid more history [] is paid none (Declarers going own not_theirs) =
+      absurd (some_on question defence (suc more) history is going none)
+  turn_paid more history (move ∷ moves) is paid some (Declarers going own not_theirs) =
+      let reply : Reply = reply_to_defence question defence in
+      let worths : ClassMove → ℤ = most_next_worth more question defence history in
+      let whole : worth_within (suc more) reply history ≡ best_of int_max (map worths (move ∷ moves)) =
+      worth_on reply more history (move ∷ moves) (most_moves question defence history (move ∷ moves) some)
+      ∙ ap (λ (b : Bool). if b then best_of reply.best (map worths (move ∷ moves))
+      else sum_of (map worths (move ∷ moves))) own in
+      subst (IsPaid (mass_sum question defence history)) (sym whole)
+      (best_paid int_max worths (mass_sum question defence history) move moves
+      (greater_paid (mass_sum question defence history))
+      (λ other found.
+      let there : Contains (moves_on question history) other =
+      subst (λ (l : List ClassMove). Contains l other) (sym some) found in
+      subst (λ (l : LayoutMasses). IsPaid (sum_of (map (λ held. held.1) l)) (worths other))
+      (masses_stay question defence history other is.valid own not_theirs there) (paid other there)))
+  turn_paid more history [] is paid none (Defences going not_own theirs) =
+      absurd (some_on question defence (suc more) history is going none)
+  turn_paid more history (move ∷ moves) is paid some (Defences going not_own theirs) =
+      let reply : Reply = reply_to_defence question defence in
+      let worths : ClassMove → ℤ = most_next_worth more question defence history in
+      let whole : worth_within (suc more) reply history ≡ sum_of (map worths (move ∷ moves)) =
+      worth_on reply more history (move ∷ moves) (most_moves question defence history (move ∷ moves) some)
+      ∙ ap (λ (b : Bool). if b then best_of reply.best (map worths (move ∷ moves))
+      else sum_of (map worths (move ∷ moves))) not_own in
+      subst (IsPaid (mass_sum question defence history))
+      (ap (λ (l : List ClassMove). sum_of (map worths l)) some ∙ sym whole)
+      (shared_paid more history is paid going theirs)
+
+  -- what the best reply to a defence is worth from a class history on is not negative, and at most thirteen tricks of
+  -- the masses that come to it
+  pub most_paid : (more : ℕ) (history : ClassHistory) → MostCase more question defence history
+      → IsPaid (mass_sum question defence history) (worth_within more (reply_to_defence question defence) history)
+  unfolding worth_within
+  most_paid zero history is = earned_paid zero history is
+  most_paid (suc more) history is =
+      turn_paid more history (moves_on question history) is
+      (λ move found. most_paid more (history ++ move ∷ []) (most_next question defence more history move is found)) refl
+      (whose_turn (class_after question history))
+
+  -- ---- sums on the way
+
+  -- nor does the sum over the first moves of a turn of the defence leave these bounds
+  pub most_sums_paid : (more : ℕ) (history : ClassHistory) (i : ℕ) → MostCase (suc more) question defence history
+      → IsGoing question history → IsDefencesTurn question history
+      → IsPaid (mass_sum question defence history)
+      (sum_of (take i (map (λ move. worth_within more (reply_to_defence question defence) (history ++ move ∷ []))
+      (moves_on question history))))
+  most_sums_paid more history i is going theirs =
+      let moves : List ClassMove = moves_on question history in
+      let worths : ClassMove → ℤ = most_next_worth more question defence history in
+      let paid : ArePaid more question defence history =
+      λ move found. most_paid more (history ++ move ∷ []) (most_next question defence more history move is found) in
+      let whole = shared_paid more history is paid going theirs in
+      let first = first_sums worths moves i (λ move found. (paid move found).some) in
+      within_bounds (sum_of (take i (map worths moves))) (sum_of (map worths moves)) (mass_sum question defence history)
+      first.0 first.1 whole.few
+
+  -- none of these masses is negative
+  pub live_positive : (history : ClassHistory) (held : ℕ × ℤ) → Contains (masses_at question defence history) held
+      → pos 0 ≤ℤ held.1
+  live_positive history held found =
+      above held.1 (All-contains (λ (other : ℕ × ℤ). is_live other ≡ true) (masses_at question defence history) held
+      (filter_passes is_live (map (held_at (mass_at question defence history)) (allowing question history))) found)
+    where
+      above : (mass : ℤ) → int_lt (pos 0) mass ≡ true → pos 0 ≤ℤ mass
+      above mass is = grind (arith, ints)
+
+  -- a node pays at most thirteen tricks
+  pub node_pays : (more : ℕ) (history : ClassHistory) (node : Node) → MostCase more question defence history
+      → StandsAt question history node → payoff_at node ≤ 13
+  node_pays more history node is stands =
+      let at = some_index question defence more history is in
+      subst (λ (n : ℕ). n ≤ 13) (sym stands.payoff)
+      (one (class_decided (class_after question history)) (class_payoff (class_after question history))
+      (paid_most question (layout_counts question at.0) history (index_allows question history at.0 is.valid at.1)))
+    where
+      one : (b : Bool) (n : ℕ) → n ≤ 13 → (if b then n else 0) ≤ 13
+      one true n few = few
+      one false n few = omega arith
+
+  -- so what it pays for one of the masses lies within these bounds
+  pub mass_paid : (more : ℕ) (history : ClassHistory) (node : Node) (held : ℕ × ℤ)
+      → MostCase more question defence history → StandsAt question history node
+      → Contains (masses_at question defence history) held
+      → IsPaid (mass_sum question defence history) (pos (payoff_at node) *ℤ held.1)
+  mass_paid more history node held is stands found =
+      let masses : LayoutMasses = masses_at question defence history in
+      let one =
+      product_paid (payoff_at node) held.1 (node_pays more history node is stands) (live_positive history held found) in
+      let within : held.1 ≤ℤ mass_sum question defence history =
+      within_sum (λ (other : ℕ × ℤ). other.1) masses held (λ other there. live_positive history other there) found in
+      within_bounds (pos (payoff_at node) *ℤ held.1) (pos 13 *ℤ held.1) (mass_sum question defence history) one.some
+      one.few (thirteen held.1 (mass_sum question defence history) within)
+    where
+      thirteen : (a b : ℤ) → a ≤ℤ b → (pos 13 *ℤ a) ≤ℤ (pos 13 *ℤ b)
+      thirteen a b le = omega (arith, ints)
+
+  -- and so do the sums of what it pays for the first of them
+  pub node_sums_paid : (more : ℕ) (history : ClassHistory) (node : Node) (i : ℕ)
+      → MostCase more question defence history → StandsAt question history node
+      → IsPaid (mass_sum question defence history)
+      (sum_of (take i (map (λ held. pos (payoff_at node) *ℤ held.1) (masses_at question defence history))))
+  node_sums_paid more history node i is stands =
+      let masses : LayoutMasses = masses_at question defence history in
+      let pays : ℕ × ℤ → ℤ = λ held. pos (payoff_at node) *ℤ held.1 in
+      let paid : (held : ℕ × ℤ) → Contains masses held → IsPaid held.1 (pays held) =
+      λ held found. product_paid (payoff_at node) held.1 (node_pays more history node is stands)
+      (live_positive history held found) in
+      let whole = sum_paid pays (λ held. held.1) masses paid in
+      let first = first_sums pays masses i (λ held found. (paid held found).some) in
+      within_bounds (sum_of (take i (map pays masses))) (sum_of (map pays masses)) (mass_sum question defence history)
+      first.0 first.1 whole.few

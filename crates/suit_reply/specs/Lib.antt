@@ -1,4 +1,5 @@
-pub mod Gathering
-pub mod LeastNodes
-pub mod MostNodes
+pub mod AgainstDefence
+pub mod AgainstPlan
+pub mod NodeMoves
 pub mod NodeReplies
+pub mod Turns

@@ -1,14 +1,17 @@
 //! Best replies: the least that a plan earns, and the most that a defence lets declarer earn.
 #![tactic(auto)]
 
-mod found;
-mod leasts;
-mod mosts;
-mod nodes;
+mod against_defence;
+mod against_plan;
+mod chosen_move;
+mod node_moves;
+mod node_reply;
 #[cfg(test)]
 mod tests;
+mod turn_rule;
+mod turn_so_far;
 
-pub use leasts::least;
-pub use mosts::most;
+pub use against_defence::most;
+pub use against_plan::least;
 pub use suit_layouts::Memory;
 pub use suit_plans::{DeclarerMoves as DeclarerReply, DefenceMoves as DefenceReply};

@@ -1,6 +1,7 @@
 //! Best replies: the answers of another program, which was written from the rules.
 use super::*;
 use arrayvec::ArrayVec;
+use bumpalo::Bump;
 use std::alloc::Global;
 use std::test::Fail;
 use suit_cards::{Holding, Seat};
@@ -23,20 +24,13 @@ type Case = (i128, Lines, i128, usize, Lines);
 
 // A question where South leads first and no hand has an entry.
 fn led(north: &'static str, south: &'static str, goal: Goal) -> Result<Question, Fail> {
+    let north = Holding::read(north.as_bytes()).ok().ok_or(north)?;
+    let south = Holding::read(south.as_bytes()).ok().ok_or(south)?;
     Ok(Question {
-        north: Holding::read(north.as_bytes()).ok().ok_or(north)?,
-        south: Holding::read(south.as_bytes()).ok().ok_or(south)?,
         start: LeadAt::S,
-        regain: LeadAt::Either,
         entries_n: Entries::Count(0),
         entries_s: Entries::Count(0),
-        vacant_w: 13,
-        vacant_e: 13,
-        west_least: 0,
-        west_most: 13,
-        goal,
-        nodes: 200_000,
-        pivots: 100_000,
+        ..Question::plain(north, south, goal)
     })
 }
 
@@ -134,7 +128,8 @@ fn least_of(
     if !question.is_valid() {
         return Err(Fail::from("not valid"));
     }
-    let tree = grow(alloc, question).ok().ok_or("no tree")?;
+    let arena = Bump::new(alloc);
+    let tree = grow(alloc, &arena, question).ok().ok_or("no tree")?;
     let plan = plan(alloc, den, lines)?;
     if proper_plan(question, &plan).is_err() {
         return Err(Fail::from("not proper"));
@@ -152,7 +147,8 @@ fn most_of(
     if !question.is_valid() {
         return Err(Fail::from("not valid"));
     }
-    let tree = grow(alloc, question).ok().ok_or("no tree")?;
+    let arena = Bump::new(alloc);
+    let tree = grow(alloc, &arena, question).ok().ok_or("no tree")?;
     let defence = defence(alloc, den, lines)?;
     if proper_defence(question, &defence).is_err() {
         return Err(Fail::from("not proper"));
