@@ -1,0 +1,5 @@
+use Rattle.suit_lift.proofs.NamedLayouts.{layout_share}
+use Rattle.suit_lift.proofs.laws.layout_share.Goals as goal
+
+pub returns : goal.returns
+returns c = layout_share

@@ -1,0 +1,5 @@
+use Rattle.suit_lift.proofs.OneValue.{one_certified_value}
+use Rattle.suit_lift.proofs.laws.one_certified_value.Goals as goal
+
+pub returns : goal.returns
+returns c = one_certified_value

@@ -1,0 +1,5 @@
+use Rattle.suit_lift.proofs.PlanPays.{plans_pay}
+use Rattle.suit_lift.proofs.laws.plans_pay.Goals as goal
+
+pub returns : goal.returns
+returns c = plans_pay

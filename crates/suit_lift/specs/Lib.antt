@@ -1,0 +1,5 @@
+pub mod Lifts
+pub mod Certified
+pub mod LiftLaws
+pub mod Naming
+pub mod Examples
