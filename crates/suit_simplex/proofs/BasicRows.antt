@@ -1,10 +1,10 @@
--- The row in which a column is basic, by its place.
+-- The row in which a column is basic, by its index (`basic_value`).
 use Rattle.std.proofs.Common.{◌≡◌, ℕ, zero, suc, ◌+◌, ◌<◌, ◌≤◌, Bool, true, false, List, [], ◌∷◌, length, get_or, refl, sym, ap, ◌∙◌, Some, None, arith, cond, inl, inr, ◌++◌, length-append, eqb-true}
 use Rattle.std.specs.Prelude.{ℤ, pos, ◌*ℤ◌, ◌==◌, find, position, slice_get, nat_lt}
 use Rattle.std.specs.List.{position_or_len}
 use Rattle.suit_num.specs.declared.fraction.Frac.{Frac}
-use Rattle.suit_simplex.specs.Tableaus.{TableauRow, bound, entry}
-use Rattle.suit_simplex.specs.Ends.{IsBasicValue}
+use Rattle.suit_tableaus.specs.Tableaus.{TableauRow, bound, entry}
+use Rattle.suit_tableaus.specs.Ends.{IsBasicValue}
 use Rattle.suit_simplex.specs.Dense.{row_at, seen}
 use Rattle.suit_simplex.specs.declared.dense.Dense.{Dense}
 use Rattle.suit_simplex.proofs.LeavingRows.{seen_row, length-seen}
@@ -17,31 +17,31 @@ use Rattle.std.proofs.lemmas.List.Quantifiers.{position-Some}
 use Rattle.std.proofs.lemmas.List.Sums.{position_or_len_is, fails_before_first}
 use Rattle.std.proofs.lemmas.Option.{get_or_from_slice_get, slice_get_past, slice_get_within}
 
-row_read : (dense : Dense) (place : ℕ) (d : TableauRow) → place < length dense.basics.items → get_or (seen dense).rows place d ≡ row_at dense place
-row_read dense place d less = get_or_from_slice_get (seen dense).rows place (row_at dense place) d (seen_row dense place less)
+row_read : (dense : Dense) (index : ℕ) (d : TableauRow) → index < length dense.basics.items → get_or (seen dense).rows index d ≡ row_at dense index
+row_read dense index d less = get_or_from_slice_get (seen dense).rows index (row_at dense index) d (seen_row dense index less)
 
 tested : ℕ → TableauRow → Bool
 tested column row = row.basic == column
 
-tested_at : (dense : Dense) (column place : ℕ) (d : TableauRow) (b : Bool) → place < length dense.basics.items → (get_or dense.basics.items place 0 == column) ≡ b → tested column (get_or (seen dense).rows place d) ≡ b
+tested_at : (dense : Dense) (column index : ℕ) (d : TableauRow) (b : Bool) → index < length dense.basics.items → (get_or dense.basics.items index 0 == column) ≡ b → tested column (get_or (seen dense).rows index d) ≡ b
 unfolding tested
-tested_at dense column place d b less h = ap (λ (row : TableauRow). row.basic == column) (row_read dense place d less) ∙ h
+tested_at dense column index d b less h = ap (λ (row : TableauRow). row.basic == column) (row_read dense index d less) ∙ h
 
-find_tested : (dense : Dense) (column place : ℕ) → position_or_len (tested column) (seen dense).rows ≡ place → find (λ row. row.basic == column) (seen dense).rows ≡ slice_get (seen dense).rows place
+find_tested : (dense : Dense) (column index : ℕ) → position_or_len (tested column) (seen dense).rows ≡ index → find (λ row. row.basic == column) (seen dense).rows ≡ slice_get (seen dense).rows index
 unfolding tested
-find_tested dense column place e = find_at (λ (row : TableauRow). row.basic == column) (seen dense).rows ∙ ap (slice_get (seen dense).rows) e
+find_tested dense column index e = find_at (λ (row : TableauRow). row.basic == column) (seen dense).rows ∙ ap (slice_get (seen dense).rows) e
 
 -- the row of a column stands where the column stands among the basic columns
-pub found_row_at : (dense : Dense) (column place : ℕ) → position (λ basic. basic == column) dense.basics.items ≡ Some place → (place < length dense.basics.items) × (find (λ row. row.basic == column) (seen dense).rows ≡ Some (row_at dense place)) × ((row_at dense place).basic ≡ column)
-found_row_at dense column place h =
-    let is = position-Some (λ (basic : ℕ). basic == column) dense.basics.items place 0 h in
-    let d : TableauRow = row_at dense place in
-    let first : position_or_len (tested column) (seen dense).rows ≡ place = position_or_len_is (tested column) (seen dense).rows place d (omega (arith, is.0, length-seen dense)) (λ k less. tested_at dense column k d false (omega (arith, is.0)) (is.2 k less)) (λ less. tested_at dense column place d true is.0 is.1) in
-    (is.0, find_tested dense column place first ∙ seen_row dense place is.0, eqb-true (get_or dense.basics.items place 0) column is.1)
+pub found_row_at : (dense : Dense) (column index : ℕ) → position (λ basic. basic == column) dense.basics.items ≡ Some index → (index < length dense.basics.items) × (find (λ row. row.basic == column) (seen dense).rows ≡ Some (row_at dense index)) × ((row_at dense index).basic ≡ column)
+found_row_at dense column index h =
+    let is = position-Some (λ (basic : ℕ). basic == column) dense.basics.items index 0 h in
+    let d : TableauRow = row_at dense index in
+    let first : position_or_len (tested column) (seen dense).rows ≡ index = position_or_len_is (tested column) (seen dense).rows index d (omega (arith, is.0, length-seen dense)) (λ k less. tested_at dense column k d false (omega (arith, is.0)) (is.2 k less)) (λ less. tested_at dense column index d true is.0 is.1) in
+    (is.0, find_tested dense column index first ∙ seen_row dense index is.0, eqb-true (get_or dense.basics.items index 0) column is.1)
 
-missed : (less : Bool) (place : ℕ) → cond less (Some place) None ≡ None → less ≡ false
-missed true place e = absurd (cc)
-missed false place e = refl
+missed : (less : Bool) (index : ℕ) → cond less (Some index) None ≡ None → less ≡ false
+missed true index e = absurd (cc)
+missed false index e = refl
 
 -- and there is none where the column is not basic
 pub found_none : (dense : Dense) (column : ℕ) → position (λ basic. basic == column) dense.basics.items ≡ None → find (λ row. row.basic == column) (seen dense).rows ≡ None
@@ -55,8 +55,8 @@ found_none dense column h =
 
 -- ---- the values of the columns
 
-pub basic_value : (dense : Dense) (column place : ℕ) (part : Frac) (b e : ℤ) → find (λ row. row.basic == column) (seen dense).rows ≡ Some (row_at dense place) → b ≡ bound (row_at dense place) → e ≡ entry (row_at dense place) column → part.num *ℤ e ≡ b *ℤ part.den → IsBasicValue column (find (λ row. row.basic == column) (seen dense).rows) part
-basic_value dense column place part b e found is_b is_e h = rw found (rw (is_b, is_e) at h)
+pub basic_value : (dense : Dense) (column index : ℕ) (part : Frac) (b e : ℤ) → find (λ row. row.basic == column) (seen dense).rows ≡ Some (row_at dense index) → b ≡ bound (row_at dense index) → e ≡ entry (row_at dense index) column → part.num *ℤ e ≡ b *ℤ part.den → IsBasicValue column (find (λ row. row.basic == column) (seen dense).rows) part
+basic_value dense column index part b e found is_b is_e h = rw found (rw (is_b, is_e) at h)
 
 pub free_value : (dense : Dense) (column : ℕ) (part : Frac) → find (λ row. row.basic == column) (seen dense).rows ≡ None → part.num *ℤ pos 1 ≡ pos 0 *ℤ part.den → IsBasicValue column (find (λ row. row.basic == column) (seen dense).rows) part
 free_value dense column part found h = rw found (sym (mul-one part.num) ∙ h ∙ zero-*ℤ part.den)

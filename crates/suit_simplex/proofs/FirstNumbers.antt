@@ -1,4 +1,4 @@
--- The numbers of the first tableau, as they are written one behind another.
+-- The numbers of the first tableau, as they are written one behind another (`first_seen`).
 use Rattle.std.proofs.Common.{◌≡◌, ℕ, zero, suc, ◌+◌, ◌*◌, ◌<◌, ◌≤◌, Bool, List, [], ◌∷◌, ◌++◌, length, map, take, drop, replicate, refl, sym, ap, ap₂, ◌∙◌, cond, All, arith, append_assoc, append-nil, length-append, true, false, lit<, get_or}
 use Rattle.std.proofs.lemmas.Int.{ints}
 use Rattle.std.specs.Prelude.{ℤ, pos, neg_ℤ, ◌==◌}
@@ -9,14 +9,15 @@ use Rattle.std.proofs.lemmas.List.Elements.{All-nil, All-push, All-head, All-tai
 use Rattle.std.proofs.lemmas.List.FromFn.{map-range_with_len_more}
 use Rattle.std.proofs.Math.Seq.{take-append_seam, drop-append_seam}
 use Rattle.suit_num.specs.Narrow.{IsNarrow}
-use Rattle.suit_simplex.specs.Points.{number_at}
-use Rattle.suit_simplex.specs.declared.program.Program.{Program}
-use Rattle.suit_simplex.specs.declared.program.ProgramRow.{ProgramRow}
-use Rattle.suit_simplex.specs.Tableaus.{TableauRow, unit_numbers, Tableau, first_row, first_tableau}
+use Rattle.std.proofs.lemmas.List.{take_all}
+use Rattle.suit_tableaus.specs.Points.{number_at}
+use Rattle.suit_tableaus.specs.declared.program.Program.{Program}
+use Rattle.suit_tableaus.specs.declared.program.ProgramRow.{ProgramRow}
+use Rattle.suit_tableaus.specs.Tableaus.{TableauRow, unit_numbers, Tableau, first_row, first_tableau}
 use Rattle.suit_simplex.specs.declared.dense.Dense.{Dense}
-use Rattle.suit_simplex.specs.Programs.{IsWellFormed}
+use Rattle.suit_tableaus.specs.Programs.{IsWellFormed}
 use Rattle.suit_simplex.specs.Dense.{rows_seen, seen, IsKept}
-use Rattle.suit_simplex.proofs.FirstTableaus.{first_row_at, length-first, first_is_sound}
+use Rattle.suit_tableaus.proofs.FirstTableaus.{first_row_at, length-first, first_is_sound}
 
 -- numbers with more of them behind, all narrow
 pub record IsWritten (was now more : List ℤ) : Type 0 where
@@ -38,19 +39,19 @@ replicate_next (suc n) =
     let e : suc n + 1 ≡ suc (n + 1) = omega arith in
     rw e (ap (λ (xs : List ℤ). pos 0 ∷ xs) (replicate_next n))
 
-pub unit_next : (n place : ℕ) → unit_numbers (n + 1) place ≡ unit_numbers n place ++ cond (n == place) (pos 1) (pos 0) ∷ []
+pub unit_next : (n index : ℕ) → unit_numbers (n + 1) index ≡ unit_numbers n index ++ cond (n == index) (pos 1) (pos 0) ∷ []
 unfolding unit_numbers
-unit_next n place = map-range_with_len_more (λ (other : ℕ). cond (other == place) (pos 1) (pos 0)) 0 n n (omega arith)
+unit_next n index = map-range_with_len_more (λ (other : ℕ). cond (other == index) (pos 1) (pos 0)) 0 n n (omega arith)
 
-pub unit_none : (place : ℕ) → unit_numbers 0 place ≡ []
+pub unit_none : (index : ℕ) → unit_numbers 0 index ≡ []
 unfolding unit_numbers
-unit_none place = refl
+unit_none index = refl
 
 pub unit_narrow : (b : Bool) → IsNarrow (cond b (pos 1) (pos 0))
 unit_narrow b = elim b as (λ (t : Bool). IsNarrow (cond t (pos 1) (pos 0))) [ true ↦ lit< tt | false ↦ lit< tt ]
 
-pub negated_next : (costs : List ℤ) (place : ℕ) → place < length costs → map neg_ℤ (take (place + 1) costs) ≡ map neg_ℤ (take place costs) ++ neg_ℤ (number_at costs place) ∷ []
-negated_next costs place less = ap (map neg_ℤ) (take_more costs place (pos 0) less) ∙ map-append neg_ℤ (take place costs) (number_at costs place ∷ [])
+pub negated_next : (costs : List ℤ) (index : ℕ) → index < length costs → map neg_ℤ (take (index + 1) costs) ≡ map neg_ℤ (take index costs) ++ neg_ℤ (number_at costs index) ∷ []
+negated_next costs index less = ap (map neg_ℤ) (take_more costs index (pos 0) less) ∙ map-append neg_ℤ (take index costs) (number_at costs index ∷ [])
 
 pub neg_narrow : (z : ℤ) → IsNarrow z → IsNarrow (neg_ℤ z)
 neg_narrow z h = grind (arith, ints)
@@ -82,10 +83,10 @@ behind_flat rows width rest widths = rw (← length_flat rows width widths) (dro
 
 -- ---- the first tableau
 
--- the first rows up to a place are written
-pub record IsBegun (program : Program) (numbers : List ℤ) (basics : List ℕ) (place : ℕ) : Type 0 where
-  pub numbers_are : numbers ≡ flat_map (λ row. row.numbers) (take place (first_tableau program).rows)
-  pub basics_are : basics ≡ map (λ row. row.basic) (take place (first_tableau program).rows)
+-- the first rows up to an index are written
+pub record IsBegun (program : Program) (numbers : List ℤ) (basics : List ℕ) (index : ℕ) : Type 0 where
+  pub numbers_are : numbers ≡ flat_map (λ row. row.numbers) (take index (first_tableau program).rows)
+  pub basics_are : basics ≡ map (λ row. row.basic) (take index (first_tableau program).rows)
   pub narrow : All IsNarrow numbers
 
 pub nothing_begun : (program : Program) (numbers : List ℤ) (basics : List ℕ) → numbers ≡ [] → basics ≡ [] → IsBegun program numbers basics 0
@@ -95,36 +96,30 @@ nothing_begun program numbers basics e f = record {
   narrow = rw e (All-nil IsNarrow);
 }
 
-one_more : (program : Program) (place : ℕ) (other : ProgramRow) → place < length program.rows → other ≡ get_or program.rows place other → take (place + 1) (first_tableau program).rows ≡ take place (first_tableau program).rows ++ first_row (length program.costs) (length program.rows) (place, other) ∷ []
-one_more program place other less e =
-    let d : TableauRow = first_row (length program.costs) (length program.rows) (place, other) in
-    take_more (first_tableau program).rows place d (omega (arith, length-first program))
-    ∙ ap (λ (row : TableauRow). take place (first_tableau program).rows ++ row ∷ []) (first_row_at program place other less ∙ ap (λ (r : ProgramRow). first_row (length program.costs) (length program.rows) (place, r)) (sym e))
+one_more : (program : Program) (index : ℕ) (other : ProgramRow) → index < length program.rows → other ≡ get_or program.rows index other → take (index + 1) (first_tableau program).rows ≡ take index (first_tableau program).rows ++ first_row (length program.costs) (length program.rows) (index, other) ∷ []
+one_more program index other less e =
+    let d : TableauRow = first_row (length program.costs) (length program.rows) (index, other) in
+    take_more (first_tableau program).rows index d (omega (arith, length-first program))
+    ∙ ap (λ (row : TableauRow). take index (first_tableau program).rows ++ row ∷ []) (first_row_at program index other less ∙ ap (λ (r : ProgramRow). first_row (length program.costs) (length program.rows) (index, r)) (sym e))
 
-pub one_begun : (program : Program) (numbers : List ℤ) (basics : List ℕ) (place : ℕ) (other : ProgramRow) (next : List ℤ) (nexts : List ℕ) → place < length program.rows → other ≡ get_or program.rows place other → IsBegun program numbers basics place → next ≡ numbers ++ (first_row 0 (length program.rows) (place, other)).numbers → All IsNarrow next → nexts ≡ basics ++ (length program.costs + place) ∷ [] → IsBegun program next nexts (place + 1)
-one_begun program numbers basics place other next nexts less is before e narrow f =
-    let more = one_more program place other less is in
-    let row : TableauRow = first_row (length program.costs) (length program.rows) (place, other) in
+pub one_begun : (program : Program) (numbers : List ℤ) (basics : List ℕ) (index : ℕ) (other : ProgramRow) (next : List ℤ) (nexts : List ℕ) → index < length program.rows → other ≡ get_or program.rows index other → IsBegun program numbers basics index → next ≡ numbers ++ (first_row 0 (length program.rows) (index, other)).numbers → All IsNarrow next → nexts ≡ basics ++ (length program.costs + index) ∷ [] → IsBegun program next nexts (index + 1)
+one_begun program numbers basics index other next nexts less is before e narrow f =
+    let more = one_more program index other less is in
+    let row : TableauRow = first_row (length program.costs) (length program.rows) (index, other) in
     record {
       numbers_are =
           e
           ∙ ap (λ (xs : List ℤ). xs ++ row.numbers) before.numbers_are
-          ∙ ap (λ (xs : List ℤ). flat_map (λ (r : TableauRow). r.numbers) (take place (first_tableau program).rows) ++ xs) (sym (append-nil row.numbers))
-          ∙ sym (flat_map-append (λ (r : TableauRow). r.numbers) (take place (first_tableau program).rows) (row ∷ []))
+          ∙ ap (λ (xs : List ℤ). flat_map (λ (r : TableauRow). r.numbers) (take index (first_tableau program).rows) ++ xs) (sym (append-nil row.numbers))
+          ∙ sym (flat_map-append (λ (r : TableauRow). r.numbers) (take index (first_tableau program).rows) (row ∷ []))
           ∙ ap (flat_map (λ (r : TableauRow). r.numbers)) (sym more);
       basics_are =
           f
-          ∙ ap (λ (xs : List ℕ). xs ++ (length program.costs + place) ∷ []) before.basics_are
-          ∙ sym (map-append (λ (r : TableauRow). r.basic) (take place (first_tableau program).rows) (row ∷ []))
+          ∙ ap (λ (xs : List ℕ). xs ++ (length program.costs + index) ∷ []) before.basics_are
+          ∙ sym (map-append (λ (r : TableauRow). r.basic) (take index (first_tableau program).rows) (row ∷ []))
           ∙ ap (map (λ (r : TableauRow). r.basic)) (sym more);
       narrow = narrow;
     }
-
-take_past : (rows : List TableauRow) (place : ℕ) → length rows ≤ place → take place rows ≡ rows
-take_past [] zero h = refl
-take_past [] (suc place) h = refl
-take_past (x ∷ xs) zero h = absurd (omega arith)
-take_past (x ∷ xs) (suc place) h = ap (λ zs. x ∷ zs) (take_past xs place (omega arith))
 
 -- all numbers are written
 pub record IsFirst (program : Program) (dense : Dense) : Type 0 where
@@ -134,10 +129,10 @@ pub record IsFirst (program : Program) (dense : Dense) : Type 0 where
   pub narrow : All IsNarrow dense.numbers.items
   pub leaver : dense.leaver.items ≡ replicate (suc dense.width) (pos 0)
 
-pub last_begun : (program : Program) (dense : Dense) (numbers : List ℤ) (basics : List ℕ) (place : ℕ) → length program.rows ≤ place → IsBegun program numbers basics place → dense.width ≡ suc (length program.costs + length program.rows) → dense.basics.items ≡ basics → dense.numbers.items ≡ numbers ++ pos 1 ∷ pos 0 ∷ map neg_ℤ program.costs ++ replicate (length program.rows) (pos 0) → All IsNarrow dense.numbers.items → dense.leaver.items ≡ replicate (suc dense.width) (pos 0) → IsFirst program dense
+pub last_begun : (program : Program) (dense : Dense) (numbers : List ℤ) (basics : List ℕ) (index : ℕ) → length program.rows ≤ index → IsBegun program numbers basics index → dense.width ≡ suc (length program.costs + length program.rows) → dense.basics.items ≡ basics → dense.numbers.items ≡ numbers ++ pos 1 ∷ pos 0 ∷ map neg_ℤ program.costs ++ replicate (length program.rows) (pos 0) → All IsNarrow dense.numbers.items → dense.leaver.items ≡ replicate (suc dense.width) (pos 0) → IsFirst program dense
 unfolding first_tableau
-last_begun program dense numbers basics place past before width b n narrow l =
-    let all = take_past (first_tableau program).rows place (omega (arith, length-first program)) in
+last_begun program dense numbers basics index past before width b n narrow l =
+    let all = take_all index (first_tableau program).rows (omega (arith, length-first program)) in
     record {
       width = width;
       basics = b ∙ before.basics_are ∙ ap (map (λ (r : TableauRow). r.basic)) all;

@@ -1,52 +1,53 @@
--- A pivot, row after row.
+-- A pivot, row after row (`objective_pivoted`).
 use Rattle.std.proofs.Common.{◌≡◌, ◌≢◌, ℕ, zero, suc, ◌+◌, ◌<◌, ◌≤◌, Bool, true, false, ◌&&◌, List, [], ◌∷◌, ◌++◌, length, map, take, drop, set, refl, sym, ap, ap₂, ◌∙◌, subst, Some, arith, IsTrue, add-one}
 use Rattle.std.specs.Prelude.{ℤ, pos, slice_get, ◌↔◌}
-use Rattle.suit_simplex.specs.Points.{number_at}
-use Rattle.suit_simplex.proofs.Elements.{contains_at}
+use Rattle.std.proofs.lemmas.List.{take_all}
+use Rattle.suit_tableaus.specs.Points.{number_at}
+use Rattle.suit_tableaus.proofs.Elements.{contains_at}
 use Rattle.std.specs.List.{list_all, flat_map}
-use Rattle.suit_simplex.specs.Tableaus.{TableauRow, Tableau, entry, reduced_cost}
-use Rattle.suit_simplex.specs.Pivots.{cleared, clearing, pivoted_row, pivoting_row, pivoted, changing, is_narrow}
+use Rattle.suit_tableaus.specs.Tableaus.{TableauRow, Tableau, entry, reduced_cost}
+use Rattle.suit_tableaus.specs.Pivots.{cleared, clearing, pivoted_row, pivoting_row, pivoted, changing, is_narrow}
 use Rattle.suit_simplex.specs.Dense.{row_at, leaver_row, seen, with_row, IsKept, KeepsShape, CanPivot, CanClear}
 use Rattle.suit_simplex.specs.declared.dense.Dense.{Dense}
-use Rattle.suit_simplex.proofs.CombinedRows.{test_append, both_true, first_true, second_true}
+use Rattle.suit_tableaus.proofs.CombinedRows.{test_append, both_true, first_true, second_true}
 use Rattle.suit_simplex.proofs.LeavingRows.{seen_row, length-seen}
 
--- ---- lists that are mapped up to a place
+-- ---- lists that are mapped up to an index
 
 pub half : {X : Type 0} → (X → X) → ℕ → List X → List X
-half f place xs = map f (take place xs) ++ drop place xs
+half f index xs = map f (take index xs) ++ drop index xs
 
 half_none : {X : Type 0} (f : X → X) (xs : List X) → xs ≡ half f 0 xs
 unfolding half
 half_none f xs = refl
 
-half_at : {X : Type 0} (f : X → X) (xs : List X) (place : ℕ) → slice_get (half f place xs) place ≡ slice_get xs place
+half_at : {X : Type 0} (f : X → X) (xs : List X) (index : ℕ) → slice_get (half f index xs) index ≡ slice_get xs index
 unfolding half
 half_at f [] zero = refl
-half_at f [] (suc place) = refl
+half_at f [] (suc index) = refl
 half_at f (x ∷ xs) zero = refl
-half_at f (x ∷ xs) (suc place) = half_at f xs place
+half_at f (x ∷ xs) (suc index) = half_at f xs index
 
-half_more : {X : Type 0} (f : X → X) (xs : List X) (place : ℕ) (x : X) → slice_get xs place ≡ Some x → set (half f place xs) place (f x) ≡ half f (suc place) xs
+half_more : {X : Type 0} (f : X → X) (xs : List X) (index : ℕ) (x : X) → slice_get xs index ≡ Some x → set (half f index xs) index (f x) ≡ half f (suc index) xs
 unfolding half
-half_more f [] place x e = absurd (cc)
+half_more f [] index x e = absurd (cc)
 half_more f (y ∷ ys) zero x e = let same : y ≡ x = cc in ap (λ z. f z ∷ ys) (sym same)
-half_more f (y ∷ ys) (suc place) x e = ap (λ zs. f y ∷ zs) (half_more f ys place x e)
+half_more f (y ∷ ys) (suc index) x e = ap (λ zs. f y ∷ zs) (half_more f ys index x e)
 
-half_all : {X : Type 0} (f : X → X) (xs : List X) (place : ℕ) → length xs ≤ place → half f place xs ≡ map f xs
+half_all : {X : Type 0} (f : X → X) (xs : List X) (index : ℕ) → length xs ≤ index → half f index xs ≡ map f xs
 unfolding half
 half_all f [] zero h = refl
-half_all f [] (suc place) h = refl
+half_all f [] (suc index) h = refl
 half_all f (x ∷ xs) zero h = absurd (omega arith)
-half_all f (x ∷ xs) (suc place) h = ap (λ zs. f x ∷ zs) (half_all f xs place (omega arith))
+half_all f (x ∷ xs) (suc index) h = ap (λ zs. f x ∷ zs) (half_all f xs index (omega arith))
 
--- the test of what the rows up to a place make
+-- the test of what the rows up to an index make
 pub fits_to : (f : TableauRow → List ℤ) → ℕ → List TableauRow → Bool
-fits_to f place rows = list_all is_narrow (flat_map f (take place rows))
+fits_to f index rows = list_all is_narrow (flat_map f (take index rows))
 
-fits_more : (f : TableauRow → List ℤ) (rows : List TableauRow) (place : ℕ) (row : TableauRow) → slice_get rows place ≡ Some row → fits_to f (suc place) rows ≡ fits_to f place rows && list_all is_narrow (f row)
+fits_more : (f : TableauRow → List ℤ) (rows : List TableauRow) (index : ℕ) (row : TableauRow) → slice_get rows index ≡ Some row → fits_to f (suc index) rows ≡ fits_to f index rows && list_all is_narrow (f row)
 unfolding fits_to
-fits_more f [] place row e = absurd (cc)
+fits_more f [] index row e = absurd (cc)
 fits_more f (y ∷ ys) zero row e =
     let same : y ≡ row = cc in
     test_append (f y) [] ∙ and_true (list_all is_narrow (f y)) ∙ ap (λ (z : TableauRow). list_all is_narrow (f z)) same
@@ -54,42 +55,36 @@ fits_more f (y ∷ ys) zero row e =
     and_true : (b : Bool) → b && true ≡ b
     and_true true = refl
     and_true false = refl
-fits_more f (y ∷ ys) (suc place) row e =
-    test_append (f y) (flat_map f (take (suc place) ys))
-    ∙ ap (λ (b : Bool). list_all is_narrow (f y) && b) (fits_more f ys place row e)
-    ∙ regroup (list_all is_narrow (f y)) (fits_to f place ys) (list_all is_narrow (f row))
-    ∙ ap (λ (b : Bool). b && list_all is_narrow (f row)) (sym (test_append (f y) (flat_map f (take place ys))))
+fits_more f (y ∷ ys) (suc index) row e =
+    test_append (f y) (flat_map f (take (suc index) ys))
+    ∙ ap (λ (b : Bool). list_all is_narrow (f y) && b) (fits_more f ys index row e)
+    ∙ regroup (list_all is_narrow (f y)) (fits_to f index ys) (list_all is_narrow (f row))
+    ∙ ap (λ (b : Bool). b && list_all is_narrow (f row)) (sym (test_append (f y) (flat_map f (take index ys))))
   where
     regroup : (a b c : Bool) → a && (b && c) ≡ a && b && c
     regroup true b c = refl
     regroup false b c = refl
 
 -- where one row does not fit, not all do
-fits_front : (f : TableauRow → List ℤ) (rows : List TableauRow) (place : ℕ) (row : TableauRow) → slice_get rows place ≡ Some row → IsTrue (list_all is_narrow (flat_map f rows)) → IsTrue (list_all is_narrow (f row))
-fits_front f [] place row e h = absurd (cc)
+fits_front : (f : TableauRow → List ℤ) (rows : List TableauRow) (index : ℕ) (row : TableauRow) → slice_get rows index ≡ Some row → IsTrue (list_all is_narrow (flat_map f rows)) → IsTrue (list_all is_narrow (f row))
+fits_front f [] index row e h = absurd (cc)
 fits_front f (y ∷ ys) zero row e h =
     let same : y ≡ row = cc in
     rw (← same) (first_true (list_all is_narrow (f y)) (list_all is_narrow (flat_map f ys)) (sym (test_append (f y) (flat_map f ys)) ∙ h))
-fits_front f (y ∷ ys) (suc place) row e h =
-    fits_front f ys place row e (second_true (list_all is_narrow (f y)) (list_all is_narrow (flat_map f ys)) (sym (test_append (f y) (flat_map f ys)) ∙ h))
-
-take_past : (rows : List TableauRow) (place : ℕ) → length rows ≤ place → take place rows ≡ rows
-take_past [] zero h = refl
-take_past [] (suc place) h = refl
-take_past (x ∷ xs) zero h = absurd (omega arith)
-take_past (x ∷ xs) (suc place) h = ap (λ zs. x ∷ zs) (take_past xs place (omega arith))
+fits_front f (y ∷ ys) (suc index) row e h =
+    fits_front f ys index row e (second_true (list_all is_narrow (f y)) (list_all is_narrow (flat_map f ys)) (sym (test_append (f y) (flat_map f ys)) ∙ h))
 
 -- ---- the rows of a tableau
 
--- the tableau `now` has come out of `was` by the pivot up to a place
-pub record IsPivotedBelow (was now : Dense) (column : ℕ) (leaver : TableauRow) (place : ℕ) : Type 0 where
+-- the tableau `now` has come out of `was` by the pivot up to an index
+pub record IsPivotedBelow (was now : Dense) (column : ℕ) (leaver : TableauRow) (index : ℕ) : Type 0 where
   pub kept : IsKept now
   pub width : now.width ≡ was.width
   pub count : length now.basics.items ≡ length was.basics.items
   pub leaver_is : now.leaver.items ≡ pos 0 ∷ leaver.numbers
-  pub rows : (seen now).rows ≡ half (pivoted_row column leaver) place (seen was).rows
+  pub rows : (seen now).rows ≡ half (pivoted_row column leaver) index (seen was).rows
   pub objective : (seen now).objective ≡ (seen was).objective
-  pub fits : IsTrue (fits_to (pivoting_row column leaver) place (seen was).rows)
+  pub fits : IsTrue (fits_to (pivoting_row column leaver) index (seen was).rows)
 
 pub none_pivoted : (was now : Dense) (column : ℕ) (leaver : TableauRow) → IsKept now → seen now ≡ seen was → length now.basics.items ≡ length was.basics.items → now.width ≡ was.width → now.leaver.items ≡ pos 0 ∷ leaver.numbers → IsPivotedBelow was now column leaver 0
 unfolding fits_to
@@ -106,27 +101,27 @@ none_pivoted was now column leaver kept same count width is = record {
 some_same : (x y : TableauRow) → Some x ≡ Some y → x ≡ y
 some_same x y e = cc
 
--- the row at the place is still as it was
-pub row_still : (was now : Dense) (column : ℕ) (leaver : TableauRow) (place : ℕ) → place < length was.basics.items → IsPivotedBelow was now column leaver place → row_at now place ≡ row_at was place
-row_still was now column leaver place less before =
-    some_same (row_at now place) (row_at was place) (
-    sym (seen_row now place (omega (arith, before.count)))
-    ∙ ap (λ (rows : List TableauRow). slice_get rows place) before.rows
-    ∙ half_at (pivoted_row column leaver) (seen was).rows place
-    ∙ seen_row was place less
+-- the row at the index is still as it was
+pub row_still : (was now : Dense) (column : ℕ) (leaver : TableauRow) (index : ℕ) → index < length was.basics.items → IsPivotedBelow was now column leaver index → row_at now index ≡ row_at was index
+row_still was now column leaver index less before =
+    some_same (row_at now index) (row_at was index) (
+    sym (seen_row now index (omega (arith, before.count)))
+    ∙ ap (λ (rows : List TableauRow). slice_get rows index) before.rows
+    ∙ half_at (pivoted_row column leaver) (seen was).rows index
+    ∙ seen_row was index less
     )
 
 -- the copy of the leaving row is the leaving row
-pub copy_is : (was now : Dense) (column : ℕ) (leaver : TableauRow) (place : ℕ) → IsPivotedBelow was now column leaver place → leaver_row now leaver.basic ≡ leaver
-copy_is was now column leaver place before =
+pub copy_is : (was now : Dense) (column : ℕ) (leaver : TableauRow) (index : ℕ) → IsPivotedBelow was now column leaver index → leaver_row now leaver.basic ≡ leaver
+copy_is was now column leaver index before =
     ap (λ (numbers : List ℤ). let r : TableauRow = record { basic = leaver.basic; numbers = drop 1 numbers } in r) before.leaver_is
 
-pub one_pivoted : (was now next : Dense) (column : ℕ) (leaver : TableauRow) (place : ℕ) → place < length was.basics.items → IsPivotedBelow was now column leaver place → IsTrue (list_all is_narrow (pivoting_row column (leaver_row now leaver.basic) (row_at now place))) → seen next ≡ with_row (seen now) place (pivoted_row column (leaver_row now leaver.basic) (row_at now place)) → IsKept next → KeepsShape now next → IsPivotedBelow was next column leaver (place + 1)
-one_pivoted was now next column leaver place less before fits is kept shape =
-    let still : row_at now place ≡ row_at was place = row_still was now column leaver place less before in
-    let copy : leaver_row now leaver.basic ≡ leaver = copy_is was now column leaver place before in
-    let changed : seen next ≡ with_row (seen now) place (pivoted_row column leaver (row_at was place)) = is ∙ ap₂ (λ (l r : TableauRow). with_row (seen now) place (pivoted_row column l r)) copy still in
-    let here : IsTrue (list_all is_narrow (pivoting_row column leaver (row_at was place))) = rw (copy, still) at fits in
+pub one_pivoted : (was now next : Dense) (column : ℕ) (leaver : TableauRow) (index : ℕ) → index < length was.basics.items → IsPivotedBelow was now column leaver index → IsTrue (list_all is_narrow (pivoting_row column (leaver_row now leaver.basic) (row_at now index))) → seen next ≡ with_row (seen now) index (pivoted_row column (leaver_row now leaver.basic) (row_at now index)) → IsKept next → KeepsShape now next → IsPivotedBelow was next column leaver (index + 1)
+one_pivoted was now next column leaver index less before fits is kept shape =
+    let still : row_at now index ≡ row_at was index = row_still was now column leaver index less before in
+    let copy : leaver_row now leaver.basic ≡ leaver = copy_is was now column leaver index before in
+    let changed : seen next ≡ with_row (seen now) index (pivoted_row column leaver (row_at was index)) = is ∙ ap₂ (λ (l r : TableauRow). with_row (seen now) index (pivoted_row column l r)) copy still in
+    let here : IsTrue (list_all is_narrow (pivoting_row column leaver (row_at was index))) = rw (copy, still) at fits in
     record {
       kept = kept;
       width = shape.width ∙ before.width;
@@ -134,21 +129,21 @@ one_pivoted was now next column leaver place less before fits is kept shape =
       leaver_is = shape.leaver ∙ before.leaver_is;
       rows = rw add-one (
           ap (λ (t : Tableau). t.rows) changed
-          ∙ ap (λ (rows : List TableauRow). set rows place (pivoted_row column leaver (row_at was place))) before.rows
-          ∙ half_more (pivoted_row column leaver) (seen was).rows place (row_at was place) (seen_row was place less)
+          ∙ ap (λ (rows : List TableauRow). set rows index (pivoted_row column leaver (row_at was index))) before.rows
+          ∙ half_more (pivoted_row column leaver) (seen was).rows index (row_at was index) (seen_row was index less)
           );
       objective = ap (λ (t : Tableau). t.objective) changed ∙ before.objective;
-      fits = rw add-one (fits_more (pivoting_row column leaver) (seen was).rows place (row_at was place) (seen_row was place less) ∙ both_true (fits_to (pivoting_row column leaver) place (seen was).rows) (list_all is_narrow (pivoting_row column leaver (row_at was place))) before.fits here);
+      fits = rw add-one (fits_more (pivoting_row column leaver) (seen was).rows index (row_at was index) (seen_row was index less) ∙ both_true (fits_to (pivoting_row column leaver) index (seen was).rows) (list_all is_narrow (pivoting_row column leaver (row_at was index))) before.fits here);
     }
 
 -- where a row does not fit, the pivot does not
-pub row_not_fitting : (was now : Dense) (column : ℕ) (leaver : TableauRow) (place : ℕ) → place < length was.basics.items → IsPivotedBelow was now column leaver place → ¬ IsTrue (list_all is_narrow (pivoting_row column (leaver_row now leaver.basic) (row_at now place))) → ¬ IsTrue (list_all is_narrow (changing (seen was) column leaver))
+pub row_not_fitting : (was now : Dense) (column : ℕ) (leaver : TableauRow) (index : ℕ) → index < length was.basics.items → IsPivotedBelow was now column leaver index → ¬ IsTrue (list_all is_narrow (pivoting_row column (leaver_row now leaver.basic) (row_at now index))) → ¬ IsTrue (list_all is_narrow (changing (seen was) column leaver))
 unfolding changing
-row_not_fitting was now column leaver place less before refused all =
-    let still : row_at now place ≡ row_at was place = row_still was now column leaver place less before in
-    let copy : leaver_row now leaver.basic ≡ leaver = copy_is was now column leaver place before in
+row_not_fitting was now column leaver index less before refused all =
+    let still : row_at now index ≡ row_at was index = row_still was now column leaver index less before in
+    let copy : leaver_row now leaver.basic ≡ leaver = copy_is was now column leaver index before in
     let rows : IsTrue (list_all is_narrow (flat_map (pivoting_row column leaver) (seen was).rows)) = first_true (list_all is_narrow (flat_map (pivoting_row column leaver) (seen was).rows)) _ (sym (test_append (flat_map (pivoting_row column leaver) (seen was).rows) _) ∙ all) in
-    refused (rw (copy, still) (fits_front (pivoting_row column leaver) (seen was).rows place (row_at was place) (seen_row was place less) rows))
+    refused (rw (copy, still) (fits_front (pivoting_row column leaver) (seen was).rows index (row_at was index) (seen_row was index less) rows))
 
 -- after the last row only the objective row is left
 pub record IsObjectiveLeft (was now : Dense) (column : ℕ) (leaver : TableauRow) : Type 0 where
@@ -157,38 +152,38 @@ pub record IsObjectiveLeft (was now : Dense) (column : ℕ) (leaver : TableauRow
   pub leaver_is : now.leaver.items ≡ pos 0 ∷ leaver.numbers
   pub fits : IsTrue (list_all is_narrow (flat_map (pivoting_row column leaver) (seen was).rows))
 
-pub rows_pivoted : (was now : Dense) (column : ℕ) (leaver : TableauRow) (place : ℕ) → length was.basics.items ≤ place → IsPivotedBelow was now column leaver place → IsObjectiveLeft was now column leaver
+pub rows_pivoted : (was now : Dense) (column : ℕ) (leaver : TableauRow) (index : ℕ) → length was.basics.items ≤ index → IsPivotedBelow was now column leaver index → IsObjectiveLeft was now column leaver
 unfolding fits_to
-rows_pivoted was now column leaver place past before =
-    let all : length (seen was).rows ≤ place = omega (arith, length-seen was) in
+rows_pivoted was now column leaver index past before =
+    let all : length (seen was).rows ≤ index = omega (arith, length-seen was) in
     record {
-      rows = before.rows ∙ half_all (pivoted_row column leaver) (seen was).rows place all;
+      rows = before.rows ∙ half_all (pivoted_row column leaver) (seen was).rows index all;
       objective = before.objective;
       leaver_is = before.leaver_is;
-      fits = ap (λ (rows : List TableauRow). list_all is_narrow (flat_map (pivoting_row column leaver) rows)) (sym (take_past (seen was).rows place all)) ∙ before.fits;
+      fits = ap (λ (rows : List TableauRow). list_all is_narrow (flat_map (pivoting_row column leaver) rows)) (sym (take_all index (seen was).rows all)) ∙ before.fits;
     }
 
--- the row at the place can be cleared
-pub row_can_clear : (was now : Dense) (column : ℕ) (leaver : TableauRow) (place : ℕ) → place < length was.basics.items → IsPivotedBelow was now column leaver place → CanPivot (seen was) column leaver → (row_at now place).basic ≢ leaver.basic → CanClear (entry (leaver_row now leaver.basic) column) (entry (row_at now place) column) (row_at now place).numbers (leaver_row now leaver.basic).numbers
-row_can_clear was now column leaver place less before can apart =
-    let still : row_at now place ≡ row_at was place = row_still was now column leaver place less before in
-    let copy : leaver_row now leaver.basic ≡ leaver = copy_is was now column leaver place before in
-    let other : (row_at was place).basic ≢ leaver.basic = λ e. apart (ap (λ (r : TableauRow). r.basic) still ∙ e) in
+-- the row at the index can be cleared
+pub row_can_clear : (was now : Dense) (column : ℕ) (leaver : TableauRow) (index : ℕ) → index < length was.basics.items → IsPivotedBelow was now column leaver index → CanPivot (seen was) column leaver → (row_at now index).basic ≢ leaver.basic → CanClear (entry (leaver_row now leaver.basic) column) (entry (row_at now index) column) (row_at now index).numbers (leaver_row now leaver.basic).numbers
+row_can_clear was now column leaver index less before can apart =
+    let still : row_at now index ≡ row_at was index = row_still was now column leaver index less before in
+    let copy : leaver_row now leaver.basic ≡ leaver = copy_is was now column leaver index before in
+    let other : (row_at was index).basic ≢ leaver.basic = λ e. apart (ap (λ (r : TableauRow). r.basic) still ∙ e) in
     subst (λ (r : TableauRow). CanClear (entry (leaver_row now leaver.basic) column) (entry r column) r.numbers (leaver_row now leaver.basic).numbers) (sym still)
-    (subst (λ (l : TableauRow). CanClear (entry l column) (entry (row_at was place) column) (row_at was place).numbers l.numbers) (sym copy)
-    (can.rows (row_at was place) (contains_at (seen was).rows place (row_at was place) (seen_row was place less)) other))
+    (subst (λ (l : TableauRow). CanClear (entry l column) (entry (row_at was index) column) (row_at was index).numbers l.numbers) (sym copy)
+    (can.rows (row_at was index) (contains_at (seen was).rows index (row_at was index) (seen_row was index less)) other))
 
 -- the leaving row's entry, and the objective row, are still as they were
 pub pivot_still : (was now : Dense) (column : ℕ) (leaver : TableauRow) → now.leaver.items ≡ pos 0 ∷ leaver.numbers → entry (leaver_row now 0) column ≡ entry leaver column
 pivot_still was now column leaver is = ap (λ (numbers : List ℤ). number_at (drop 1 numbers) (suc column)) is
 
-pub objective_can_clear : (was now : Dense) (column : ℕ) (leaver : TableauRow) (place : ℕ) → IsPivotedBelow was now column leaver place → CanPivot (seen was) column leaver → CanClear (entry (leaver_row now 0) column) (reduced_cost (seen now) column) (seen now).objective now.leaver.items
-objective_can_clear was now column leaver place before can =
+pub objective_can_clear : (was now : Dense) (column : ℕ) (leaver : TableauRow) (index : ℕ) → IsPivotedBelow was now column leaver index → CanPivot (seen was) column leaver → CanClear (entry (leaver_row now 0) column) (reduced_cost (seen now) column) (seen now).objective now.leaver.items
+objective_can_clear was now column leaver index before can =
     rw (pivot_still was now column leaver before.leaver_is, before.objective, before.leaver_is) can.objective
 
-pub objective_fits : (was now : Dense) (column : ℕ) (leaver : TableauRow) (answer : Bool) → IsObjectiveLeft was now column leaver → IsTrue answer ↔ IsTrue (list_all is_narrow (clearing (entry (leaver_row now 0) column) (reduced_cost (seen now) column) (seen now).objective now.leaver.items)) → IsTrue answer ↔ IsTrue (list_all is_narrow (changing (seen was) column leaver))
+pub objective_fits : {P : Type 0} (was now : Dense) (column : ℕ) (leaver : TableauRow) → IsObjectiveLeft was now column leaver → P ↔ IsTrue (list_all is_narrow (clearing (entry (leaver_row now 0) column) (reduced_cost (seen now) column) (seen now).objective now.leaver.items)) → P ↔ IsTrue (list_all is_narrow (changing (seen was) column leaver))
 unfolding changing
-objective_fits was now column leaver answer left says =
+objective_fits was now column leaver left says =
     let is = rw (pivot_still was now column leaver left.leaver_is, left.objective, left.leaver_is) at says in
     let split = test_append (flat_map (pivoting_row column leaver) (seen was).rows) (clearing (entry leaver column) (reduced_cost (seen was) column) (seen was).objective (pos 0 ∷ leaver.numbers)) in (
       λ t. split ∙ both_true (list_all is_narrow (flat_map (pivoting_row column leaver) (seen was).rows)) _ left.fits (is.0 t),

@@ -1,20 +1,19 @@
--- What a pivot makes of one row of a tableau that is kept as one list.
-use Rattle.std.proofs.Common.{◌≡◌, ◌≢◌, ℕ, zero, suc, ◌+◌, ◌-◌, ◌*◌, ◌<◌, ◌≤◌, Bool, true, false, List, [], ◌∷◌, length, take, drop, set, refl, sym, ap, ap₂, ◌∙◌, Some, All, arith, length-set, length-take, length-append, length-drop}
-use Rattle.std.specs.Prelude.{ℤ, pos, slice_get, slice_index, slice_index_or}
-use Rattle.std.specs.Bool.{OnTrue}
+-- What a pivot makes of one row of a tableau that is kept as one list (`seen_with_part`).
+use Rattle.std.proofs.Common.{◌≡◌, ◌≢◌, ℕ, zero, suc, ◌+◌, ◌-◌, ◌*◌, ◌<◌, ◌≤◌, true, false, Result, Ok, Err, List, [], ◌∷◌, length, take, drop, set, refl, sym, ap, ap₂, ◌∙◌, Some, All, arith, length-set, length-take, length-append, length-drop}
+use Rattle.std.specs.Prelude.{ℤ, pos, slice_get, slice_index, slice_index_or, OnOk}
 use Rattle.std.specs.Ordering.{int_eq}
 use Rattle.std.proofs.Common.{eq-eqb}
 use Rattle.std.proofs.lemmas.Bool.{ne_eqb}
 use Rattle.std.proofs.lemmas.Int.{ints}
 use Rattle.std.proofs.lemmas.List.{get_or_default, get_or-drop}
-use Rattle.suit_simplex.specs.Points.{number_at}
+use Rattle.suit_tableaus.specs.Points.{number_at}
 use Rattle.std.proofs.lemmas.List.Elements.{All-append, All-take, All-drop, All-set}
 use Rattle.std.proofs.lemmas.List.{with_items_is}
 use Rattle.std.specs.Vec.{with_items}
 use borrow.Rule.Slice.PartMut.{put_mid}
 use Rattle.suit_num.specs.Narrow.{IsNarrow}
-use Rattle.suit_simplex.specs.Tableaus.{TableauRow, Tableau, entry}
-use Rattle.suit_simplex.specs.Pivots.{cleared, clearing, pivoted_row, pivoting_row}
+use Rattle.suit_tableaus.specs.Tableaus.{TableauRow, Tableau, entry}
+use Rattle.suit_tableaus.specs.Pivots.{cleared, clearing, pivoted_row, pivoting_row}
 use Rattle.suit_simplex.specs.Dense.{row_at, seen, with_row, IsKept}
 use Rattle.suit_simplex.specs.declared.dense.Dense.{Dense}
 use Rattle.suit_simplex.proofs.DenseRows.{rows_seen-put_mid, rows_seen-put_behind, rows_seen-set, behind_put_mid, behind_put_behind}
@@ -40,27 +39,27 @@ pub row_is_cleared : (column : ℕ) (leaver row : TableauRow) → row.basic ≢ 
 unfolding pivoted_row pivoting_row
 row_is_cleared column leaver row ne some = rw (ne_eqb row.basic leaver.basic ne, some_test (entry row column) some) (refl, refl)
 
--- ---- a row in its place
+-- ---- a row at its index
 
-set_same : {X : Type 0} (xs : List X) (place : ℕ) (x : X) → slice_get xs place ≡ Some x → xs ≡ set xs place x
-set_same [] place x e = refl
+set_same : {X : Type 0} (xs : List X) (index : ℕ) (x : X) → slice_get xs index ≡ Some x → xs ≡ set xs index x
+set_same [] index x e = refl
 set_same (y ∷ ys) zero x e = let same : y ≡ x = cc in ap (λ z. z ∷ ys) same
-set_same (y ∷ ys) (suc place) x e = ap (λ zs. y ∷ zs) (set_same ys place x e)
+set_same (y ∷ ys) (suc index) x e = ap (λ zs. y ∷ zs) (set_same ys index x e)
 
-pub seen_same : (dense : Dense) (place : ℕ) → place < length dense.basics.items → seen dense ≡ with_row (seen dense) place (row_at dense place)
-seen_same dense place less =
-    ap (λ (rows : List TableauRow). record (seen dense) { rows = rows }) (set_same (seen dense).rows place (row_at dense place) (seen_row dense place less))
+pub seen_same : (dense : Dense) (index : ℕ) → index < length dense.basics.items → seen dense ≡ with_row (seen dense) index (row_at dense index)
+seen_same dense index less =
+    ap (λ (rows : List TableauRow). record (seen dense) { rows = rows }) (set_same (seen dense).rows index (row_at dense index) (seen_row dense index less))
 
-pub seen_with_basic : (dense other : Dense) (place column : ℕ) → place < length dense.basics.items → other.width ≡ dense.width → other.numbers.items ≡ dense.numbers.items → other.basics.items ≡ set dense.basics.items place column → seen other ≡ with_row (seen dense) place (record (row_at dense place) { basic = column })
+pub seen_with_basic : (dense other : Dense) (index column : ℕ) → index < length dense.basics.items → other.width ≡ dense.width → other.numbers.items ≡ dense.numbers.items → other.basics.items ≡ set dense.basics.items index column → seen other ≡ with_row (seen dense) index (record (row_at dense index) { basic = column })
 unfolding seen
-seen_with_basic dense other place column less w n b =
-    rw (w, n, b) (ap₂ (λ (rows : List TableauRow) (objective : List ℤ). let t : Tableau = record { rows = rows; objective = objective } in t) (rows_seen-set dense.width dense.basics.items dense.numbers.items place (place * dense.width) column less refl) (ap (λ (count : ℕ). drop (count * dense.width) dense.numbers.items) (length-set dense.basics.items place column)))
+seen_with_basic dense other index column less w n b =
+    rw (w, n, b) (ap₂ (λ (rows : List TableauRow) (objective : List ℤ). let t : Tableau = record { rows = rows; objective = objective } in t) (rows_seen-set dense.width dense.basics.items dense.numbers.items index (index * dense.width) column less refl) (ap (λ (count : ℕ). drop (count * dense.width) dense.numbers.items) (length-set dense.basics.items index column)))
 
-pub kept_with_basic : (dense other : Dense) (place column : ℕ) → IsKept dense → suc column < dense.width → other.width ≡ dense.width → other.numbers.items ≡ dense.numbers.items → other.basics.items ≡ set dense.basics.items place column → other.leaver.items ≡ dense.leaver.items → IsKept other
-kept_with_basic dense other place column kept less w n b l = record {
-  size = rw (w, n, b, length-set dense.basics.items place column) kept.size;
+pub kept_with_basic : (dense other : Dense) (index column : ℕ) → IsKept dense → suc column < dense.width → other.width ≡ dense.width → other.numbers.items ≡ dense.numbers.items → other.basics.items ≡ set dense.basics.items index column → other.leaver.items ≡ dense.leaver.items → IsKept other
+kept_with_basic dense other index column kept less w n b l = record {
+  size = rw (w, n, b, length-set dense.basics.items index column) kept.size;
   some = rw w kept.some;
-  basics = rw (w, b) (All-set (λ (basic : ℕ). suc basic < dense.width) dense.basics.items place column less kept.basics);
+  basics = rw (w, b) (All-set (λ (basic : ℕ). suc basic < dense.width) dense.basics.items index column less kept.basics);
   narrow = rw n kept.narrow;
   narrow_leaver = rw l kept.narrow_leaver;
   room = rw (w, l) kept.room;
@@ -70,10 +69,10 @@ kept_with_basic dense other place column kept less w n b l = record {
 room_for_rows : (dense : Dense) → IsKept dense → length dense.basics.items * dense.width ≤ length dense.numbers.items
 room_for_rows dense kept = omega (arith, kept.size)
 
-pub seen_with_numbers : (dense other : Dense) (place start : ℕ) (ys : List ℤ) → IsKept dense → place < length dense.basics.items → start ≡ place * dense.width → length ys ≡ dense.width → other.width ≡ dense.width → other.basics.items ≡ dense.basics.items → other.numbers.items ≡ put_mid start dense.width dense.numbers.items ys → seen other ≡ with_row (seen dense) place (record (row_at dense place) { numbers = ys })
+pub seen_with_numbers : (dense other : Dense) (index start : ℕ) (ys : List ℤ) → IsKept dense → index < length dense.basics.items → start ≡ index * dense.width → length ys ≡ dense.width → other.width ≡ dense.width → other.basics.items ≡ dense.basics.items → other.numbers.items ≡ put_mid start dense.width dense.numbers.items ys → seen other ≡ with_row (seen dense) index (record (row_at dense index) { numbers = ys })
 unfolding seen
-seen_with_numbers dense other place start ys kept less e len w b n =
-    rw (w, n, b) (ap₂ (λ (rows : List TableauRow) (objective : List ℤ). let t : Tableau = record { rows = rows; objective = objective } in t) (rows_seen-put_mid dense.width dense.basics.items dense.numbers.items place start ys less e (room_for_rows dense kept) len) (behind_put_mid dense.width (length dense.basics.items) dense.numbers.items place start ys less e (room_for_rows dense kept) len))
+seen_with_numbers dense other index start ys kept less e len w b n =
+    rw (w, n, b) (ap₂ (λ (rows : List TableauRow) (objective : List ℤ). let t : Tableau = record { rows = rows; objective = objective } in t) (rows_seen-put_mid dense.width dense.basics.items dense.numbers.items index start ys less e (room_for_rows dense kept) len) (behind_put_mid dense.width (length dense.basics.items) dense.numbers.items index start ys less e (room_for_rows dense kept) len))
 
 narrow_put_mid : (start k : ℕ) (xs ys : List ℤ) → All IsNarrow xs → All IsNarrow ys → All IsNarrow (put_mid start k xs ys)
 narrow_put_mid start k xs ys p q =
@@ -96,8 +95,8 @@ kept_with_numbers dense other start k ys kept fits len narrow w b n l = record {
 
 -- ---- what the code reads and writes
 
-pub part_is : (xs : List ℤ) (start width place : ℕ) → start ≡ place * width → take (start + width - start) (drop start xs) ≡ take width (drop (place * width) xs)
-part_is xs start width place e = let n : start + width - start ≡ width = omega arith in rw (n, e) refl
+pub part_is : (xs : List ℤ) (start width index : ℕ) → start ≡ index * width → take (start + width - start) (drop start xs) ≡ take width (drop (index * width) xs)
+part_is xs start width index e = let n : start + width - start ≡ width = omega arith in rw (n, e) refl
 
 pub behind_first : (xs : List ℤ) → take (length xs - 1) (drop 1 xs) ≡ drop 1 xs
 behind_first [] = refl
@@ -107,16 +106,12 @@ behind_first (x ∷ xs) = let n : suc (length xs) - 1 ≡ length xs = omega arit
     take_all [] = refl
     take_all (x ∷ xs) = ap (λ (ys : List ℤ). x ∷ ys) (take_all xs)
 
-pub on_true : {P Q : Type 0} (b : Bool) → (P → Q) → OnTrue b P → OnTrue b Q
-on_true true f p = f p
-on_true false f p = tt
+pub on_ok : {T E P Q : Type 0} (r : Result T E) → (P → Q) → OnOk r P → OnOk r Q
+on_ok (Ok x) f p = f p
+on_ok (Err e) f p = tt
 
-pub on_both_true : {P Q R : Type 0} (b : Bool) → (P → Q → R) → OnTrue b P → OnTrue b Q → OnTrue b R
-on_both_true true f p q = f p q
-on_both_true false f p q = tt
-
-pub basic_read : (basics : List ℕ) (place basic : ℕ) → place < length basics → basic ≡ slice_index_or basics place basic → basic ≡ slice_index basics place
-basic_read basics place basic less e = e ∙ get_or_default basics place basic 0 less
+pub basic_read : (basics : List ℕ) (index basic : ℕ) → index < length basics → basic ≡ slice_index_or basics index basic → basic ≡ slice_index basics index
+basic_read basics index basic less e = e ∙ get_or_default basics index basic 0 less
 
 pub pivot_read : (leaver : List ℤ) (column : ℕ) (pivot : ℤ) → suc (suc column) < length leaver → pivot ≡ slice_index_or leaver (column + 2) pivot → pivot ≡ number_at (drop 1 leaver) (suc column)
 pivot_read leaver column pivot less e =
@@ -124,9 +119,9 @@ pivot_read leaver column pivot less e =
     rw n at e ∙ get_or_default leaver (suc (suc column)) pivot (pos 0) less ∙ sym (get_or-drop 1 leaver (suc column) (pos 0) ∙ ap (λ (k : ℕ). number_at leaver k) (omega arith))
 
 -- the same of the part of a list that the code writes
-pub seen_with_part : (dense other : Dense) (place start k : ℕ) (now ys : List ℤ) → IsKept dense → place < length dense.basics.items → start ≡ place * dense.width → length ys ≡ dense.width → now ≡ dense.numbers.items → k ≡ dense.width → other.width ≡ dense.width → other.basics.items ≡ dense.basics.items → other.numbers.items ≡ put_mid start k now ys → seen other ≡ with_row (seen dense) place (record (row_at dense place) { numbers = ys })
-seen_with_part dense other place start k now ys kept less e len whole wide w b n =
-    seen_with_numbers dense other place start ys kept less e len w b (n ∙ ap₂ (λ (m : ℕ) (xs : List ℤ). put_mid start m xs ys) wide whole)
+pub seen_with_part : (dense other : Dense) (index start k : ℕ) (now ys : List ℤ) → IsKept dense → index < length dense.basics.items → start ≡ index * dense.width → length ys ≡ dense.width → now ≡ dense.numbers.items → k ≡ dense.width → other.width ≡ dense.width → other.basics.items ≡ dense.basics.items → other.numbers.items ≡ put_mid start k now ys → seen other ≡ with_row (seen dense) index (record (row_at dense index) { numbers = ys })
+seen_with_part dense other index start k now ys kept less e len whole wide w b n =
+    seen_with_numbers dense other index start ys kept less e len w b (n ∙ ap₂ (λ (m : ℕ) (xs : List ℤ). put_mid start m xs ys) wide whole)
 
 pub kept_with_part : (dense other : Dense) (start k : ℕ) (now ys : List ℤ) → IsKept dense → start + k ≤ length dense.numbers.items → length ys ≡ k → now ≡ dense.numbers.items → All IsNarrow ys → other.width ≡ dense.width → other.basics.items ≡ dense.basics.items → other.numbers.items ≡ put_mid start k now ys → other.leaver.items ≡ dense.leaver.items → IsKept other
 kept_with_part dense other start k now ys kept fits len whole narrow w b n l =

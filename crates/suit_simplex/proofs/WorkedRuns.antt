@@ -1,9 +1,9 @@
--- The worked runs by evaluation.
+-- The worked runs by evaluation (`two_columns_twice`).
 use Rattle.std.proofs.Common.{refl}
 use Rattle.suit_simplex.specs.Examples.{TwoColumnsBegin, TwoColumnsOnce, TwoColumnsTwice, TwoColumnsShort, OneWideRow, TwoWideRows, NothingGained, TieBroken, Unlimited}
-use Rattle.suit_simplex.specs.Tableaus.{unit_numbers, first_tableau}
-use Rattle.suit_simplex.specs.Pivots.{kept, compared, ratio_products, combined, combining, content, pivoted_row, pivoting_row, pivoted, changing}
-use Rattle.suit_simplex.specs.Runs.{next, run_within}
+use Rattle.suit_tableaus.specs.Tableaus.{unit_numbers, first_tableau}
+use Rattle.suit_tableaus.specs.Pivots.{kept, compared, ratio_products, combined, combining, content, pivoted_row, pivoting_row, pivoted, changing}
+use Rattle.suit_tableaus.specs.Runs.{next, run_within}
 use Rattle.suit_num.specs.Divisors.{gcd_of, gcd_within}
 
 pub two_columns_begin : TwoColumnsBegin

@@ -1,13 +1,14 @@
 -- A tableau kept as one list of numbers: row after row, and then the objective row.
-use Rattle.std.specs.Prelude.{◌≡◌, ◌≢◌, ℕ, suc, ◌+◌, ◌*◌, ◌<◌, ℤ, pos, ◌<ℤ◌, List, [], ◌∷◌, length, take, drop, slice_index, set, All, Contains, Some, None}
+use Rattle.std.specs.Prelude.{◌≡◌, ◌≢◌, ℕ, suc, ◌+◌, ◌*◌, ◌<◌, ℤ, pos, ◌<ℤ◌, List, [], ◌∷◌, length, take, drop, slice_index, set, All, Contains, Some, None, Result, Ok, Err}
 use Rattle.suit_num.specs.Narrow.{IsNarrow}
 use Rattle.suit_simplex.specs.declared.dense.Dense.{Dense}
-use Rattle.suit_simplex.specs.Points.{number_at}
-use Rattle.suit_simplex.specs.Pivots.{combined, content, share, entering, leaving}
-use Rattle.suit_simplex.specs.Runs.{next, Last, Wide, To}
+use Rattle.suit_tableaus.specs.Points.{number_at}
+use Rattle.suit_tableaus.specs.Pivots.{combined, content, share, entering, leaving}
+use Rattle.suit_tableaus.specs.Runs.{next, Last, Wide, To}
+use Rattle.suit_simplex.specs.declared.row.TooWide.{TooWide}
 use Rattle.suit_simplex.specs.declared.solving.Progress.{Progress}
 use Rattle.suit_simplex.specs.declared.solving.Progress.TheVariants as advances
-use Rattle.suit_simplex.specs.Tableaus.{TableauRow, Tableau, entry, reduced_cost}
+use Rattle.suit_tableaus.specs.Tableaus.{TableauRow, Tableau, entry, reduced_cost}
 
 -- the rows by their basic columns, each of as many numbers as the width
 unfoldable pub rows_seen : ℕ → List ℕ → List ℤ → List TableauRow
@@ -21,11 +22,11 @@ seen dense = record {
   objective = drop (length dense.basics.items * dense.width) dense.numbers.items;
 }
 
--- the row at a place, where there is one
+-- the row at an index, where there is one
 abbrev pub row_at : Dense → ℕ → TableauRow
-row_at dense place = record {
-  basic = slice_index dense.basics.items place;
-  numbers = take dense.width (drop (place * dense.width) dense.numbers.items);
+row_at dense index = record {
+  basic = slice_index dense.basics.items index;
+  numbers = take dense.width (drop (index * dense.width) dense.numbers.items);
 }
 
 -- the row that leaves, as it is copied, by its basic column
@@ -48,9 +49,9 @@ pub record KeepsShape (old new : Dense) : Type 0 where
   pub count : length new.basics.items ≡ length old.basics.items
   pub leaver : new.leaver.items ≡ old.leaver.items
 
--- a tableau with another row at a place
+-- a tableau with another row at an index
 abbrev pub with_row : Tableau → ℕ → TableauRow → Tableau
-with_row tableau place row = record tableau { rows = set tableau.rows place row }
+with_row tableau index row = record tableau { rows = set tableau.rows index row }
 
 -- by the entry p of the leaving row a row with the entry t is cleared without a division by 0
 abbrev pub CanClear : ℤ → ℤ → List ℤ → List ℤ → Type 0
@@ -69,7 +70,7 @@ pub record CanAdvance (dense : Dense) : Type 0 where
   pub pivot : (column : ℕ) (leaver : TableauRow) → entering (seen dense) ≡ Some column → leaving (seen dense) column ≡ Some leaver → CanPivot (seen dense) column leaver
 
 -- what one step of the run has made of a tableau
-abbrev pub Advances : Progress → Dense → Dense → Type 0
-Advances advances.Last old new = (next (seen old) ≡ Last) × IsKept new × (new.width ≡ old.width) × (seen new ≡ seen old)
-Advances advances.TooWide old new = next (seen old) ≡ Wide
-Advances advances.Pivoted old new = (next (seen old) ≡ To (seen new)) × IsKept new × (new.width ≡ old.width)
+abbrev pub Advances : Result Progress TooWide → Dense → Dense → Type 0
+Advances (Ok advances.Last) old new = (next (seen old) ≡ Last) × IsKept new × (new.width ≡ old.width) × (seen new ≡ seen old)
+Advances (Err error) old new = next (seen old) ≡ Wide
+Advances (Ok advances.Pivoted) old new = (next (seen old) ≡ To (seen new)) × IsKept new × (new.width ≡ old.width)

@@ -1,10 +1,10 @@
 -- Laws of runs and of points.
 use Rattle.std.specs.Prelude.{◌≢◌, ℕ, ℤ, List}
 use Rattle.suit_num.specs.declared.fraction.Frac.{Frac}
-use Rattle.suit_simplex.specs.declared.program.Program.{Program}
-use Rattle.suit_simplex.specs.Programs.{IsWellFormed, IsBounded}
-use Rattle.suit_simplex.specs.Runs.{AtRay, run_end}
-use Rattle.suit_simplex.specs.Optima.{IsCommon}
+use Rattle.suit_tableaus.specs.declared.program.Program.{Program}
+use Rattle.suit_tableaus.specs.Programs.{IsWellFormed, IsBounded}
+use Rattle.suit_tableaus.specs.Runs.{AtRay, run_end}
+use Rattle.suit_tableaus.specs.Optima.{IsCommon}
 
 -- where the objective has a limit, an entering column always has a row to leave
 abbrev pub BoundedRunsMeetNoRay : Type 0

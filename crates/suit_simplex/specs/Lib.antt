@@ -1,10 +1,3 @@
 pub mod Dense
-pub mod Ends
 pub mod Examples
 pub mod Laws
-pub mod Optima
-pub mod Pivots
-pub mod Points
-pub mod Programs
-pub mod Runs
-pub mod Tableaus

@@ -1,48 +1,48 @@
 //! The first tableau of a program.
 ghost use Rattle.std.specs.Prelude.{◌≡◌, ◌≢◌, ℕ, suc, ◌+◌, ◌*◌, ◌<◌, ◌^◌, ℤ, pos, neg_ℤ, List, [], ◌∷◌, ◌++◌, length, map, replicate, IfOk, IfSome, OnOk, All, ◌==◌, if◌then◌else◌};
 ghost use Rattle.suit_num.specs.Narrow.{IsNarrow};
-ghost use Rattle.suit_simplex.specs.Programs.{IsWellFormed};
-ghost use Rattle.suit_simplex.specs.Tableaus.{first_row, first_tableau, unit_numbers};
+ghost use Rattle.suit_tableaus.specs.Programs.{IsWellFormed};
+ghost use Rattle.suit_tableaus.specs.Tableaus.{first_row, first_tableau, unit_numbers};
 ghost use Rattle.suit_simplex.specs.Dense.{seen, IsKept};
 
 use super::dense::Dense;
 use super::{Program, ProgramRow};
 use std::alloc::{AllocError, Global};
 
-// 1 at a place and 0 elsewhere, behind the numbers.
-fn push_unit(numbers: &mut Vec<i128>, count: usize, place: usize) -> Result<(), AllocError>
+// 1 at an index and 0 elsewhere, behind the numbers.
+fn push_unit(numbers: &mut Vec<i128>, count: usize, index: usize) -> Result<(), AllocError>
     requires { All IsNarrow numbers.old.items }
-    ensures items { OnOk result (numbers.new.items ≡ numbers.old.items ++ unit_numbers count place) }
+    ensures items { OnOk result (numbers.new.items ≡ numbers.old.items ++ unit_numbers count index) }
     ensures narrow { OnOk result (All IsNarrow numbers.new.items) }
 {
     for other in 0..count {
-        numbers.push(unit(other, place))?;
+        numbers.push(unit(other, index))?;
     }
     Ok(())
 }
 
-fn unit(other: usize, place: usize) -> i128
-    ensures { result ≡ (if other == place then pos 1 else pos 0) }
+fn unit(other: usize, index: usize) -> i128
+    ensures { result ≡ (if other == index then pos 1 else pos 0) }
 {
-    if other == place { 1 } else { 0 }
+    if other == index { 1 } else { 0 }
 }
 
-// The numbers of the first row at a place, of so many, behind the numbers.
+// The numbers of the first row at an index, of so many, behind the numbers.
 fn push_row(
     numbers: &mut Vec<i128>,
     row: &ProgramRow,
     rows: usize,
-    place: usize,
+    index: usize,
 ) -> Result<(), AllocError>
     requires narrow { All IsNarrow numbers.old.items }
     requires bound { IsNarrow row.now.bound }
     requires entries { All IsNarrow row.now.entries }
-    ensures items { OnOk result (numbers.new.items ≡ numbers.old.items ++ (first_row 0 rows (place, row.now)).numbers) }
+    ensures items { OnOk result (numbers.new.items ≡ numbers.old.items ++ (first_row 0 rows (index, row.now)).numbers) }
     ensures narrow { OnOk result (All IsNarrow numbers.new.items) }
 {
     numbers.push(row.bound)?;
     numbers.extend_from_slice(row.entries.items())?;
-    push_unit(numbers, rows, place)
+    push_unit(numbers, rows, index)
 }
 
 // The numbers of the first objective row behind the numbers.
@@ -111,9 +111,9 @@ pub(crate) fn first_dense(alloc: Global, program: &Program) -> Result<Dense, All
     };
     let mut numbers = Vec::with_capacity(alloc, size)?;
     let mut basics = Vec::with_capacity(alloc, rows.len())?;
-    for (place, row) in rows.iter().enumerate() {
-        push_row(&mut numbers, row, rows.len(), place)?;
-        basics.push(columns.len() + place)?;
+    for (index, row) in rows.iter().enumerate() {
+        push_row(&mut numbers, row, rows.len(), index)?;
+        basics.push(columns.len() + index)?;
     }
     push_objective(&mut numbers, columns, rows.len())?;
     let leaver = vec![in alloc; 0; width + 1]?;

@@ -3,20 +3,15 @@
 #![tactic(auto)]
 
 mod dense;
-mod ends;
 pub mod examples;
 mod first;
 pub mod laws;
-mod lists;
-mod program;
 mod reading;
 mod row;
 mod solving;
 
-pub use ends::{Optimum, SimplexEnd};
-pub use lists::{Fracs, Numbers, ProgramRows};
-pub use program::{Program, ProgramRow};
 pub use solving::optimum;
+pub use suit_tableaus::{Fracs, Numbers, Optimum, Program, ProgramRow, ProgramRows, SimplexEnd};
 
 #[cfg(test)]
 mod tests;

@@ -1,8 +1,8 @@
 //! The optimum that a last tableau holds.
 ghost use Rattle.std.specs.Prelude.{◌≡◌, ℕ, suc, ◌+◌, ◌<◌, ◌==◌, ℤ, pos, ◌<ℤ◌, length, drop, find, position, IfOk, All, Some, slice_get};
 ghost use Rattle.suit_num.specs.declared.fraction.Frac.{Frac};
-ghost use Rattle.suit_simplex.specs.Tableaus.{TableauRow, entry, scale, value};
-ghost use Rattle.suit_simplex.specs.Ends.{IsBasicValue, IsOptimumOf};
+ghost use Rattle.suit_tableaus.specs.Tableaus.{TableauRow, entry, scale, value};
+ghost use Rattle.suit_tableaus.specs.Ends.{IsBasicValue, IsOptimumOf};
 ghost use Rattle.suit_simplex.specs.Dense.{seen, row_at, IsKept};
 
 use super::dense::Dense;
@@ -53,13 +53,13 @@ fn column_value(dense: &Dense, column: usize) -> Frac
     requires pivotal { All (λ row. pos 0 <ℤ entry row row.basic) (seen dense.now).rows }
     ensures { IsBasicValue column (find (λ row. row.basic == column) (seen dense.now).rows) result }
 {
-    match place_of(&dense.basics, column) {
-        Some(place) => Frac::reduced(dense.bound(place), dense.entry(place, column)),
+    match index_of(&dense.basics, column) {
+        Some(index) => Frac::reduced(dense.bound(index), dense.entry(index, column)),
         None => Frac::reduced(0, 1),
     }
 }
 
-fn place_of(basics: &[usize], column: usize) -> Option<usize>
+fn index_of(basics: &[usize], column: usize) -> Option<usize>
     ensures { result ≡ position (λ basic. basic == column) basics.now }
 {
     basics.iter().position(|basic| *basic == column)

@@ -1,34 +1,39 @@
 //! What a pivot does to the numbers of one row.
-ghost use Rattle.std.specs.Prelude.{◌≡◌, ℕ, ◌+◌, ◌<◌, ◌↔◌, ℤ, pos, ◌*ℤ◌, ◌-ℤ◌, ◌<ℤ◌, ◌≤ℤ◌, int_div, unsigned_abs, IsTrue, length, map, All, SomeIff};
-ghost use Rattle.std.specs.Bool.{OnTrue};
+ghost use Rattle.std.specs.Prelude.{◌≡◌, ℕ, ◌+◌, ◌<◌, ◌↔◌, ℤ, pos, ◌*ℤ◌, ◌-ℤ◌, ◌<ℤ◌, ◌≤ℤ◌, int_div, unsigned_abs, IsTrue, IsOk, OnOk, length, map, All, SomeIff};
 ghost use Rattle.std.specs.List.{list_all};
 ghost use Rattle.suit_num.specs.Divisors.{gcd_of};
 ghost use Rattle.suit_num.specs.Narrow.{IsNarrow};
-ghost use Rattle.suit_simplex.specs.Pivots.{combined, combining, combining_at, content, is_narrow, primitive, share, cleared, clearing};
+ghost use Rattle.suit_tableaus.specs.Pivots.{combined, combining, combining_at, content, is_narrow, primitive, share, cleared, clearing};
 
 use suit_num::{gcd, mul, sub};
 
-// A multiple of the row less a multiple of another row, in place. The answer is false where a
-// number is too wide, and then nothing is said of the row.
-pub(crate) fn combine(row: &mut [i128], own: i128, leaver: &[i128], other: i128) -> bool
+// A number is past 127 bits and a sign.
+#[derive(Clone, Copy, Debug)]
+pub(crate) struct TooWide;
+
+// A multiple of the row less a multiple of another row, in place. The error comes where a number is
+// too wide, and then nothing is said of the row.
+pub(crate) fn combine(
+    row: &mut [i128],
+    own: i128,
+    leaver: &[i128],
+    other: i128,
+) -> Result<(), TooWide>
     requires narrow { All IsNarrow row.old }
     requires same_length { length row.old ≡ length leaver.now }
-    ensures fits { IsTrue result ↔ IsTrue (list_all is_narrow (combining own row.old other leaver.now)) }
-    ensures value { OnTrue result (row.new ≡ combined own row.old other leaver.now) }
-    ensures narrow { OnTrue result (All IsNarrow row.new) }
+    ensures fits { IsOk result ↔ IsTrue (list_all is_narrow (combining own row.old other leaver.now)) }
+    ensures value { OnOk result (row.new ≡ combined own row.old other leaver.now) }
+    ensures narrow { OnOk result (All IsNarrow row.new) }
 {
-    for place in 0..row.len() {
-        let taken = leaver[place];
+    for index in 0..row.len() {
+        let taken = leaver[index];
         // Most numbers are 0, and most rows keep their own factor.
-        if taken == 0 && (own == 1 || row[place] == 0) {
+        if taken == 0 && (own == 1 || row[index] == 0) {
             continue;
         }
-        match combine_numbers(row[place], own, taken, other) {
-            Some(number) => row[place] = number,
-            None => return false,
-        }
+        row[index] = combine_numbers(row[index], own, taken, other).ok_or(TooWide)?;
     }
-    true
+    Ok(())
 }
 
 fn combine_numbers(number: i128, own: i128, leaver: i128, other: i128) -> Option<i128>
@@ -37,7 +42,7 @@ fn combine_numbers(number: i128, own: i128, leaver: i128, other: i128) -> Option
     sub(mul(own, number)?, mul(other, leaver)?)
 }
 
-// The greatest common divisor of the numbers. The search begins at a likely place for a divisor of 1,
+// The greatest common divisor of the numbers. The search begins at a likely index for a divisor of 1,
 // with which it ends.
 fn common_divisor(numbers: &[i128], likely: usize) -> i128
     requires narrow { All IsNarrow numbers.now }
@@ -93,7 +98,7 @@ fn quotient(number: i128, divisor: i128) -> i128
     if number == 0 { 0 } else { number / divisor }
 }
 
-// The numbers with the entry cleared by those of the leaving row, in place. The answer is false where
+// The numbers with the entry cleared by those of the leaving row, in place. The error comes where
 // a number on the way is too wide, and then nothing is said of the numbers.
 pub(crate) fn clear(
     numbers: &mut [i128],
@@ -101,7 +106,7 @@ pub(crate) fn clear(
     pivot: i128,
     entry: i128,
     likely: usize,
-) -> bool
+) -> Result<(), TooWide>
     requires narrow { All IsNarrow numbers.old }
     requires narrow_pivot { IsNarrow pivot }
     requires narrow_entry { IsNarrow entry }
@@ -109,16 +114,14 @@ pub(crate) fn clear(
     requires same_length { length numbers.old ≡ length leaver.now }
     requires within { likely < length numbers.old }
     requires some { 0 < content (combined (share pivot entry) numbers.old (share entry pivot) leaver.now) }
-    ensures fits { IsTrue result ↔ IsTrue (list_all is_narrow (clearing pivot entry numbers.old leaver.now)) }
-    ensures value { OnTrue result (numbers.new ≡ cleared pivot entry numbers.old leaver.now) }
-    ensures narrow { OnTrue result (All IsNarrow numbers.new) }
+    ensures fits { IsOk result ↔ IsTrue (list_all is_narrow (clearing pivot entry numbers.old leaver.now)) }
+    ensures value { OnOk result (numbers.new ≡ cleared pivot entry numbers.old leaver.now) }
+    ensures narrow { OnOk result (All IsNarrow numbers.new) }
 {
     let (own, other) = shares(pivot, entry);
-    if !combine(numbers, own, leaver, other) {
-        return false;
-    }
+    combine(numbers, own, leaver, other)?;
     make_primitive(numbers, likely);
-    true
+    Ok(())
 }
 
 // Two numbers divided by their greatest common divisor.

@@ -1,47 +1,42 @@
 //! The run of the simplex.
 ghost use Rattle.std.specs.Prelude.{◌≡◌, ℕ, suc, ◌+◌, ℤ, pos, ◌<ℤ◌, length, All, IfOk, MatchResult};
-ghost use Rattle.suit_simplex.specs.declared.ends.SimplexEnd.TheVariants as ends;
-ghost use Rattle.suit_simplex.specs.Programs.{IsWellFormed, IsBounded};
-ghost use Rattle.suit_simplex.specs.Tableaus.{entry};
-ghost use Rattle.suit_simplex.specs.Runs.{run_end};
-ghost use Rattle.suit_simplex.specs.Ends.{IsOptimumOf, Tells};
-ghost use Rattle.suit_simplex.specs.Optima.{IsPrimalOptimum, IsDualOptimum};
+ghost use Rattle.suit_tableaus.specs.declared.ends.SimplexEnd.TheVariants as ends;
+ghost use Rattle.suit_tableaus.specs.Programs.{IsWellFormed, IsBounded};
+ghost use Rattle.suit_tableaus.specs.Tableaus.{entry};
+ghost use Rattle.suit_tableaus.specs.Runs.{run_end};
+ghost use Rattle.suit_tableaus.specs.Ends.{IsOptimumOf, Tells};
+ghost use Rattle.suit_tableaus.specs.Optima.{IsPrimalOptimum, IsDualOptimum};
 ghost use Rattle.suit_simplex.specs.Dense.{seen, IsKept, CanAdvance, Advances};
 
 use super::dense::Dense;
 use super::first::first_dense;
 use super::reading::read_optimum;
+use super::row::TooWide;
 use super::{Optimum, Program, SimplexEnd};
 use std::alloc::Global;
 
-// What one step of the run comes to.
+// How far one step takes the run.
 pub(crate) enum Progress {
     // No column enters.
     Last,
-    // A number of the pivot is too wide.
-    TooWide,
     Pivoted,
 }
 
-fn advance(dense: &mut Dense) -> Progress
+// One step of the run. The error comes where a number of the pivot is too wide, and then nothing is
+// said of the tableau.
+fn advance(dense: &mut Dense) -> Result<Progress, TooWide>
     requires kept { IsKept dense.old }
     requires can { CanAdvance dense.old }
     ensures { Advances result dense.old dense.new }
 {
     let Some(column) = dense.entering() else {
-        return Progress::Last;
+        return Ok(Progress::Last);
     };
-    let Ok(leaver) = dense.leaving(column) else {
-        return Progress::TooWide;
-    };
-    let Some(place) = leaver else {
+    let Some(index) = dense.leaving(column)? else {
         unreachable!();
     };
-    if dense.pivot(column, place) {
-        Progress::Pivoted
-    } else {
-        Progress::TooWide
-    }
+    dense.pivot(column, index)?;
+    Ok(Progress::Pivoted)
 }
 
 /// The optimum of a bounded program, by the simplex with Bland's rule (R. G. Bland, "New finite
@@ -59,28 +54,16 @@ pub fn optimum(alloc: Global, program: &Program, pivots: u32) -> Result<Optimum,
     ensures primal { IfOk result (IsPrimalOptimum program.now) }
     ensures dual { IfOk result (IsDualOptimum program.now) }
 {
-    let mut tableau = match first_dense(alloc, program) {
-        Ok(first) => first,
-        Err(_) => return Err(SimplexEnd::Memory),
-    };
+    let mut tableau = first_dense(alloc, program)?;
     for made in 0..pivots {
         match advance(&mut tableau) {
-            Progress::Pivoted => {}
-            Progress::Last => return read(alloc, program, &tableau),
-            Progress::TooWide => return Err(SimplexEnd::Wide { pivot: made + 1 }),
+            Ok(Progress::Pivoted) => {}
+            Ok(Progress::Last) => return Ok(read_optimum(alloc, program, &tableau)?),
+            Err(TooWide) => return Err(SimplexEnd::Wide { pivot: made + 1 }),
         }
     }
     if tableau.entering().is_some() {
         return Err(SimplexEnd::Pivots);
     }
-    read(alloc, program, &tableau)
-}
-
-fn read(alloc: Global, program: &Program, dense: &Dense) -> Result<Optimum, SimplexEnd>
-    requires kept { IsKept dense.now }
-    requires width { dense.now.width ≡ suc (length program.now.costs + length program.now.rows) }
-    requires pivotal { All (λ row. pos 0 <ℤ entry row row.basic) (seen dense.now).rows }
-    ensures { MatchResult result (IsOptimumOf program.now (seen dense.now)) (λ end. end ≡ ends.Memory) }
-{
-    read_optimum(alloc, program, dense).map_err(|_| SimplexEnd::Memory)
+    Ok(read_optimum(alloc, program, &tableau)?)
 }

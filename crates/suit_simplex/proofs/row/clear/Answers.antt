@@ -2,7 +2,7 @@ use Rattle.std.proofs.Common.{rules, ◌≡◌}
 use Rattle.std.specs.Prelude.{FitsSigned}
 use Rattle.std.specs.Int.{w128}
 use Rattle.std.proofs.lemmas.Int.{to_z-of_z}
-use Rattle.suit_simplex.specs.Pivots.{combined, share}
+use Rattle.suit_tableaus.specs.Pivots.{combined, share}
 use Rattle.suit_simplex.proofs.row.clear.Goals as goal
 
 pub make_primitive-requires-clause-some : goal.make_primitive-requires-clause-some
@@ -13,5 +13,5 @@ make_primitive-requires-clause-some c =
     let other_fits : FitsSigned w128 c.shares-own.result.1 = search rules in
     let own : c.shares-own.result.0 ≡ share c.args.pivot c.args.entry = simp to_z-of_z at c.shares-own.ensures.pivot in
     let other : c.shares-own.result.1 ≡ share c.args.entry c.args.pivot = simp to_z-of_z at c.shares-own.ensures.entry in
-    let value : c.combine.new.row ≡ combined c.shares-own.result.0 c.args.numbers.now c.shares-own.result.1 c.args.leaver.now = simp to_z-of_z at c.if-not-combine.ensures.value in
+    let value : c.combine.new.row ≡ combined c.shares-own.result.0 c.args.numbers.now c.shares-own.result.1 c.args.leaver.now = simp to_z-of_z at c.in_ok-combine.ensures.value in
     rw (value, own, other) c.requires.some

@@ -2,8 +2,8 @@ use Rattle.std.proofs.Common.{rules, arith, refl, ◌≡◌}
 use Rattle.std.specs.Prelude.{FitsSigned, pos}
 use Rattle.std.specs.Int.{w128, cast_signed}
 use Rattle.std.proofs.lemmas.Int.{to_z-of_z}
-use Rattle.suit_simplex.specs.Points.{number_at}
-use Rattle.suit_simplex.proofs.CommonDivisors.{first_divisor, next_divisor, last_divisor, divisor_one}
+use Rattle.suit_tableaus.specs.Points.{number_at}
+use Rattle.suit_tableaus.proofs.CommonDivisors.{first_divisor, next_divisor, last_divisor, divisor_one}
 use Rattle.suit_simplex.proofs.row.common_divisor.Goals as goal
 
 pub loop-number-init : goal.loop-number-init

@@ -1,4 +1,4 @@
-use Rattle.suit_simplex.proofs.CommonDivisors.{IsDivisorBelow}
+use Rattle.suit_tableaus.proofs.CommonDivisors.{IsDivisorBelow}
 use Rattle.suit_simplex.proofs.row.common_divisor.Given as goal
 
 abbrev pub invariant-loop-number : goal.invariant-loop-number

@@ -1,7 +1,7 @@
 use Rattle.std.specs.Prelude.{FitsSigned, ◌≡◌, pos}
 use Rattle.std.specs.Int.{w128}
 use Rattle.std.proofs.lemmas.Int.{to_z-of_z}
-use Rattle.suit_simplex.proofs.CommonDivisors.{gcd_with_zero, zero_bits}
+use Rattle.suit_tableaus.proofs.CommonDivisors.{gcd_with_zero, zero_bits}
 use Rattle.suit_simplex.proofs.row.divisor_with.Goals as goal
 
 pub returns-then-number-eq0 : goal.returns-then-number-eq0

@@ -2,9 +2,9 @@ use Rattle.std.proofs.Common.{rules, arith, ◌≡◌}
 use Rattle.std.specs.Prelude.{FitsSigned, pos, ◌<ℤ◌}
 use Rattle.std.specs.Int.{w128}
 use Rattle.std.proofs.lemmas.Int.{ints, to_z-of_z}
-use Rattle.suit_simplex.specs.Points.{number_at}
-use Rattle.suit_simplex.proofs.CommonDivisors.{primitive_same, one_divided, all_divided, narrow_primitive, one_bits}
-use Rattle.suit_simplex.specs.Pivots.{primitive}
+use Rattle.suit_tableaus.specs.Points.{number_at}
+use Rattle.suit_tableaus.proofs.CommonDivisors.{primitive_same, one_divided, all_divided, narrow_primitive, one_bits}
+use Rattle.suit_tableaus.specs.Pivots.{primitive}
 use Rattle.suit_simplex.proofs.row.make_primitive.Goals as goal
 
 pub returns-then-divisor-eq1-clause-value : goal.returns-then-divisor-eq1-clause-value

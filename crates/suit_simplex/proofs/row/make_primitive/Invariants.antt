@@ -1,4 +1,4 @@
-use Rattle.suit_simplex.proofs.CommonDivisors.{IsDividedBelow}
+use Rattle.suit_tableaus.proofs.CommonDivisors.{IsDividedBelow}
 use Rattle.suit_simplex.proofs.row.make_primitive.Given as goal
 
 abbrev pub invariant-loop-number : goal.invariant-loop-number

@@ -1,5 +1,5 @@
 use Rattle.suit_simplex.proofs.LeavingRows.{IsBestBefore}
 use Rattle.suit_simplex.proofs.dense.Dense.leaving.Given as goal
 
-abbrev pub invariant-loop-place : goal.invariant-loop-place
-invariant-loop-place l = IsBestBefore l.self l.column l.best l.place
+abbrev pub invariant-loop-index : goal.invariant-loop-index
+invariant-loop-index l = IsBestBefore l.self l.column l.best l.index

@@ -1,13 +1,13 @@
 use Rattle.std.proofs.Common.{rules, ◌≡◌, ◌∙◌, ◌+◌, ◌-◌, ◌*◌, ℕ, suc, take, drop, length, refl, arith, ap, All, List, length-take, length-drop}
-use Rattle.std.specs.Bool.{OnTrue}
+use Rattle.std.specs.Prelude.{OnOk}
 use Rattle.std.specs.Prelude.{FitsSigned, ℤ}
 use Rattle.std.specs.Int.{w128}
 use Rattle.std.proofs.lemmas.Int.{to_z-of_z}
 use Rattle.suit_num.specs.Narrow.{IsNarrow}
-use Rattle.suit_simplex.specs.Tableaus.{Tableau, entry, reduced_cost}
-use Rattle.suit_simplex.specs.Pivots.{cleared}
+use Rattle.suit_tableaus.specs.Tableaus.{Tableau, entry, reduced_cost}
+use Rattle.suit_tableaus.specs.Pivots.{cleared}
 use Rattle.suit_simplex.specs.Dense.{leaver_row, seen}
-use Rattle.suit_simplex.proofs.PivotedRows.{objective_part, seen_with_objective, kept_with_part, with_part, part_written, pivot_read, on_true}
+use Rattle.suit_simplex.proofs.PivotedRows.{objective_part, seen_with_objective, kept_with_part, with_part, part_written, pivot_read, on_ok}
 use Rattle.suit_simplex.proofs.dense.Dense.pivot_objective.Goals as goal
 
 pub clear-requires-clause-some : goal.clear-requires-clause-some
@@ -48,8 +48,8 @@ returns-clause-objective c =
     let fits : c.start-start.result + (length c.deref_mut.result.now - c.start-start.result) ≡ length c.args.self.now.numbers.items = omega (arith, ap length whole) in
     let length_is : length c.clear.new.numbers ≡ length c.deref_mut.result.now - c.start-start.result = c.clear.auto.numbers ∙ simp (length-take, length-drop) (omega arith) in
     let written = part_written c.args.self.now c.start-start.result (length c.deref_mut.result.now - c.start-start.result) c.deref_mut.result.now c.clear.new.numbers whole (omega arith) length_is in
-    let clean : OnTrue c.clear.result (c.clear.new.numbers ≡ cleared (entry (leaver_row c.args.self.now 0) c.args.column) (reduced_cost (seen c.args.self.now) c.args.column) (seen c.args.self.now).objective c.args.self.now.leaver.items) = rw (whole, part, copied, pivot, value) at (simp to_z-of_z at c.clear.ensures.value) in
-    on_true c.clear.result
+    let clean : OnOk c.clear.result (c.clear.new.numbers ≡ cleared (entry (leaver_row c.args.self.now 0) c.args.column) (reduced_cost (seen c.args.self.now) c.args.column) (seen c.args.self.now).objective c.args.self.now.leaver.items) = rw (whole, part, copied, pivot, value) at (simp to_z-of_z at c.clear.ensures.value) in
+    on_ok c.clear.result
     (λ (v : c.clear.new.numbers ≡ cleared (entry (leaver_row c.args.self.now 0) c.args.column) (reduced_cost (seen c.args.self.now) c.args.column) (seen c.args.self.now).objective c.args.self.now.leaver.items).
     seen_with_objective c.args.self.now (with_part c.args.self.now c.start-start.result (length c.deref_mut.result.now - c.start-start.result) c.deref_mut.result.now c.clear.new.numbers) c.start-start.result (length c.deref_mut.result.now - c.start-start.result) c.deref_mut.result.now c.clear.new.numbers start whole fits refl refl written
     ∙ ap (λ (ys : List ℤ). let t : Tableau = record (seen c.args.self.now) { objective = ys } in t) v)
@@ -69,6 +69,6 @@ returns-clause-kept c =
     let fits : c.start-start.result + (length c.deref_mut.result.now - c.start-start.result) ≡ length c.args.self.now.numbers.items = omega (arith, ap length whole) in
     let length_is : length c.clear.new.numbers ≡ length c.deref_mut.result.now - c.start-start.result = c.clear.auto.numbers ∙ simp (length-take, length-drop) (omega arith) in
     let written = part_written c.args.self.now c.start-start.result (length c.deref_mut.result.now - c.start-start.result) c.deref_mut.result.now c.clear.new.numbers whole (omega arith) length_is in
-    on_true c.clear.result
+    on_ok c.clear.result
     (λ (narrow : All IsNarrow c.clear.new.numbers). kept_with_part c.args.self.now (with_part c.args.self.now c.start-start.result (length c.deref_mut.result.now - c.start-start.result) c.deref_mut.result.now c.clear.new.numbers) c.start-start.result (length c.deref_mut.result.now - c.start-start.result) c.deref_mut.result.now c.clear.new.numbers c.requires.kept (omega arith) length_is whole narrow refl refl written refl)
     c.clear.ensures.narrow

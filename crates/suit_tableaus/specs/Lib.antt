@@ -1,0 +1,9 @@
+pub mod Ends
+pub mod Laws
+pub mod Multiples
+pub mod Optima
+pub mod Pivots
+pub mod Points
+pub mod Programs
+pub mod Runs
+pub mod Tableaus

@@ -1,0 +1,18 @@
+//! Laws of the definitions. Each function does nothing: its contract is the law.
+ghost use Rattle.suit_tableaus.specs.Laws.{MultiplesLeaveAlike, MultiplesDivideBack, SmallPivotsAreMade};
+
+/// Where the rows of two tableaus are multiples of each other, one by one, the ratio test takes a
+/// multiple of the same row.
+pub fn multiples_leave_alike()
+    ensures { MultiplesLeaveAlike }
+{}
+
+/// A multiple of numbers with no common divisor is divided back to them by its own.
+pub fn multiples_divide_back()
+    ensures { MultiplesDivideBack }
+{}
+
+/// Where no number of a tableau is above 2^62 in size, its pivot makes none past 127 bits and a sign.
+pub fn small_pivots_are_made()
+    ensures { SmallPivotsAreMade }
+{}

@@ -1,0 +1,98 @@
+//! Lists that contracts see as lists.
+ghost use Rattle.std.specs.Prelude.{◌≡◌};
+
+use super::ProgramRow;
+use std::marker::Model;
+use suit_num::Frac;
+
+/// Whole numbers.
+#[derive(Debug, Drop)]
+pub struct Numbers {
+    items: Vec<i128>,
+}
+
+impl Model for Numbers {
+    ghost use Rattle.std.specs.Prelude.{List, ℤ};
+
+    ghost Value = { List ℤ };
+
+    ghost view = { λ list. list.items.items };
+}
+
+impl Numbers {
+    /// The list of these numbers.
+    pub fn of(items: Vec<i128>) -> Numbers
+        ensures { result ≡ items.items }
+    {
+        Numbers { items }
+    }
+
+    /// The numbers of the list, in order.
+    pub fn items(&self) -> &[i128]
+        ensures { result.now ≡ self.now }
+    {
+        &self.items
+    }
+}
+
+/// Fractions in lowest terms.
+#[derive(Debug, Drop)]
+pub struct Fracs {
+    items: Vec<Frac>,
+}
+
+impl Model for Fracs {
+    ghost use Rattle.std.specs.Prelude.{List};
+    ghost use Rattle.suit_num.specs.declared.fraction.Frac.{Frac};
+
+    ghost Value = { List Frac };
+
+    ghost view = { λ list. list.items.items };
+}
+
+impl Fracs {
+    /// The list of these fractions.
+    pub fn of(items: Vec<Frac>) -> Fracs
+        ensures { result ≡ items.items }
+    {
+        Fracs { items }
+    }
+
+    /// The fractions of the list, in order.
+    pub fn items(&self) -> &[Frac]
+        ensures { result.now ≡ self.now }
+    {
+        &self.items
+    }
+}
+
+/// The rows of a program.
+#[derive(Debug, Drop)]
+pub struct ProgramRows {
+    items: Vec<ProgramRow>,
+}
+
+impl Model for ProgramRows {
+    ghost use Rattle.std.specs.Prelude.{List};
+    ghost use Rattle.suit_tableaus.specs.declared.program.ProgramRow.{ProgramRow};
+
+    ghost Value = { List ProgramRow };
+
+    ghost view = { λ list. list.items.items };
+}
+
+impl ProgramRows {
+    /// The list of these rows.
+    pub fn of(items: Vec<ProgramRow>) -> ProgramRows
+        ensures { result ≡ items.items }
+    {
+        ProgramRows { items }
+    }
+
+    /// The rows of the list, in order.
+    pub fn items(&self) -> &[ProgramRow]
+        ensures { result.now ≡ self.now }
+    {
+        &self.items
+    }
+}
