@@ -1,12 +1,14 @@
--- Where the lines of a text begin and end.
-use Rattle.std.proofs.Common.{ℕ, ◌+◌, ◌-◌, ◌<◌, ◌≤◌, ◌≡◌, ◌==◌, Bool, true, false, List, [], ◌∷◌, ◌++◌, length, map, take, drop, Some, None, position, arith, refl, ap, ◌∙◌, get_or, length-append, suc, zero}
+-- `lines_after`: where the lines of a text begin and end.
+use Rattle.std.proofs.Common.{ℕ, ◌+◌, ◌-◌, ◌<◌, ◌≤◌, ◌≡◌, ◌==◌, Bool, true, false, List, [], ◌∷◌, ◌++◌}
+use Rattle.std.proofs.Common.{length, map, take, drop, Some, None, position}
+use Rattle.std.proofs.Common.{arith, refl, ap, ◌∙◌, get_or, length-append, suc, zero}
 use Rattle.std.specs.List.{position_or_len}
 use Rattle.std.specs.Str.{bytes_eq}
 use Rattle.std.proofs.lemmas.Bool.Decides.{nat_tests}
 use Rattle.std.proofs.lemmas.List.{take_at, drop_at, take_more, drop_all, length-take-le, length-drop}
 use Rattle.std.proofs.lemmas.List.Quantifiers.{position-Some}
 use Rattle.suit_question.specs.Words.{words_of, with_first, is_end}
-use Rattle.suit_question.specs.Reading.{end_of, end_place}
+use Rattle.suit_question.specs.Reading.{end_of, end_index}
 use Rattle.suit_question.specs.Lines.{pieces_of, line_of, without_return, lines_of, BeginsPiece}
 use Rattle.suit_question.proofs.WordCuts.{take_next, drop_next, none_first, some_first}
 
@@ -14,7 +16,9 @@ use Rattle.suit_question.proofs.WordCuts.{take_next, drop_next, none_first, some
 abbrev feed : List ℕ → ℕ
 feed text = position_or_len (λ byte. byte == 10) text
 
-fed_step : (b : Bool) (x : ℕ) (xs : List ℕ) → (x == 10) ≡ b → feed (x ∷ xs) < length (x ∷ xs) → (feed xs < length xs → pieces_of xs ≡ take (1 + feed xs) xs ∷ pieces_of (drop (1 + feed xs) xs)) → pieces_of (x ∷ xs) ≡ take (1 + feed (x ∷ xs)) (x ∷ xs) ∷ pieces_of (drop (1 + feed (x ∷ xs)) (x ∷ xs))
+fed_step : (b : Bool) (x : ℕ) (xs : List ℕ) → (x == 10) ≡ b → feed (x ∷ xs) < length (x ∷ xs)
+    → (feed xs < length xs → pieces_of xs ≡ take (1 + feed xs) xs ∷ pieces_of (drop (1 + feed xs) xs))
+    → pieces_of (x ∷ xs) ≡ take (1 + feed (x ∷ xs)) (x ∷ xs) ∷ pieces_of (drop (1 + feed (x ∷ xs)) (x ∷ xs))
 unfolding pieces_of
 fed_step true x xs e h ih = rw e refl
 fed_step false x xs e h ih =
@@ -23,11 +27,13 @@ fed_step false x xs e h ih =
     rw (e, ih rest, take_next (1 + feed xs) x xs, drop_next (1 + feed xs) x xs) refl
 
 -- a piece ends with the first line feed
-pub piece_fed : (text : List ℕ) → feed text < length text → pieces_of text ≡ take (1 + feed text) text ∷ pieces_of (drop (1 + feed text) text)
+pub piece_fed : (text : List ℕ) → feed text < length text
+    → pieces_of text ≡ take (1 + feed text) text ∷ pieces_of (drop (1 + feed text) text)
 piece_fed [] h = absurd (omega arith)
 piece_fed (x ∷ xs) h = fed_step (x == 10) x xs refl h (piece_fed xs)
 
-last_step : (b : Bool) (x : ℕ) (xs : List ℕ) → (x == 10) ≡ b → length (x ∷ xs) ≤ feed (x ∷ xs) → (b ≡ false) × (length xs ≤ feed xs)
+last_step : (b : Bool) (x : ℕ) (xs : List ℕ) → (x == 10) ≡ b → length (x ∷ xs) ≤ feed (x ∷ xs)
+    → (b ≡ false) × (length xs ≤ feed xs)
 last_step true x xs e h = let none : suc (length xs) ≤ 0 = rw e at h in absurd (omega arith)
 last_step false x xs e h = let less : suc (length xs) ≤ 1 + feed xs = rw e at h in (refl, omega arith)
 
@@ -42,7 +48,8 @@ no_pieces = refl
 -- a text without a line feed is one piece
 pub piece_whole : (x : ℕ) (xs : List ℕ) → length (x ∷ xs) ≤ feed (x ∷ xs) → pieces_of (x ∷ xs) ≡ (x ∷ xs) ∷ []
 piece_whole x [] h = let s = last_step (x == 10) x [] refl h in one_piece x [] s.0 ∙ ap (with_first x) no_pieces
-piece_whole x (y ∷ ys) h = let s = last_step (x == 10) x (y ∷ ys) refl h in one_piece x (y ∷ ys) s.0 ∙ ap (with_first x) (piece_whole y ys s.1)
+piece_whole x (y ∷ ys) h = let s = last_step (x == 10) x (y ∷ ys) refl h in
+    one_piece x (y ∷ ys) s.0 ∙ ap (with_first x) (piece_whole y ys s.1)
 
 -- what is left of a text without a line feed is no line feed
 lacks_feed : (text : List ℕ) (k : ℕ) → length text ≤ feed text → bytes_eq (drop k text) (10 ∷ []) ≡ false
@@ -64,13 +71,15 @@ eq_true : (x : ℕ) → (x == 10) ≡ true → x ≡ 10
 eq_true x h = grind (arith, nat_tests)
 
 -- the piece up to a line feed
-feed_taken : (text : List ℕ) (at : ℕ) → at < length text → (get_or text at 0 == 10) ≡ true → take (1 + at) text ≡ take at text ++ 10 ∷ []
+feed_taken : (text : List ℕ) (at : ℕ) → at < length text → (get_or text at 0 == 10) ≡ true
+    → take (1 + at) text ≡ take at text ++ 10 ∷ []
 feed_taken text at h e =
     let n : 1 + at ≡ at + 1 = omega arith in
     rw (n, take_more text at 0 h, eq_true (get_or text at 0) e) refl
 
 -- a text with a line feed begins with the line before it
-pub begins_fed : (text : List ℕ) (at : ℕ) → position (λ byte. byte == 10) text ≡ Some at → BeginsPiece text (without_return (take at text)) (drop (at + 1) text)
+pub begins_fed : (text : List ℕ) (at : ℕ) → position (λ byte. byte == 10) text ≡ Some at
+    → BeginsPiece text (without_return (take at text)) (drop (at + 1) text)
 begins_fed text at h =
     let s = position-Some (λ byte. byte == 10) text at 0 h in
     let e : at ≡ feed text = some_first (λ byte. byte == 10) text at h in
@@ -91,7 +100,8 @@ whole_piece [] h k = absurd (omega arith)
 whole_piece (x ∷ xs) h k = piece_whole x xs h
 
 -- a text without a line feed is one line
-pub begins_last : (text : List ℕ) → position (λ byte. byte == 10) text ≡ None → 0 < length text → BeginsPiece text text (drop (length text) text)
+pub begins_last : (text : List ℕ) → position (λ byte. byte == 10) text ≡ None → 0 < length text
+    → BeginsPiece text text (drop (length text) text)
 begins_last text h k =
     let far : length text ≤ feed text = none_first (λ byte. byte == 10) text h in
     let nothing : drop (length text) text ≡ [] = drop_all (length text) text (omega arith) in
@@ -112,15 +122,17 @@ no_lines [] h = ap (map (λ piece. words_of (line_of piece))) no_pieces
 no_lines (x ∷ xs) h = absurd (grind (arith, nat_tests))
 
 -- the place after the end, where the first line is the end
-pub end_here : (text line rest : List ℕ) → BeginsPiece text line rest → is_end (words_of line) ≡ true → end_place text + length rest ≡ length text
+pub end_here : (text line rest : List ℕ) → BeginsPiece text line rest → is_end (words_of line) ≡ true
+    → end_index text + length rest ≡ length text
 unfolding end_of
 end_here text line rest h e = rw (h.pieces, h.has_line, e) (omega (arith, h.whole))
 
 -- the place after the end, where the first line is not the end
-pub end_later : (text line rest : List ℕ) → BeginsPiece text line rest → is_end (words_of line) ≡ false → end_place text + length rest ≡ length text + end_place rest
+pub end_later : (text line rest : List ℕ) → BeginsPiece text line rest → is_end (words_of line) ≡ false
+    → end_index text + length rest ≡ length text + end_index rest
 unfolding end_of
 end_later text line rest h e = rw (h.pieces, h.has_line, e) (omega (arith, h.whole))
 
-pub no_end : (text : List ℕ) → text ≡ [] → end_place text ≡ 0
+pub no_end : (text : List ℕ) → text ≡ [] → end_index text ≡ 0
 unfolding end_of
 no_end text h = rw (h, no_pieces) refl

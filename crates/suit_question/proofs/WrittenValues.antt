@@ -1,5 +1,7 @@
--- Values that are written are read back.
-use Rattle.std.proofs.Common.{ℕ, ◌+◌, ◌-◌, ◌*◌, ◌^◌, ◌<◌, ◌≤◌, ◌≡◌, ◌==◌, ◌&&◌, nat_lt, nat_le, Bool, true, false, List, [], ◌∷◌, length, map, decimal, codes, Some, Ok, arith, rules, refl, lit<, lit≤}
+-- `number_within_back`: values that are written are read back.
+use Rattle.std.proofs.Common.{ℕ, ◌+◌, ◌-◌, ◌*◌, ◌^◌, ◌<◌, ◌≤◌, ◌≡◌, ◌==◌, ◌&&◌, nat_lt, nat_le, Bool, true}
+use Rattle.std.proofs.Common.{false, List, [], ◌∷◌, length, map, decimal}
+use Rattle.std.proofs.Common.{codes, Some, Ok, arith, rules, refl, lit<, lit≤}
 use Rattle.std.specs.Char.{to_ascii_lowercase, is_ascii_digit}
 use Rattle.std.specs.List.{AllByRecursion}
 use Rattle.std.specs.Str.{all_ascii_digits}
@@ -12,13 +14,15 @@ use Rattle.suit_cards.specs.Ranks.{letters, letter_of}
 use Rattle.suit_cards.proofs.RankLetters.{Contains-suit}
 use Rattle.suit_cards.proofs.WrittenCards.{holding_read-text_of}
 use Rattle.suit_game.specs.Validity.{AreEntries, IsGoal}
+use Rattle.suit_game.specs.declared.limits.TheConstants.{HAND_SIZE}
 use Rattle.suit_game.specs.declared.question.LeadAt.{LeadAt}
 use Rattle.suit_game.specs.declared.question.LeadAt.TheVariants.{N, S, Either}
 use Rattle.suit_game.specs.declared.question.Entries.{Entries}
 use Rattle.suit_game.specs.declared.question.Entries.TheVariants.{Count, Free}
 use Rattle.suit_game.specs.declared.question.Goal.{Goal}
 use Rattle.suit_game.specs.declared.question.Goal.TheVariants.{AtLeast, Tricks}
-use Rattle.suit_question.specs.Values.{is_word, number_read, number_within, holding_named, lead_named, entries_named, goal_named}
+use Rattle.suit_question.specs.Values.{is_word, number_read, number_within}
+use Rattle.suit_question.specs.Values.{holding_named, lead_named, entries_named, goal_named}
 use Rattle.suit_question.specs.Writing.{lead_text, entries_text, goal_text}
 use Rattle.suit_question.proofs.WrittenLines.{ArePlain, IsPlainWord}
 
@@ -41,15 +45,21 @@ is_within a b h = grind (arith, nat_tests)
 pub number_back : (number : ℕ) → number < 10 ^ 9 → number_read (decimal number) ≡ Some number
 number_back number small =
     let h : number < 2 ^ 64 = omega arith in
-    rw (is_below 0 (length (decimal number)) (decimal_nonempty number h), is_within (length (decimal number)) 9 (length-decimal-le 9 number (lit< tt) small h), digits_written number small, (decimal_is_IsNumeral number h).1) refl
+    rw (
+      is_below 0 (length (decimal number)) (decimal_nonempty number h),
+      is_within (length (decimal number)) 9 (length-decimal-le 9 number (lit< tt) small h),
+      digits_written number small,
+      (decimal_is_IsNumeral number h).1,
+    ) refl
 
 -- a number in its range is read back
-pub number_within_back : (least most number : ℕ) → least ≤ number → number ≤ most → number < 10 ^ 9 → number_within least most (decimal number) ≡ Ok number
+pub number_within_back : (least most number : ℕ) → least ≤ number → number ≤ most → number < 10 ^ 9
+    → number_within least most (decimal number) ≡ Ok number
 number_within_back least most number low high small =
     rw (number_back number small, is_within least number low, is_within number most high) refl
 
-pub count_back : (count : ℕ) → count ≤ 13 → number_within 0 13 (decimal count) ≡ Ok count
-count_back count few = number_within_back 0 13 count (omega arith) few (omega arith)
+pub count_back : (count : ℕ) → count ≤ HAND_SIZE → number_within 0 HAND_SIZE (decimal count) ≡ Ok count
+count_back count few = number_within_back 0 HAND_SIZE count (omega arith) few (omega arith)
 
 both_true : (a b : Bool) → (a && b) ≡ true → (a ≡ true) × (b ≡ true)
 both_true true b h = (refl, h)
@@ -105,24 +115,38 @@ entries_plain Free h = record { some = lit< tt; plain = (lit< tt, (lit< tt, (lit
 entries_plain (Count left) h = number_plain left (omega arith)
 
 pub goal_plain : (goal : Goal) → IsGoal goal → IsPlainWord (goal_text goal)
-goal_plain Tricks h = record { some = lit< tt; plain = (lit< tt, (lit< tt, (lit< tt, (lit< tt, (lit< tt, (lit< tt, tt)))))) }
+goal_plain Tricks h =
+    record { some = lit< tt; plain = (lit< tt, (lit< tt, (lit< tt, (lit< tt, (lit< tt, (lit< tt, tt)))))) }
 goal_plain (AtLeast least) h = number_plain least (omega arith)
 
 pub lead_plain : (lead : LeadAt) → IsPlainWord (lead_text lead)
 lead_plain N = record { some = lit< tt; plain = (lit< tt, tt) }
 lead_plain S = record { some = lit< tt; plain = (lit< tt, tt) }
-lead_plain Either = record { some = lit< tt; plain = (lit< tt, (lit< tt, (lit< tt, (lit< tt, (lit< tt, (lit< tt, tt)))))) }
+lead_plain Either =
+    record { some = lit< tt; plain = (lit< tt, (lit< tt, (lit< tt, (lit< tt, (lit< tt, (lit< tt, tt)))))) }
 
 each_letter : AllByRecursion (λ rank. 32 < letter_of rank) suit
 unfolding suit letters
-each_letter = (lit< tt, (lit< tt, (lit< tt, (lit< tt, (lit< tt, (lit< tt, (lit< tt, (lit< tt, (lit< tt, (lit< tt, (lit< tt, (lit< tt, (lit< tt, tt)))))))))))))
+each_letter = (
+  lit< tt,
+  (
+    lit< tt,
+    (
+      lit< tt,
+      (lit< tt, (lit< tt, (lit< tt, (lit< tt, (lit< tt, (lit< tt, (lit< tt, (lit< tt, (lit< tt, (lit< tt, tt)))))))))),
+    ),
+  ),
+)
 
 letters_plain : (rank : ℕ) → 2 ≤ rank → rank ≤ 14 → 32 < letter_of rank
-letters_plain rank low high = All-contains (λ r. 32 < letter_of r) suit rank (All-from_recursion _ suit each_letter) (Contains-suit rank (low, high))
+letters_plain rank low high =
+    All-contains (λ r. 32 < letter_of r) suit rank (All-from_recursion _ suit each_letter)
+    (Contains-suit rank (low, high))
 
 ranks_plain : (top : ℕ) (ranks : List ℕ) → top ≤ 15 → FallsBelow top ranks → ArePlain (map letter_of ranks)
 ranks_plain top [] h falls = tt
-ranks_plain top (rank ∷ rest) h falls = (letters_plain rank falls.0 (omega (arith, falls.1)), ranks_plain rank rest (omega (arith, falls.1)) falls.2)
+ranks_plain top (rank ∷ rest) h falls =
+    (letters_plain rank falls.0 (omega (arith, falls.1)), ranks_plain rank rest (omega (arith, falls.1)) falls.2)
 
 pub holding_plain : (ranks : List ℕ) → IsHolding ranks → IsPlainWord (text_of ranks)
 holding_plain [] is = record { some = lit< tt; plain = (lit< tt, tt) }

@@ -1,8 +1,12 @@
 -- A question in the making: thirteen columns, each with a value or none.
-use Rattle.std.specs.Prelude.{ℕ, ◌+◌, ◌≤◌, ◌==◌, nat_lt, List, length, Option, Some, None, IfSome, Result, Ok, Err, if◌then◌else◌}
+use Rattle.std.specs.Prelude.{ℕ, ◌+◌, ◌≤◌, ◌==◌, nat_lt, length, Option}
+use Rattle.std.specs.Prelude.{Some, None, IfSome, Result, Ok, Err, if◌then◌else◌}
 use Rattle.std.specs.List.{list_any}
 use Rattle.std.specs.Option.{ok_or, option_map_or, unwrap_or}
+use Rattle.suit_cards.specs.Cards.{Cards, Text}
 use Rattle.suit_cards.specs.Holdings.{holds}
+use Rattle.suit_game.specs.declared.limits.TheConstants.{HAND_SIZE, MOST_NODES}
+use Rattle.suit_game.specs.declared.limits.TheConstants.{MOST_PIVOTS, DEFAULT_NODES, DEFAULT_PIVOTS}
 use Rattle.suit_game.specs.declared.question.Question.{Question}
 use Rattle.suit_game.specs.declared.question.LeadAt.TheVariants.{Either}
 use Rattle.suit_game.specs.declared.question.Entries.TheVariants.{Free}
@@ -12,14 +16,36 @@ use Rattle.suit_game.specs.Question.{missing}
 use Rattle.suit_game.specs.Validity.{AreEntries, IsGoal}
 use Rattle.suit_question.specs.Results.{◌>>=◌, found_as, told_as}
 use Rattle.suit_question.specs.Values.{number_within, holding_named, lead_named, entries_named, goal_named}
+use Rattle.suit_question.specs.declared.column.Column.{Column}
+use Rattle.suit_question.specs.declared.column.Column.TheVariants.{North, South, Start, Regain, EntriesN, EntriesS}
+use Rattle.suit_question.specs.declared.column.Column.TheVariants.{VacantW, VacantE, WestLeast}
+use Rattle.suit_question.specs.declared.column.Column.TheVariants.{WestMost, Goal as GoalColumn, Nodes, Pivots}
 use Rattle.suit_question.specs.declared.columns.Columns.{Columns}
 use Rattle.suit_question.specs.declared.faults.QuestionFault.{QuestionFault}
 use Rattle.suit_question.specs.declared.faults.QuestionKind.{QuestionKind}
-use Rattle.suit_question.specs.declared.faults.QuestionKind.TheVariants.{NoLine, Repeated, Shared, Empty, Range, Vacant, NoLayout}
+use Rattle.suit_question.specs.declared.faults.QuestionKind.TheVariants.{NoLine, Repeated, Shared}
+use Rattle.suit_question.specs.declared.faults.QuestionKind.TheVariants.{Empty, Range, Vacant, NoLayout}
 
 -- a column's number
 abbrev pub IsColumn : ℕ → Type 0
 IsColumn column = (1 ≤ column) × (column ≤ 13)
+
+-- the column of a number
+abbrev pub column_numbered : ℕ → Column
+column_numbered number =
+    if number == 1 then North
+    else if number == 2 then South
+    else if number == 3 then Start
+    else if number == 4 then Regain
+    else if number == 5 then EntriesN
+    else if number == 6 then EntriesS
+    else if number == 7 then VacantW
+    else if number == 8 then VacantE
+    else if number == 9 then WestLeast
+    else if number == 10 then WestMost
+    else if number == 11 then GoalColumn
+    else if number == 12 then Nodes
+    else Pivots
 
 -- nothing is put
 abbrev pub no_columns : Columns
@@ -45,39 +71,53 @@ put_once (Some old) read = Err Repeated
 put_once None read = found_as (λ value. Some value) read
 
 -- the columns after a word is put into one, and the others as they were
-abbrev pub column_put : Columns → ℕ → List ℕ → Result Columns QuestionKind
-column_put columns column text =
-    if column == 1 then found_as (λ value. record columns { north = value }) (put_once columns.north (holding_named text))
-    else if column == 2 then found_as (λ value. record columns { south = value }) (put_once columns.south (holding_named text))
-    else if column == 3 then found_as (λ value. record columns { start = value }) (put_once columns.start (lead_named text))
-    else if column == 4 then found_as (λ value. record columns { regain = value }) (put_once columns.regain (lead_named text))
-    else if column == 5 then found_as (λ value. record columns { entries_n = value }) (put_once columns.entries_n (entries_named text))
-    else if column == 6 then found_as (λ value. record columns { entries_s = value }) (put_once columns.entries_s (entries_named text))
-    else if column == 7 then found_as (λ value. record columns { vacant_w = value }) (put_once columns.vacant_w (number_within 0 13 text))
-    else if column == 8 then found_as (λ value. record columns { vacant_e = value }) (put_once columns.vacant_e (number_within 0 13 text))
-    else if column == 9 then found_as (λ value. record columns { west_least = value }) (put_once columns.west_least (number_within 0 13 text))
-    else if column == 10 then found_as (λ value. record columns { west_most = value }) (put_once columns.west_most (number_within 0 13 text))
-    else if column == 11 then found_as (λ value. record columns { goal = value }) (put_once columns.goal (goal_named text))
-    else if column == 12 then found_as (λ value. record columns { nodes = value }) (put_once columns.nodes (number_within 1 400000 text))
-    else found_as (λ value. record columns { pivots = value }) (put_once columns.pivots (number_within 0 1000000 text))
+abbrev pub column_put : Columns → Column → Text → Result Columns QuestionKind
+column_put columns North text =
+    found_as (λ value. record columns { north = value }) (put_once columns.north (holding_named text))
+column_put columns South text =
+    found_as (λ value. record columns { south = value }) (put_once columns.south (holding_named text))
+column_put columns Start text =
+    found_as (λ value. record columns { start = value }) (put_once columns.start (lead_named text))
+column_put columns Regain text =
+    found_as (λ value. record columns { regain = value }) (put_once columns.regain (lead_named text))
+column_put columns EntriesN text =
+    found_as (λ value. record columns { entries_n = value }) (put_once columns.entries_n (entries_named text))
+column_put columns EntriesS text =
+    found_as (λ value. record columns { entries_s = value }) (put_once columns.entries_s (entries_named text))
+column_put columns VacantW text =
+    found_as (λ value. record columns { vacant_w = value }) (put_once columns.vacant_w (number_within 0 HAND_SIZE text))
+column_put columns VacantE text =
+    found_as (λ value. record columns { vacant_e = value }) (put_once columns.vacant_e (number_within 0 HAND_SIZE text))
+column_put columns WestLeast text =
+    found_as (λ value. record columns { west_least = value })
+    (put_once columns.west_least (number_within 0 HAND_SIZE text))
+column_put columns WestMost text =
+    found_as (λ value. record columns { west_most = value })
+    (put_once columns.west_most (number_within 0 HAND_SIZE text))
+column_put columns GoalColumn text =
+    found_as (λ value. record columns { goal = value }) (put_once columns.goal (goal_named text))
+column_put columns Nodes text =
+    found_as (λ value. record columns { nodes = value }) (put_once columns.nodes (number_within 1 MOST_NODES text))
+column_put columns Pivots text =
+    found_as (λ value. record columns { pivots = value }) (put_once columns.pivots (number_within 0 MOST_PIVOTS text))
 
 -- the columns after two words are put, from left to right
-abbrev pub both_put : Columns → ℕ → List ℕ → ℕ → List ℕ → Result Columns QuestionKind
+abbrev pub both_put : Columns → Column → Text → Column → Text → Result Columns QuestionKind
 both_put columns first left second right = column_put columns first left >>= λ after. column_put after second right
 
 -- the values put are in their ranges
 pub record AreInRange (columns : Columns) : Type 0 where
   pub entries_n : IfSome columns.entries_n AreEntries
   pub entries_s : IfSome columns.entries_s AreEntries
-  pub vacant_w : IfSome columns.vacant_w (λ count. count ≤ 13)
-  pub vacant_e : IfSome columns.vacant_e (λ count. count ≤ 13)
-  pub west_most : IfSome columns.west_most (λ count. count ≤ 13)
+  pub vacant_w : IfSome columns.vacant_w (λ count. count ≤ HAND_SIZE)
+  pub vacant_e : IfSome columns.vacant_e (λ count. count ≤ HAND_SIZE)
+  pub west_most : IfSome columns.west_most (λ count. count ≤ HAND_SIZE)
   pub goal : IfSome columns.goal IsGoal
-  pub nodes : IfSome columns.nodes (λ count. (1 ≤ count) × (count ≤ 400000))
-  pub pivots : IfSome columns.pivots (λ count. count ≤ 1000000)
+  pub nodes : IfSome columns.nodes (λ count. (1 ≤ count) × (count ≤ MOST_NODES))
+  pub pivots : IfSome columns.pivots (λ count. count ≤ MOST_PIVOTS)
 
 -- the question of hands, a goal and the other columns, each as it is where nothing is said
-abbrev pub question_of : Columns → List ℕ → List ℕ → Goal → Question
+abbrev pub question_of : Columns → Cards → Cards → Goal → Question
 question_of columns north south goal = record {
   north = north;
   south = south;
@@ -85,13 +125,13 @@ question_of columns north south goal = record {
   regain = unwrap_or columns.regain Either;
   entries_n = unwrap_or columns.entries_n Free;
   entries_s = unwrap_or columns.entries_s Free;
-  vacant_w = unwrap_or columns.vacant_w 13;
-  vacant_e = unwrap_or columns.vacant_e 13;
+  vacant_w = unwrap_or columns.vacant_w HAND_SIZE;
+  vacant_e = unwrap_or columns.vacant_e HAND_SIZE;
   west_least = unwrap_or columns.west_least 0;
-  west_most = unwrap_or columns.west_most 13;
+  west_most = unwrap_or columns.west_most HAND_SIZE;
   goal = goal;
-  nodes = unwrap_or columns.nodes 200000;
-  pivots = unwrap_or columns.pivots 100000;
+  nodes = unwrap_or columns.nodes DEFAULT_NODES;
+  pivots = unwrap_or columns.pivots DEFAULT_PIVOTS;
 }
 
 -- what is wrong with a question as a whole: the first of these that stands

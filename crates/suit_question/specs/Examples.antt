@@ -1,11 +1,13 @@
 -- Texts with each kind of fault, and texts that two readers may take in two ways, written down by hand.
-use Rattle.std.specs.Prelude.{ℕ, ◌≡◌, List, codes, Err}
-use Rattle.suit_question.specs.Reading.{question_read, end_place}
+use Rattle.std.specs.Prelude.{ℕ, ◌≡◌, codes, Err}
+use Rattle.suit_cards.specs.Cards.{Text}
+use Rattle.suit_question.specs.Reading.{question_read, end_index}
 use Rattle.suit_question.specs.declared.faults.QuestionKind.{QuestionKind}
-use Rattle.suit_question.specs.declared.faults.QuestionKind.TheVariants.{NoLine, Word, Repeated, Rank, Twice, Shared, Empty, Number, Range, Vacant, NoLayout, Tail}
+use Rattle.suit_question.specs.declared.faults.QuestionKind.TheVariants.{NoLine, Word, Repeated, Rank, Twice, Shared}
+use Rattle.suit_question.specs.declared.faults.QuestionKind.TheVariants.{Empty, Number, Range, Vacant, NoLayout, Tail}
 
 -- a text has this fault at this line
-abbrev pub HasFault : List ℕ → QuestionKind → ℕ → Type 0
+abbrev pub HasFault : Text → QuestionKind → ℕ → Type 0
 HasFault text kind line = question_read text ≡ Err (record { kind = kind; line = line })
 
 -- faults of single lines
@@ -50,10 +52,10 @@ pub record EachKind : Type 0 where
   pub no_layout : HasFault (codes "north AJT98765432\nsouth -\nstart N\ngoal 11\nwest 3 13\nend\n") NoLayout 6
   pub tail : HasFault (codes "north A\nsouth 2\ngoal 1\nend\nx\n") Tail 5
 
--- places after the end
-pub record EndPlaces : Type 0 where
-  pub nothing : end_place (codes "") ≡ 0
-  pub first : end_place (codes "goal 1\nend\nmore\nend\n") ≡ 11
-  pub spaced : end_place (codes "# end\n END\t\r\nx") ≡ 13
-  pub last : end_place (codes "end x\nend") ≡ 9
-  pub none : end_place (codes "end\r") ≡ 4
+-- where the first end line ends
+pub record Ends : Type 0 where
+  pub nothing : end_index (codes "") ≡ 0
+  pub first : end_index (codes "goal 1\nend\nmore\nend\n") ≡ 11
+  pub spaced : end_index (codes "# end\n END\t\r\nx") ≡ 13
+  pub last : end_index (codes "end x\nend") ≡ 9
+  pub none : end_index (codes "end\r") ≡ 4

@@ -1,12 +1,15 @@
 -- The values that the words of a question text stand for.
-use Rattle.std.specs.Prelude.{ℕ, nat_lt, nat_le, ◌&&◌, Bool, List, length, map, codes, Option, Some, None, Result, Ok, Err, if◌then◌else◌}
+use Rattle.std.specs.Prelude.{ℕ, nat_lt, nat_le, ◌&&◌, Bool, List, length, map}
+use Rattle.std.specs.Prelude.{codes, Option, Some, None, Result, Ok, Err, if◌then◌else◌}
 use Rattle.std.specs.Char.{to_ascii_lowercase}
 use Rattle.std.specs.Option.{option_map_or}
 use Rattle.std.specs.Str.{all_ascii_digits, bytes_eq}
 use Rattle.std.specs.Str.Parse.{digits_value}
+use Rattle.suit_cards.specs.Cards.{Cards, Text}
 use Rattle.suit_cards.specs.Reading.{holding_read}
 use Rattle.suit_cards.specs.declared.holdings.CardFault.{CardFault}
 use Rattle.suit_cards.specs.declared.holdings.CardFault.TheVariants.{NotRank, Twice as TwiceAt}
+use Rattle.suit_game.specs.declared.limits.TheConstants.{HAND_SIZE}
 use Rattle.suit_game.specs.declared.question.LeadAt.{LeadAt}
 use Rattle.suit_game.specs.declared.question.LeadAt.TheVariants.{N, S, Either}
 use Rattle.suit_game.specs.declared.question.Entries.{Entries}
@@ -18,33 +21,34 @@ use Rattle.suit_question.specs.declared.faults.QuestionKind.{QuestionKind}
 use Rattle.suit_question.specs.declared.faults.QuestionKind.TheVariants.{Word, Rank, Twice, Number, Range}
 
 -- a text is a word, in capitals or not
-abbrev pub is_word : List ℕ → List ℕ → Bool
+abbrev pub is_word : Text → Text → Bool
 is_word word text = bytes_eq (map to_ascii_lowercase text) (map to_ascii_lowercase word)
 
 -- up to nine digits, and at least one, are a number
-abbrev pub number_read : List ℕ → Option ℕ
+abbrev pub number_read : Text → Option ℕ
 number_read text =
-    if nat_lt 0 (length text) && nat_le (length text) 9 && all_ascii_digits text then Some (digits_value 10 text) else None
+    if nat_lt 0 (length text) && nat_le (length text) 9 && all_ascii_digits text then Some (digits_value 10 text)
+    else None
 
 -- a number is to be in its range
 abbrev pub within : ℕ → ℕ → ℕ → Result ℕ QuestionKind
 within least most number = if nat_le least number && nat_le number most then Ok number else Err Range
 
 -- the number in a range that a word stands for
-abbrev pub number_within : ℕ → ℕ → List ℕ → Result ℕ QuestionKind
+abbrev pub number_within : ℕ → ℕ → Text → Result ℕ QuestionKind
 number_within least most text = option_map_or (within least most) (number_read text) (Err Number)
 
 -- a holding is at fault at its first bad byte
 abbrev pub kind_of : CardFault → QuestionKind
-kind_of (NotRank place) = Rank
-kind_of (TwiceAt place) = Twice
+kind_of (NotRank index) = Rank
+kind_of (TwiceAt index) = Twice
 
 -- the holding that a word stands for
-abbrev pub holding_named : List ℕ → Result (List ℕ) QuestionKind
+abbrev pub holding_named : Text → Result Cards QuestionKind
 holding_named text = told_as kind_of (holding_read text)
 
 -- where the lead stands
-abbrev pub lead_named : List ℕ → Result LeadAt QuestionKind
+abbrev pub lead_named : Text → Result LeadAt QuestionKind
 lead_named text =
     if is_word (codes "n") text then Ok N
     else if is_word (codes "s") text then Ok S
@@ -52,9 +56,9 @@ lead_named text =
     else Err Word
 
 -- free entries, or a count of them
-abbrev pub entries_named : List ℕ → Result Entries QuestionKind
-entries_named text = if is_word (codes "free") text then Ok Free else found_as Count (number_within 0 13 text)
+abbrev pub entries_named : Text → Result Entries QuestionKind
+entries_named text = if is_word (codes "free") text then Ok Free else found_as Count (number_within 0 HAND_SIZE text)
 
 -- as many tricks as can be, or so many at least
-abbrev pub goal_named : List ℕ → Result Goal QuestionKind
-goal_named text = if is_word (codes "tricks") text then Ok Tricks else found_as AtLeast (number_within 0 13 text)
+abbrev pub goal_named : Text → Result Goal QuestionKind
+goal_named text = if is_word (codes "tricks") text then Ok Tricks else found_as AtLeast (number_within 0 HAND_SIZE text)

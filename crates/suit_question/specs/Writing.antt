@@ -1,6 +1,7 @@
 -- How a question is written.
 use Rattle.std.specs.Prelude.{ℕ, List, [], ◌∷◌, ◌++◌, codes, decimal}
 use Rattle.std.specs.List.{flat_map}
+use Rattle.suit_cards.specs.Cards.{Text}
 use Rattle.suit_cards.specs.Holdings.{text_of}
 use Rattle.suit_game.specs.declared.question.Question.{Question}
 use Rattle.suit_game.specs.declared.question.LeadAt.{LeadAt}
@@ -11,32 +12,32 @@ use Rattle.suit_game.specs.declared.question.Goal.{Goal}
 use Rattle.suit_game.specs.declared.question.Goal.TheVariants.{AtLeast, Tricks}
 
 -- the words of a line, one space apart
-abbrev pub line_body : List (List ℕ) → List ℕ
+abbrev pub line_body : List Text → Text
 line_body [] = []
 line_body (word ∷ words) = word ++ flat_map (λ more. 32 ∷ more) words
 
 -- a line with the line feed that ends it
-unfoldable pub line_text : List (List ℕ) → List ℕ
+unfoldable pub line_text : List Text → Text
 line_text words = line_body words ++ 10 ∷ []
 
 -- where the lead stands
-abbrev pub lead_text : LeadAt → List ℕ
+abbrev pub lead_text : LeadAt → Text
 lead_text N = codes "N"
 lead_text S = codes "S"
 lead_text Either = codes "either"
 
 -- free entries, or their number
-abbrev pub entries_text : Entries → List ℕ
+abbrev pub entries_text : Entries → Text
 entries_text Free = codes "free"
 entries_text (Count left) = decimal left
 
 -- all tricks that can be, or their number
-abbrev pub goal_text : Goal → List ℕ
+abbrev pub goal_text : Goal → Text
 goal_text Tricks = codes "tricks"
 goal_text (AtLeast least) = decimal least
 
 -- the lines of the hands and of the lead
-abbrev pub hand_lines : Question → List (List (List ℕ))
+abbrev pub hand_lines : Question → List (List Text)
 hand_lines question =
     (codes "north" ∷ text_of question.north ∷ [])
     ∷ (codes "south" ∷ text_of question.south ∷ [])
@@ -45,7 +46,7 @@ hand_lines question =
     ∷ []
 
 -- the lines of what is known of the other suits and of West
-abbrev pub place_lines : Question → List (List (List ℕ))
+abbrev pub place_lines : Question → List (List Text)
 place_lines question =
     (codes "entries" ∷ entries_text question.entries_n ∷ entries_text question.entries_s ∷ [])
     ∷ (codes "vacant" ∷ decimal question.vacant_w ∷ decimal question.vacant_e ∷ [])
@@ -53,7 +54,7 @@ place_lines question =
     ∷ []
 
 -- the lines of the goal and the budgets, and the end
-abbrev pub goal_lines : Question → List (List (List ℕ))
+abbrev pub goal_lines : Question → List (List Text)
 goal_lines question =
     (codes "goal" ∷ goal_text question.goal ∷ [])
     ∷ (codes "nodes" ∷ decimal question.nodes ∷ [])
@@ -62,9 +63,9 @@ goal_lines question =
     ∷ []
 
 -- the eleven lines of a question, each as its words
-abbrev pub question_lines : Question → List (List (List ℕ))
+abbrev pub question_lines : Question → List (List Text)
 question_lines question = hand_lines question ++ (place_lines question ++ goal_lines question)
 
 -- the text of a question
-abbrev pub text_written : Question → List ℕ
+abbrev pub text_written : Question → Text
 text_written question = flat_map line_text (question_lines question)

@@ -1,13 +1,18 @@
 //! A question in the making, as thirteen columns that each have a value or none.
-ghost use Rattle.std.specs.Prelude.{◌≡◌, IfOk, IfNone, Some};
+ghost use Rattle.std.specs.Prelude.{◌≡◌, IfOk, IfErr, OnOk, OnErr, Ok, Err};
 ghost use Rattle.suit_game.specs.Validity.{IsValid};
-ghost use Rattle.suit_question.specs.Columns.{IsColumn, AreInRange, no_columns, put_once, column_put, both_put, question_of, whole_fault, finished};
+ghost use Rattle.suit_question.specs.Columns.{AreInRange, no_columns, put_once, column_put};
+ghost use Rattle.suit_question.specs.Columns.{both_put, question_of, judged, finished};
 ghost use Rattle.suit_question.specs.Ranges.{HasRanges};
 
+use crate::column::Column;
 use crate::faults::QuestionKind;
 use crate::values::{count_in, entries_in, goal_in, holding_in, lead_in, number_from};
 use suit_cards::Holding;
-use suit_game::{Entries, Goal, LeadAt, Question};
+use suit_game::{
+    DEFAULT_NODES, DEFAULT_PIVOTS, Entries, Goal, HAND_SIZE, LeadAt, MOST_NODES, MOST_PIVOTS,
+    Question, total_within,
+};
 
 /// The columns of a question, in the order of their numbers, from 1 on.
 #[derive(Clone, Copy, Debug)]
@@ -40,17 +45,20 @@ pub struct Columns {
     pub pivots: Option<u32>,
 }
 
-/// A column's value, which may be put once.
+/// Puts a value where none stands yet. A fault leaves what stood there.
 fn put_first<T: Copy + Drop>(
-    old: Option<T>,
+    value: &mut Option<T>,
     read: Result<T, QuestionKind>,
-) -> Result<Option<T>, QuestionKind>
-    ensures { result ≡ put_once old read }
+) -> Result<(), QuestionKind>
+    ensures ok { OnOk result (put_once value.old read ≡ Ok value.new) }
+    ensures fault { IfErr result (λ kind. put_once value.old read ≡ Err kind) }
+    ensures unchanged { OnErr result (value.new ≡ value.old) }
 {
-    if old.is_some() {
+    if value.is_some() {
         return Err(QuestionKind::Repeated);
     }
-    Ok(Some(read?))
+    *value = Some(read?);
+    Ok(())
 }
 
 impl Columns {
@@ -76,84 +84,44 @@ impl Columns {
         }
     }
 
-    /// The columns after a word is read as the value of one of them.
-    pub fn put(self, column: u8, text: &[u8]) -> Result<Columns, QuestionKind>
-        requires { IsColumn column }
-        ensures value { result ≡ column_put self column text.now }
-        ensures range { AreInRange self → IfOk result AreInRange }
+    /// Reads a word as the value of a column, and keeps the others. A fault changes nothing.
+    pub fn put(&mut self, column: Column, text: &[u8]) -> Result<(), QuestionKind>
+        ensures ok { OnOk result (column_put self.old column text.now ≡ Ok self.new) }
+        ensures fault { IfErr result (λ kind. column_put self.old column text.now ≡ Err kind) }
+        ensures unchanged { OnErr result (self.new ≡ self.old) }
+        ensures range { AreInRange self.old → AreInRange self.new }
     {
         match column {
-            1 => {
-                let north = put_first(self.north, holding_in(text))?;
-                Ok(Columns { north, ..self })
-            }
-            2 => {
-                let south = put_first(self.south, holding_in(text))?;
-                Ok(Columns { south, ..self })
-            }
-            3 => {
-                let start = put_first(self.start, lead_in(text))?;
-                Ok(Columns { start, ..self })
-            }
-            4 => {
-                let regain = put_first(self.regain, lead_in(text))?;
-                Ok(Columns { regain, ..self })
-            }
-            5 => {
-                let entries_n = put_first(self.entries_n, entries_in(text))?;
-                Ok(Columns { entries_n, ..self })
-            }
-            6 => {
-                let entries_s = put_first(self.entries_s, entries_in(text))?;
-                Ok(Columns { entries_s, ..self })
-            }
-            7 => {
-                let vacant_w = put_first(self.vacant_w, count_in(text))?;
-                Ok(Columns { vacant_w, ..self })
-            }
-            8 => {
-                let vacant_e = put_first(self.vacant_e, count_in(text))?;
-                Ok(Columns { vacant_e, ..self })
-            }
-            9 => {
-                let west_least = put_first(self.west_least, count_in(text))?;
-                Ok(Columns { west_least, ..self })
-            }
-            10 => {
-                let west_most = put_first(self.west_most, count_in(text))?;
-                Ok(Columns { west_most, ..self })
-            }
-            11 => {
-                let goal = put_first(self.goal, goal_in(text))?;
-                Ok(Columns { goal, ..self })
-            }
-            12 => {
-                let nodes = put_first(self.nodes, number_from(1, 400_000, text))?;
-                Ok(Columns { nodes, ..self })
-            }
-            _ => {
-                let pivots = put_first(self.pivots, number_from(0, 1_000_000, text))?;
-                Ok(Columns { pivots, ..self })
-            }
+            Column::North => put_first(&mut self.north, holding_in(text)),
+            Column::South => put_first(&mut self.south, holding_in(text)),
+            Column::Start => put_first(&mut self.start, lead_in(text)),
+            Column::Regain => put_first(&mut self.regain, lead_in(text)),
+            Column::EntriesN => put_first(&mut self.entries_n, entries_in(text)),
+            Column::EntriesS => put_first(&mut self.entries_s, entries_in(text)),
+            Column::VacantW => put_first(&mut self.vacant_w, count_in(text)),
+            Column::VacantE => put_first(&mut self.vacant_e, count_in(text)),
+            Column::WestLeast => put_first(&mut self.west_least, count_in(text)),
+            Column::WestMost => put_first(&mut self.west_most, count_in(text)),
+            Column::Goal => put_first(&mut self.goal, goal_in(text)),
+            Column::Nodes => put_first(&mut self.nodes, number_from(1, MOST_NODES, text)),
+            Column::Pivots => put_first(&mut self.pivots, number_from(0, MOST_PIVOTS, text)),
         }
     }
-    /// The columns after two words are read as the values of two of them, from left to right.
+
+    /// Reads two words as the values of two columns, from left to right.
     pub fn put_both(
-        self,
-        first: u8,
+        &mut self,
+        first: Column,
         left: &[u8],
-        second: u8,
+        second: Column,
         right: &[u8],
-    ) -> Result<Columns, QuestionKind>
-        requires first { IsColumn first }
-        requires second { IsColumn second }
-        ensures value { result ≡ both_put self first left.now second right.now }
-        ensures range { AreInRange self → IfOk result AreInRange }
+    ) -> Result<(), QuestionKind>
+        ensures ok { OnOk result (both_put self.old first left.now second right.now ≡ Ok self.new) }
+        ensures fault { IfErr result (λ kind. both_put self.old first left.now second right.now ≡ Err kind) }
+        ensures range { AreInRange self.old → AreInRange self.new }
     {
-        match self.put(first, left) {
-            Ok(after) => after.put(second, right),
-            Err(kind) => Err(kind),
-        }
+        self.put(first, left)?;
+        self.put(second, right)
     }
 
     /// The question of the columns.
@@ -165,11 +133,7 @@ impl Columns {
         let north = self.north.ok_or(QuestionKind::NoLine)?;
         let south = self.south.ok_or(QuestionKind::NoLine)?;
         let goal = self.goal.ok_or(QuestionKind::NoLine)?;
-        let question = self.question(north, south, goal);
-        match fault_of(&question) {
-            Some(kind) => Err(kind),
-            None => Ok(question),
-        }
+        judged(self.question(north, south, goal))
     }
 
     /// The question of two hands, a goal and the other columns.
@@ -183,39 +147,37 @@ impl Columns {
             regain: self.regain.unwrap_or(LeadAt::Either),
             entries_n: self.entries_n.unwrap_or(Entries::Free),
             entries_s: self.entries_s.unwrap_or(Entries::Free),
-            vacant_w: self.vacant_w.unwrap_or(13),
-            vacant_e: self.vacant_e.unwrap_or(13),
+            vacant_w: self.vacant_w.unwrap_or(HAND_SIZE),
+            vacant_e: self.vacant_e.unwrap_or(HAND_SIZE),
             west_least: self.west_least.unwrap_or(0),
-            west_most: self.west_most.unwrap_or(13),
+            west_most: self.west_most.unwrap_or(HAND_SIZE),
             goal,
-            nodes: self.nodes.unwrap_or(200_000),
-            pivots: self.pivots.unwrap_or(100_000),
+            nodes: self.nodes.unwrap_or(DEFAULT_NODES),
+            pivots: self.pivots.unwrap_or(DEFAULT_PIVOTS),
         }
     }
 }
 
-/// What is wrong with a question whose single values are in their ranges.
-fn fault_of(question: &Question) -> Option<QuestionKind>
-    requires { HasRanges question.now }
-    ensures value { result ≡ whole_fault question.now }
-    ensures valid { IfNone result (IsValid question.now) }
+/// A question whose single values are in their ranges, or what is wrong with it as a whole.
+fn judged(question: Question) -> Result<Question, QuestionKind>
+    requires { HasRanges question }
+    ensures value { result ≡ judged question }
+    ensures valid { IfOk result IsValid }
 {
     if question.north.shares(question.south) {
-        return Some(QuestionKind::Shared);
+        return Err(QuestionKind::Shared);
     }
     if question.north.len() + question.south.len() == 0 {
-        return Some(QuestionKind::Empty);
+        return Err(QuestionKind::Empty);
     }
     if question.west_least > question.west_most {
-        return Some(QuestionKind::Range);
+        return Err(QuestionKind::Range);
     }
     if question.missing().len() > question.vacant_w + question.vacant_e {
-        return Some(QuestionKind::Vacant);
+        return Err(QuestionKind::Vacant);
     }
-    // All else is as it must be, so that only the weight is left.
-    if question.is_valid() {
-        None
-    } else {
-        Some(QuestionKind::NoLayout)
+    if total_within(&question) == 0 {
+        return Err(QuestionKind::NoLayout);
     }
+    Ok(question)
 }

@@ -1,5 +1,5 @@
 //! What the definitions of the question text come to on texts that were read apart from them.
-ghost use Rattle.suit_question.specs.Examples.{EachKind, LineFaults, WholeFaults, EndPlaces};
+ghost use Rattle.suit_question.specs.Examples.{EachKind, LineFaults, WholeFaults, Ends};
 
 /// A text with each of the twelve kinds of fault.
 pub fn each_kind()
@@ -16,7 +16,7 @@ pub fn whole_faults()
     ensures { WholeFaults }
 {}
 
-/// Texts and the places after their ends.
-pub fn end_places()
-    ensures { EndPlaces }
+/// Texts and where they end.
+pub fn ends()
+    ensures { Ends }
 {}

@@ -1,101 +1,85 @@
 //! The keywords that lines begin with, and what such a line puts.
-ghost use Rattle.std.specs.Prelude.{◌≡◌, IfOk, IfSome};
-ghost use Rattle.suit_question.specs.Columns.{IsColumn, AreInRange};
-ghost use Rattle.suit_question.specs.Reading.{FillsColumns, keyword_named, one_put, two_put, line_put};
-ghost use Rattle.suit_question.specs.Words.{words_of};
+ghost use Rattle.std.specs.Prelude.{◌≡◌, ◌∷◌, [], Ok, Err, IfErr, OnOk, map};
+ghost use Rattle.suit_question.specs.Columns.{AreInRange};
+ghost use Rattle.suit_question.specs.Keywords.{keyword_named, named_in};
+ghost use Rattle.suit_question.specs.Reading.{line_put};
 
+use crate::column::Column;
 use crate::columns::Columns;
 use crate::faults::QuestionKind;
 use crate::values::is_same;
-use crate::words::{first_word, only_word};
 
 /// The columns that a keyword's values go to.
 #[derive(Clone, Copy)]
 pub enum Keyword {
     /// One value.
-    One(u8),
+    Single(Column),
     /// Two values.
-    Two(u8, u8),
+    Pair(Column, Column),
 }
 
+/// The keywords, each with its columns.
+const KEYWORDS: [(&[u8], Keyword); 10] = [
+    (b"north", Keyword::Single(Column::North)),
+    (b"south", Keyword::Single(Column::South)),
+    (b"start", Keyword::Single(Column::Start)),
+    (b"regain", Keyword::Single(Column::Regain)),
+    (
+        b"entries",
+        Keyword::Pair(Column::EntriesN, Column::EntriesS),
+    ),
+    (b"vacant", Keyword::Pair(Column::VacantW, Column::VacantE)),
+    (b"west", Keyword::Pair(Column::WestLeast, Column::WestMost)),
+    (b"goal", Keyword::Single(Column::Goal)),
+    (b"nodes", Keyword::Single(Column::Nodes)),
+    (b"pivots", Keyword::Single(Column::Pivots)),
+];
+
 /// The keyword that a word is.
-#[tactic(auto, unfolding(crate::specs::Reading::keyword_named))]
 fn keyword_in(word: &[u8]) -> Option<Keyword>
-    ensures value { result ≡ keyword_named word.now }
-    ensures columns { IfSome result FillsColumns }
+    ensures { result ≡ keyword_named word.now }
 {
-    if is_same(word, b"north") {
-        return Some(Keyword::One(1));
-    }
-    if is_same(word, b"south") {
-        return Some(Keyword::One(2));
-    }
-    if is_same(word, b"start") {
-        return Some(Keyword::One(3));
-    }
-    if is_same(word, b"regain") {
-        return Some(Keyword::One(4));
-    }
-    if is_same(word, b"entries") {
-        return Some(Keyword::Two(5, 6));
-    }
-    if is_same(word, b"vacant") {
-        return Some(Keyword::Two(7, 8));
-    }
-    if is_same(word, b"west") {
-        return Some(Keyword::Two(9, 10));
-    }
-    if is_same(word, b"goal") {
-        return Some(Keyword::One(11));
-    }
-    if is_same(word, b"nodes") {
-        return Some(Keyword::One(12));
-    }
-    if is_same(word, b"pivots") {
-        return Some(Keyword::One(13));
+    found_in(&KEYWORDS, word)
+}
+
+/// The first keyword of a table that a word is.
+fn found_in(mut table: &[(&[u8], Keyword)], word: &[u8]) -> Option<Keyword>
+    ensures { result ≡ named_in (map (λ entry. (entry.0.now, entry.1)) table.entry.now) word.now }
+{
+    while let [entry, rest @ ..] = table {
+        if is_same(word, entry.0) {
+            return Some(entry.1);
+        }
+        table = rest;
     }
     None
 }
 
-/// The columns after a line with one value.
-fn put_one(columns: Columns, column: u8, values: &[u8]) -> Result<Columns, QuestionKind>
-    requires { IsColumn column }
-    ensures value { result ≡ one_put columns column (words_of values.now) }
-    ensures range { AreInRange columns → IfOk result AreInRange }
+/// Puts the value of a line with one.
+pub fn put_one(columns: &mut Columns, keyword: &[u8], value: &[u8]) -> Result<(), QuestionKind>
+    ensures ok { OnOk result (line_put columns.old (keyword.now ∷ value.now ∷ []) ≡ Ok columns.new) }
+    ensures fault { IfErr result (λ kind. line_put columns.old (keyword.now ∷ value.now ∷ []) ≡ Err kind) }
+    ensures range { AreInRange columns.old → AreInRange columns.new }
 {
-    match only_word(values) {
-        Some(value) => columns.put(column, value),
-        None => Err(QuestionKind::Word),
+    match keyword_in(keyword) {
+        Some(Keyword::Single(column)) => columns.put(column, value),
+        Some(Keyword::Pair(_, _)) | None => Err(QuestionKind::Word),
     }
 }
 
-/// The columns after a line with two values.
-fn put_two(columns: Columns, first: u8, second: u8, values: &[u8]) -> Result<Columns, QuestionKind>
-    requires first { IsColumn first }
-    requires second { IsColumn second }
-    ensures value { result ≡ two_put columns first second (words_of values.now) }
-    ensures range { AreInRange columns → IfOk result AreInRange }
+/// Puts the values of a line with two.
+pub fn put_two(
+    columns: &mut Columns,
+    keyword: &[u8],
+    left: &[u8],
+    right: &[u8],
+) -> Result<(), QuestionKind>
+    ensures ok { OnOk result (line_put columns.old (keyword.now ∷ left.now ∷ right.now ∷ []) ≡ Ok columns.new) }
+    ensures fault { IfErr result (λ kind. line_put columns.old (keyword.now ∷ left.now ∷ right.now ∷ []) ≡ Err kind) }
+    ensures range { AreInRange columns.old → AreInRange columns.new }
 {
-    let Some(left) = first_word(values) else {
-        return Err(QuestionKind::Word);
-    };
-    let Some(right) = only_word(left.rest) else {
-        return Err(QuestionKind::Word);
-    };
-    columns.put_both(first, left.front, second, right)
-}
-
-/// The columns after a line that says something.
-pub fn put_line(columns: Columns, line: &[u8]) -> Result<Columns, QuestionKind>
-    ensures value { result ≡ line_put columns (words_of line.now) }
-    ensures range { AreInRange columns → IfOk result AreInRange }
-{
-    let Some(cut) = first_word(line) else {
-        return Err(QuestionKind::Word);
-    };
-    match keyword_in(cut.front) {
-        Some(Keyword::One(column)) => put_one(columns, column, cut.rest),
-        Some(Keyword::Two(first, second)) => put_two(columns, first, second, cut.rest),
-        None => Err(QuestionKind::Word),
+    match keyword_in(keyword) {
+        Some(Keyword::Pair(first, second)) => columns.put_both(first, left, second, right),
+        Some(Keyword::Single(_)) | None => Err(QuestionKind::Word),
     }
 }

@@ -1,11 +1,13 @@
 //! The question text: what a player writes to ask about a suit, read with the exact fault of each mistake, and printed.
 #![tactic(auto)]
 
+mod column;
 mod columns;
 mod draft;
 pub mod examples;
 mod faults;
 mod keywords;
+mod lines;
 mod reading;
 #[cfg(test)]
 mod tests;
@@ -15,7 +17,7 @@ mod writing;
 
 pub use draft::Draft;
 pub use faults::{QuestionFault, QuestionKind};
-pub use reading::{question_end, read_question};
+pub use reading::{MOST_TEXT, question_end, read_question};
 pub use writing::question_text;
 
 /// Memory ran out.

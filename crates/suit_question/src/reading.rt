@@ -3,22 +3,28 @@ ghost use Rattle.std.specs.Prelude.{◌≡◌, ◌≤◌, ◌+◌, length, IfOk}
 ghost use Rattle.suit_game.specs.Validity.{IsValid};
 ghost use Rattle.suit_question.specs.Columns.{AreInRange};
 ghost use Rattle.suit_question.specs.Lines.{lines_of};
-ghost use Rattle.suit_question.specs.Reading.{first_saying, ended, question_read, end_place};
+ghost use Rattle.suit_question.specs.Reading.{first_saying, ended, question_read, end_index};
+ghost use Rattle.suit_question.specs.Words.{is_end, is_skipped, words_of};
 
 use crate::columns::Columns;
 use crate::faults::{QuestionFault, QuestionKind};
-use crate::keywords::put_line;
-use crate::words::{first_line, is_empty, is_last};
+use crate::keywords::{put_one, put_two};
+use crate::lines::first_line;
+use crate::words::{Line, line_in};
 use suit_game::Question;
 
-/// Reads the question that a text asks. The lines come in any order up to `end`, after which nothing may be said. A fault is
-/// that of the first line with one: for a line before the end Word where it has no keyword or a wrong number of words, then
-/// Repeated where the keyword stood before, then what is wrong with its first bad value; and Tail for a line after the end.
-/// Where no line has a fault it is the first of the whole, told of the line of `end`: NoLine, Shared, Empty, Range, Vacant
-/// or NoLayout. With no `end` it is NoLine, told of the line after the last. No memory is taken.
+/// The most bytes of a text that a question is read from.
+pub const MOST_TEXT: usize = 16_777_216;
+
+/// Reads the question that a text asks. The lines come in any order up to `end`, after which nothing may be said. A
+/// fault is that of the first line with one: for a line before the end Word where it has no keyword or a wrong number
+/// of words, then Repeated where the keyword stood before, then what is wrong with its first bad value; and Tail for
+/// a line after the end. Where no line has a fault it is the first of the whole, told of the line of `end`: NoLine,
+/// Shared, Empty, Range, Vacant or NoLayout. With no `end` it is NoLine, told of the line after the last. No memory
+/// is taken.
 #[tactic(auto, unfolding(crate::specs::Reading::asked_by))]
 pub fn read_question(bytes: &[u8]) -> Result<Question, QuestionFault>
-    requires { length bytes.now ≤ 16777216 }
+    requires { length bytes.now ≤ MOST_TEXT }
     ensures value { result ≡ question_read bytes.now }
     ensures valid { IfOk result IsValid }
 {
@@ -27,52 +33,49 @@ pub fn read_question(bytes: &[u8]) -> Result<Question, QuestionFault>
     let mut line = 1;
     while let Some(cut) = first_line(rest) {
         rest = cut.rest;
-        if !is_empty(cut.front) {
-            if is_last(cut.front) {
-                return end_at(columns, line, rest);
+        match line_in(cut.front) {
+            Line::Skipped => {}
+            Line::End => return end_at(columns, line, rest),
+            Line::One { keyword, value } => {
+                put_one(&mut columns, keyword, value).map_err(|kind| kind.at(line))?;
             }
-            columns = match put_line(columns, cut.front) {
-                Ok(columns) => columns,
-                Err(kind) => return Err(QuestionFault { kind, line }),
-            };
+            Line::Two {
+                keyword,
+                left,
+                right,
+            } => {
+                put_two(&mut columns, keyword, left, right).map_err(|kind| kind.at(line))?;
+            }
+            Line::Other => return Err(QuestionKind::Word.at(line)),
         }
         line += 1;
     }
-    Err(QuestionFault {
-        kind: QuestionKind::NoLine,
-        line,
-    })
+    Err(QuestionKind::NoLine.at(line))
 }
 
 /// The question at an end line, which nothing may be said after.
 fn end_at(columns: Columns, line: u32, rest: &[u8]) -> Result<Question, QuestionFault>
     requires range { AreInRange columns }
-    requires short { line + length rest.now ≤ 16777217 }
+    requires short { line + length rest.now ≤ MOST_TEXT + 1 }
     ensures value { result ≡ ended columns line (lines_of rest.now) }
     ensures valid { IfOk result IsValid }
 {
     if let Some(line) = saying_line(line + 1, rest) {
-        return Err(QuestionFault {
-            kind: QuestionKind::Tail,
-            line,
-        });
+        return Err(QuestionKind::Tail.at(line));
     }
-    match columns.finish() {
-        Ok(question) => Ok(question),
-        Err(kind) => Err(QuestionFault { kind, line }),
-    }
+    columns.finish().map_err(|kind| kind.at(line))
 }
 
 /// The first line of a text that says something, where the text begins with a line of this number.
 #[tactic(auto, unfolding(crate::specs::Reading::first_saying))]
 fn saying_line(first: u32, text: &[u8]) -> Option<u32>
-    requires { first + length text.now ≤ 16777218 }
+    requires { first + length text.now ≤ MOST_TEXT + 2 }
     ensures { result ≡ first_saying first (lines_of text.now) }
 {
     let mut rest = text;
     let mut number = first;
     while let Some(cut) = first_line(rest) {
-        if !is_empty(cut.front) {
+        if !is_skipped(cut.front) {
             return Some(number);
         }
         rest = cut.rest;
@@ -84,15 +87,29 @@ fn saying_line(first: u32, text: &[u8]) -> Option<u32>
 /// How many bytes the question takes: all up to and with its first line of the one word `end`, or all that there are.
 #[tactic(auto, using(crate::proofs::LineCuts::end_here, crate::proofs::LineCuts::end_later, crate::proofs::LineCuts::no_end))]
 pub fn question_end(bytes: &[u8]) -> usize
-    ensures value { result ≡ end_place bytes.now }
+    ensures value { result ≡ end_index bytes.now }
     ensures within { result ≤ length bytes.now }
 {
     let mut rest = bytes;
     while let Some(cut) = first_line(rest) {
         rest = cut.rest;
-        if is_last(cut.front) {
+        if is_end(cut.front) {
             return bytes.len() - rest.len();
         }
     }
     bytes.len()
+}
+
+/// Whether a line says nothing.
+fn is_skipped(line: &[u8]) -> bool
+    ensures { result ≡ is_skipped (words_of line.now) }
+{
+    matches!(line_in(line), Line::Skipped)
+}
+
+/// Whether a line ends the question.
+fn is_end(line: &[u8]) -> bool
+    ensures { result ≡ is_end (words_of line.now) }
+{
+    matches!(line_in(line), Line::End)
 }

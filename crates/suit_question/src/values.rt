@@ -2,11 +2,12 @@
 ghost use Rattle.std.specs.Prelude.{◌≡◌, ◌≤◌, ◌<◌, ◌^◌, IfOk, IfSome};
 ghost use Rattle.suit_cards.specs.Holdings.{IsHolding};
 ghost use Rattle.suit_game.specs.Validity.{AreEntries, IsGoal};
-ghost use Rattle.suit_question.specs.Values.{is_word, number_read, number_within, holding_named, lead_named, entries_named, goal_named};
+ghost use Rattle.suit_question.specs.Values.{is_word, number_read, number_within};
+ghost use Rattle.suit_question.specs.Values.{holding_named, lead_named, entries_named, goal_named};
 
 use crate::faults::QuestionKind;
 use suit_cards::{CardFault, Holding};
-use suit_game::{Entries, Goal, LeadAt};
+use suit_game::{Entries, Goal, HAND_SIZE, LeadAt};
 
 /// Whether two words are the same but for the case of their letters.
 pub fn is_same(text: &[u8], word: &[u8]) -> bool
@@ -45,12 +46,12 @@ pub fn number_from(least: u32, most: u32, text: &[u8]) -> Result<u32, QuestionKi
     Ok(number)
 }
 
-/// A number from 0 to 13.
+/// A number of cards, places, entries or tricks.
 pub fn count_in(text: &[u8]) -> Result<u8, QuestionKind>
-    ensures value { result ≡ number_within 0 13 text.now }
-    ensures most { IfOk result (λ number. number ≤ 13) }
+    ensures value { result ≡ number_within 0 HAND_SIZE text.now }
+    ensures most { IfOk result (λ number. number ≤ HAND_SIZE) }
 {
-    let number = number_from(0, 13, text)?;
+    let number = number_from(0, HAND_SIZE as u32, text)?;
     Ok(number as u8)
 }
 

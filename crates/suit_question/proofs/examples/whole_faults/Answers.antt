@@ -4,11 +4,24 @@ use Rattle.suit_cards.specs.Ranks.{letters}
 use Rattle.suit_cards.specs.Reading.{spots_from, holding_read}
 use Rattle.suit_num.specs.Binomials.{next_row, binomial_row, binomial}
 use Rattle.suit_game.specs.Layouts.{choices_of, layouts}
+use Rattle.suit_question.specs.Keywords.{keyword_named}
 use Rattle.suit_question.specs.Lines.{pieces_of}
 use Rattle.suit_question.specs.Words.{words_of}
-use Rattle.suit_question.specs.Reading.{keyword_named, first_saying, asked_by, end_of}
+use Rattle.suit_question.specs.Reading.{first_saying, asked_by, end_of}
 use Rattle.suit_question.proofs.examples.whole_faults.Goals as goal
 
 pub returns : goal.returns
-unfolding suit letters spots_from holding_read next_row binomial_row binomial choices_of layouts pieces_of words_of keyword_named first_saying asked_by end_of
-returns c = record { nothing = refl; no_south = refl; no_end = refl; shared = refl; range = refl; vacant = refl; no_layout = refl; tail = refl }
+unfolding suit letters spots_from holding_read next_row binomial_row binomial choices_of layouts pieces_of words_of
+    keyword_named first_saying asked_by end_of
+returns c =
+    record {
+      nothing = refl;
+      no_south = refl;
+      no_end = refl;
+      shared = refl;
+      range = refl;
+      vacant = refl;
+      no_layout =
+          refl;
+      tail = refl;
+    }

@@ -2,13 +2,14 @@
 use Rattle.std.proofs.Common.{◌≡◌, ◌≤◌, ◌+◌, length}
 use Rattle.suit_question.specs.Columns.{AreInRange}
 use Rattle.suit_question.specs.Lines.{lines_of}
+use Rattle.suit_question.specs.declared.reading.TheConstants.{MOST_TEXT}
 use Rattle.suit_question.specs.Reading.{asked_by, question_read}
 use Rattle.suit_question.proofs.reading.read_question.Given as goal
 
 abbrev pub invariant-loop-cut : goal.invariant-loop-cut
 invariant-loop-cut l = record {
   same : asked_by l.columns l.line (lines_of l.rest) ≡ question_read l.fn.bytes;
-  short : l.line + length l.rest ≤ 16777217;
+  short : l.line + length l.rest ≤ MOST_TEXT + 1;
   range : AreInRange l.columns;
 }
 

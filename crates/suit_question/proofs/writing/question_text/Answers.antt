@@ -6,6 +6,12 @@ use Rattle.suit_question.proofs.writing.question_text.Goals as goal
 
 pub returns-clause-reads_back : goal.returns-clause-reads_back
 returns-clause-reads_back c valid =
-    let written : c.add_goal.new.text.items ≡ text_written c.args.question.now =
-    rw (c.in_ok-add_goal.ensures, c.in_ok-add_places.ensures, c.in_ok-add_hands.ensures, c.new-text.ensures.items) (simp append_assoc) in
+    let written : c.into_bytes.result.items ≡ text_written c.args.question.now =
+    rw (
+      c.into_bytes.ensures.value,
+      c.in_ok-write_goal.ensures,
+      c.in_ok-write_places.ensures,
+      c.in_ok-write_hands.ensures,
+      c.new-text.ensures.bytes,
+    ) (simp append_assoc) in
     ap question_read written ∙ read_back c.args.question.now valid

@@ -3,7 +3,7 @@ use Rattle.std.proofs.lemmas.Bool.Decides.{nat_tests}
 use Rattle.std.proofs.lemmas.List.{take_all}
 use Rattle.suit_question.specs.Lines.{BeginsPiece}
 use Rattle.suit_question.proofs.LineCuts.{begins_fed, begins_last, lines_after, no_lines}
-use Rattle.suit_question.proofs.words.first_line.Goals as goal
+use Rattle.suit_question.proofs.lines.first_line.Goals as goal
 
 pub returns-in_default : goal.returns-in_default
 returns-in_default c =
@@ -11,7 +11,7 @@ returns-in_default c =
     let some : 0 < length text = grind (arith, nat_tests) in
     let begins : BeginsPiece text c.split_at.result.0.now c.split_at.result.1.now =
     rw (c.split_at.ensures.front, c.split_at.ensures.back, take_all (length text) text (omega arith))
-    (begins_last text (sym c.feed_place.ensures ∙ c.in_default.is) some) in
+    (begins_last text (sym c.feed_index.ensures ∙ c.in_default.is) some) in
     let size : 0 < length begins.piece = begins.some in
     let whole : length begins.piece + length c.split_at.result.1.now ≡ length text = begins.whole in
     record { none = tt; some = begins; lines = lines_after _ _ _ begins; shorter = omega arith; over = tt }
@@ -21,7 +21,7 @@ returns c =
     let text = c.args.text.now in
     let begins : BeginsPiece text c.unreturned.result.now c.split_at-3.result.1.now =
     rw (c.unreturned.ensures, c.split_at-2.ensures.front, c.split_at-3.ensures.back)
-    (begins_fed text c.in-Some.at (sym c.feed_place.ensures ∙ c.in-Some.is)) in
+    (begins_fed text c.in-Some.at (sym c.feed_index.ensures ∙ c.in-Some.is)) in
     let size : 0 < length begins.piece = begins.some in
     let whole : length begins.piece + length c.split_at-3.result.1.now ≡ length text = begins.whole in
     record { none = tt; some = begins; lines = lines_after _ _ _ begins; shorter = omega arith; over = tt }
