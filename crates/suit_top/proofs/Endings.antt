@@ -1,5 +1,6 @@
--- How a run ends that made a reply.
-use Rattle.std.proofs.Common.{◌≡◌, ℕ, ◌+◌, ◌≤◌, ◌++◌, append-nil, arith, List, [], Result, Ok, Err, Option, None, Some, Bool, true, false, nat_lt, length, refl, sym, ap, ◌∙◌, subst, ◌⊎◌, inl, inr, ◌<◌, IsNone}
+-- `run_replies`: how a run ends that made a reply.
+use Rattle.std.proofs.Common.{◌≡◌, ℕ, ◌+◌, ◌≤◌, ◌++◌, append-nil, arith, List, [], Result, Ok, Err, Option, None, Some}
+use Rattle.std.proofs.Common.{Bool, true, false, nat_lt, length, refl, sym, ap, ◌∙◌, subst, ◌⊎◌, inl, inr, ◌<◌, IsNone}
 use Rattle.std.specs.Prelude.{if◌then◌else◌, IfSome}
 use Rattle.std.proofs.lemmas.Bool.{le-ltb, lt-ltb, cases_Bool}
 use Rattle.std.specs.Io.KnownBytes.{Consumes, IsAtEnd}
@@ -10,41 +11,52 @@ use Rattle.suit_ports.specs.Reading.{Took}
 use Rattle.suit_ports.specs.Room.{KeepsRoom, IsFull}
 use Rattle.suit_game.specs.declared.question.Question.{Question}
 use Rattle.suit_game.specs.OneTrick.{one_trick_value}
-use Rattle.suit_top.specs.declared.command.Command.{Command}
-use Rattle.suit_top.specs.declared.command.Command.TheVariants.{Solve, Weigh}
+use Rattle.suit_top.specs.declared.commands.Command.{Command}
+use Rattle.suit_top.specs.declared.commands.Command.TheVariants.{Solve, Weigh}
 use Rattle.suit_top.specs.declared.reply.Reply.{Reply}
 use Rattle.suit_top.specs.declared.status.Status.{Status}
 use Rattle.suit_top.specs.declared.status.Status.TheVariants.{Done, Usage, WriteFault, Long, NotBuilt}
-use Rattle.suit_top.specs.Answers.{Says, answer_text}
-use Rattle.suit_top.specs.Commands.{command_of, reads_input, limit_of}
-use Rattle.suit_top.specs.Dues.{Due, due_for, due_within, solved, weighed, silent, is_one_trick}
+use Rattle.suit_cards.specs.Cards.{Text}
+use Rattle.suit_top.specs.Asking.{due_of_read}
+use Rattle.suit_top.specs.Commands.{command_of, reads_input, limit_of, due_about, due_within, Says}
+use Rattle.suit_top.specs.Commands.Solving.{is_one_trick, answer_text}
+use Rattle.suit_top.specs.Dues.{Due, done, silent}
 use Rattle.suit_question.specs.Reading.{question_read}
 use Rattle.suit_question.specs.declared.faults.QuestionFault.{QuestionFault}
 use Rattle.suit_top.specs.Texts.{text_bytes}
-use Rattle.suit_top.specs.Owing.{Owes}
+use Rattle.suit_top.specs.Owing.{due_for, Owes}
 use Rattle.suit_top.specs.Replies.{IsReply, Delivered, Stopped}
 use Rattle.suit_top.specs.Runs.{Ports, Runs}
 use Rattle.suit_top.proofs.Inputs.{is_input, long_input}
 
-solved_tells : (found : Result Question QuestionFault) → (solved found).status ≡ Usage → ⊥
-solved_tells (Err fault) usage = cc
-solved_tells (Ok question) usage = elim (cases_Bool (is_one_trick question)) [
-  | inl one ↦ let told : Done ≡ Usage = ap (λ (b : Bool). (if b then record { status = Done; text = answer_text (one_trick_value question) } else silent NotBuilt).status) (sym one) ∙ usage in cc
-  | inr more ↦ let told : NotBuilt ≡ Usage = ap (λ (b : Bool). (if b then record { status = Done; text = answer_text (one_trick_value question) } else silent NotBuilt).status) (sym more) ∙ usage in cc
+-- no command owes Usage about a question
+about_tells : (command : Command) (question : Question) → (due_about command question).status ≡ Usage → ⊥
+about_tells Solve question usage = elim (cases_Bool (is_one_trick question)) [
+  | inl one ↦ let told : Done ≡ Usage =
+      ap (λ (b : Bool). (if b then done (answer_text (one_trick_value question) 1) else silent NotBuilt).status)
+      (sym one) ∙ usage in cc
+  | inr more ↦ let told : NotBuilt ≡ Usage =
+      ap (λ (b : Bool). (if b then done (answer_text (one_trick_value question) 1) else silent NotBuilt).status)
+      (sym more) ∙ usage in cc
 ]
+about_tells Weigh question usage = cc
 
-weighed_tells : (found : Result Question QuestionFault) → (weighed found).status ≡ Usage → ⊥
-weighed_tells (Err fault) usage = cc
-weighed_tells (Ok question) usage = cc
+-- nor about a text that was read
+read_tells : (command : Command) (found : Result Question QuestionFault)
+    → (due_of_read (due_about command) found).status ≡ Usage → ⊥
+read_tells command (Err fault) usage = cc
+read_tells command (Ok question) usage = about_tells command question usage
 
-long_tells : (long : Bool) (due : Due) → (due.status ≡ Usage → ⊥) → (if long then silent Long else due).status ≡ Usage → ⊥
+long_tells : (long : Bool) (due : Due) → (due.status ≡ Usage → ⊥) → (if long then silent Long else due).status ≡ Usage
+    → ⊥
 long_tells true due tells usage = cc
 long_tells false due tells usage = tells usage
 
 -- a command owes another status than Usage
-pub never_usage : (command : Command) (input : List ℕ) → (due_for (Some command) input).status ≡ Usage → ⊥
-never_usage Solve input usage = long_tells (nat_lt (limit_of Solve) (length input)) (due_within Solve input) (solved_tells (question_read input)) usage
-never_usage Weigh input usage = long_tells (nat_lt (limit_of Weigh) (length input)) (due_within Weigh input) (weighed_tells (question_read input)) usage
+pub never_usage : (command : Command) (input : Text) → (due_for (Some command) input).status ≡ Usage → ⊥
+never_usage command input usage =
+    long_tells (nat_lt (limit_of command) (length input)) (due_within command input)
+    (read_tells command (question_read input)) usage
 
 long_is_not_done : (s : Status) → s ≡ Long → s ≡ Done → ⊥
 long_is_not_done s long done = cc
@@ -53,11 +65,12 @@ reads_all : (command : Command) → reads_input command ≡ true
 reads_all Solve = refl
 reads_all Weigh = refl
 
-none_named : (words : List (List ℕ)) (command : Command) → command_of words ≡ Some command → IsNone (command_of words) → ⊥
+none_named : (words : List Text) (command : Command) → command_of words ≡ Some command → IsNone (command_of words) → ⊥
 none_named words command named none = let other = subst IsNone named none in cc
 
 -- what a run owes for a reply
-owed : (words : List (List ℕ)) (command : Command) (before after : Option (List ℕ)) (reply : Reply) → command_of words ≡ Some command
+owed : (words : List Text) (command : Command) (before after : Option Text) (reply : Reply)
+    → command_of words ≡ Some command
     → (made : IsReply command before after reply) → Owes words made.input reply.status (text_bytes reply.text)
 owed words command before after reply named made = record {
   status_due = made.status_due ∙ sym (ap (λ (c : Option Command). (due_for c made.input).status) named);
@@ -65,10 +78,12 @@ owed words command before after reply named made = record {
 }
 
 -- a run that made a reply and delivered it, or was stopped in it
-pub run_replies : (words : List (List ℕ)) (command : Command) (before after : Ports) (reply : Reply) (status : Status) → command_of words ≡ Some command
+pub run_replies : (words : List Text) (command : Command) (before after : Ports) (reply : Reply) (status : Status)
+    → command_of words ≡ Some command
     → IsReply command before.left after.left reply
     → Delivered reply before.written after.written status
-    ⊎ (Stopped reply before.written after.written status × (Rose before.sink_faults after.sink_faults ⊎ Rose before.empty_puts after.empty_puts))
+    ⊎ (Stopped reply before.written after.written status ×
+    (Rose before.sink_faults after.sink_faults ⊎ Rose before.empty_puts after.empty_puts))
     → KeepsRoom before.room after.room
     → (before.empty_puts < after.empty_puts → (status ≡ WriteFault) × IsFull after.written after.room)
     → Runs words before after status
@@ -77,7 +92,8 @@ run_replies words command before after reply status named made (inl delivered) r
     input = made.input;
     text = (text_bytes reply.text);
     is_input = is_input words command before made.input named (reads_all command) made.is_input;
-    owed = subst (λ (s : Status). Owes words made.input s (text_bytes reply.text)) (sym delivered.is_status) (owed words command before.left after.left reply named made);
+    owed = subst (λ (s : Status). Owes words made.input s (text_bytes reply.text)) (sym delivered.is_status)
+        (owed words command before.left after.left reply named made);
     written = delivered.whole;
     says = λ done. subst (λ (c : Option Command). Says c made.input (text_bytes reply.text)) (sym named)
         (made.says (sym delivered.is_status ∙ done));
@@ -111,44 +127,54 @@ run_replies words command before after reply status named made (inr stopped) roo
   empty_puts = empty_puts;
 }
 
-whole_input : (before after : Option (List ℕ)) (taken : List ℕ) → Consumes before after taken → IsAtEnd after → IfSome before (λ bytes. taken ≡ bytes)
+whole_input : (before after : Option Text) (taken : Text) → Consumes before after taken → IsAtEnd after
+    → IfSome before (λ bytes. taken ≡ bytes)
 whole_input None after taken consumed at_end = tt
 whole_input (Some bytes) None taken consumed at_end = absurd consumed
-whole_input (Some bytes) (Some rest) taken consumed at_end = sym (consumed ∙ ap (λ (l : List ℕ). taken ++ l) at_end ∙ append-nil taken)
+whole_input (Some bytes) (Some rest) taken consumed at_end =
+    sym (consumed ∙ ap (λ (l : Text). taken ++ l) at_end ∙ append-nil taken)
 
-none_left : (before after : Option (List ℕ)) (taken : List ℕ) → Consumes before after taken → IsAtEnd after → IfSome before (λ _. after ≡ Some [])
+none_left : (before after : Option Text) (taken : Text) → Consumes before after taken → IsAtEnd after
+    → IfSome before (λ _. after ≡ Some [])
 none_left None after taken consumed at_end = tt
 none_left (Some bytes) None taken consumed at_end = absurd consumed
 none_left (Some bytes) (Some rest) taken consumed at_end = ap Some at_end
 
 -- a reading to the end, within the limit, makes the reply to what was read
-pub short_replies : (command : Command) (before after : Option (List ℕ)) (reply : Reply) (input taken : List ℕ)
+pub short_replies : (command : Command) (before after : Option Text) (reply : Reply) (input taken : Text)
     → input ≡ taken → length taken ≤ limit_of command → Consumes before after taken → IsAtEnd after
     → reply.status ≡ (due_within command input).status → text_bytes reply.text ≡ (due_within command input).text
     → (reply.status ≡ Done → Says (Some command) input (text_bytes reply.text)) → IsReply command before after reply
 short_replies command before after reply input taken is_taken fits consumed at_end status text says =
-    let within : nat_lt (limit_of command) (length input) ≡ false = le-ltb (limit_of command) (length input) (omega (arith, ap length is_taken)) in
+    let within : nat_lt (limit_of command) (length input) ≡ false =
+    le-ltb (limit_of command) (length input) (omega (arith, ap length is_taken)) in
     record {
       input = input;
-      is_input = subst (λ (l : List ℕ). IfSome before (λ bytes. l ≡ bytes)) (sym is_taken) (whole_input before after taken consumed at_end);
-      status_due = status ∙ sym (ap (λ (b : Bool). (if b then silent Long else due_within command input).status) within);
+      is_input =
+          subst (λ (l : Text). IfSome before (λ bytes. l ≡ bytes)) (sym is_taken)
+          (whole_input before after taken consumed at_end);
+      status_due =
+          status ∙ sym (ap (λ (b : Bool). (if b then silent Long else due_within command input).status) within);
       text_due = text ∙ sym (ap (λ (b : Bool). (if b then silent Long else due_within command input).text) within);
       says = says;
       all_read = λ done. none_left before after taken consumed at_end;
     }
 
 -- a reading that took one byte more than the limit makes the reply Long
-pub long_replies : (A : Type 0) (command : Command) (before after : Option (List ℕ)) (reply : Reply) (end : ReadEnd) (limit : ℕ) (taken : List ℕ)
+pub long_replies : (A : Type 0) (command : Command) (before after : Option Text) (reply : Reply) (end : ReadEnd)
+    (limit : ℕ) (taken : Text)
     → end ≡ Reading.Long → limit ≡ limit_of command → reply.status ≡ Long → (text_bytes reply.text) ≡ []
     → Took {A = A} limit (Err end) taken → Consumes before after taken → IsReply command before after reply
 long_replies A command before after reply end limit taken is_long is_limit status text took consumed =
-    let one_more : length taken ≡ limit_of command + 1 = subst (λ (e : ReadEnd). Took {A = A} limit (Err e) taken) is_long took ∙ ap (λ (n : ℕ). n + 1) is_limit in
+    let one_more : length taken ≡ limit_of command + 1 =
+    subst (λ (e : ReadEnd). Took {A = A} limit (Err e) taken) is_long took ∙ ap (λ (n : ℕ). n + 1) is_limit in
     let given = long_input before after taken (limit_of command) consumed one_more in
     let past : nat_lt (limit_of command) (length given.0) ≡ true = lt-ltb (limit_of command) (length given.0) given.2 in
     record {
       input = given.0;
       is_input = given.1;
-      status_due = status ∙ sym (ap (λ (b : Bool). (if b then silent Long else due_within command given.0).status) past);
+      status_due =
+          status ∙ sym (ap (λ (b : Bool). (if b then silent Long else due_within command given.0).status) past);
       text_due = text ∙ sym (ap (λ (b : Bool). (if b then silent Long else due_within command given.0).text) past);
       says = λ done. absurd (long_is_not_done reply.status status done);
       all_read = λ done. absurd (long_is_not_done reply.status status done);

@@ -1,4 +1,3 @@
 pub mod Endings
 pub mod Inputs
-pub mod Leads
 pub mod Solved

@@ -1,10 +1,11 @@
-pub mod Answers
+pub mod Asking
 pub mod Commands
 pub mod Dues
+pub mod Examples
 pub mod Owing
 pub mod Refusals
 pub mod Replies
 pub mod Runs
 pub mod Statuses
 pub mod Texts
-pub mod Weighing
+pub mod Words

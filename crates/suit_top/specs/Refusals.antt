@@ -1,8 +1,10 @@
 -- The one line that a refusal writes.
-use Rattle.std.specs.Prelude.{ℕ, List, ◌++◌, codes, decimal}
+use Rattle.std.specs.Prelude.{ℕ, ◌++◌, codes, decimal}
+use Rattle.suit_cards.specs.Cards.{Text}
 use Rattle.suit_question.specs.declared.faults.QuestionFault.{QuestionFault}
 use Rattle.suit_question.specs.declared.faults.QuestionKind.{QuestionKind}
-use Rattle.suit_question.specs.declared.faults.QuestionKind.TheVariants.{NoLine, Word, Repeated, Rank, Twice, Shared, Empty, Number, Range, Vacant, NoLayout, Tail}
+use Rattle.suit_question.specs.declared.faults.QuestionKind.TheVariants.{NoLine, Word, Repeated, Rank, Twice, Shared}
+use Rattle.suit_question.specs.declared.faults.QuestionKind.TheVariants.{Empty, Number, Range, Vacant, NoLayout, Tail}
 
 -- the number of a fault of a question text
 abbrev pub fault_number : QuestionKind → ℕ
@@ -20,5 +22,6 @@ fault_number NoLayout = 11
 fault_number Tail = 12
 
 -- the line that is written of a question text with a fault
-abbrev pub malformed_line : QuestionFault → List ℕ
-malformed_line fault = codes "malformed " ++ decimal (fault_number fault.kind) ++ codes " at line " ++ decimal fault.line ++ codes "\n"
+abbrev pub malformed_line : QuestionFault → Text
+malformed_line fault =
+    codes "malformed " ++ decimal (fault_number fault.kind) ++ codes " at line " ++ decimal fault.line ++ codes "\n"

@@ -1,18 +1,18 @@
 -- What a command makes of its input, and what becomes of it.
-use Rattle.std.specs.Prelude.{◌≡◌, ◌<◌, ◌≤◌, List, ℕ, Option, Some, [], IfSome, length, take}
+use Rattle.std.specs.Prelude.{◌≡◌, ◌<◌, ◌≤◌, ℕ, Option, Some, [], IfSome, length, take}
 use Rattle.std.specs.Io.KnownBytes.{Appends, Consumes}
-use Rattle.suit_top.specs.declared.command.Command.{Command}
+use Rattle.suit_cards.specs.Cards.{Text}
+use Rattle.suit_top.specs.declared.commands.Command.{Command}
 use Rattle.suit_top.specs.declared.reply.Reply.{Reply}
 use Rattle.suit_top.specs.declared.status.Status.{Status}
 use Rattle.suit_top.specs.declared.status.Status.TheVariants.{Done, WriteFault}
-use Rattle.suit_top.specs.Answers.{Says}
-use Rattle.suit_top.specs.Commands.{limit_of}
-use Rattle.suit_top.specs.Dues.{due_for}
+use Rattle.suit_top.specs.Commands.{limit_of, Says}
+use Rattle.suit_top.specs.Owing.{due_for}
 use Rattle.suit_top.specs.Texts.{text_bytes}
 
 -- a reply to a command, from what its source had left, where it tells that, to what it has left
-pub record IsReply (command : Command) (before after : Option (List ℕ)) (reply : Reply) : Type 0 where
-  pub input : List ℕ
+pub record IsReply (command : Command) (before after : Option Text) (reply : Reply) : Type 0 where
+  pub input : Text
   pub is_input : IfSome before (λ bytes. input ≡ bytes)
   pub status_due : reply.status ≡ (due_for (Some command) input).status
   pub text_due : text_bytes reply.text ≡ (due_for (Some command) input).text
@@ -21,18 +21,18 @@ pub record IsReply (command : Command) (before after : Option (List ℕ)) (reply
   pub all_read : reply.status ≡ Done → IfSome before (λ _. after ≡ Some [])
 
 -- a source failed before it had given more than the command takes
-pub record Failed (command : Command) (before after : Option (List ℕ)) : Type 0 where
-  pub taken : List ℕ
+pub record Failed (command : Command) (before after : Option Text) : Type 0 where
+  pub taken : Text
   pub took : Consumes before after taken
   pub within : length taken ≤ limit_of command
 
 -- the whole text was written, and the run ends with its status
-pub record Delivered (reply : Reply) (before after : Option (List ℕ)) (status : Status) : Type 0 where
+pub record Delivered (reply : Reply) (before after : Option Text) (status : Status) : Type 0 where
   pub is_status : status ≡ reply.status
   pub whole : Appends before after (text_bytes reply.text)
 
 -- the sink stopped before it had the whole text
-pub record Stopped (reply : Reply) (before after : Option (List ℕ)) (status : Status) : Type 0 where
+pub record Stopped (reply : Reply) (before after : Option Text) (status : Status) : Type 0 where
   pub is_write_fault : status ≡ WriteFault
   pub sent : ℕ
   pub not_whole : sent < length (text_bytes reply.text)

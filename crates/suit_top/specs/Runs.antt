@@ -1,35 +1,37 @@
 -- The clause of `run`: four ways to end, and what holds of each.
-use Rattle.std.specs.Prelude.{◌≡◌, ℕ, ◌<◌, ◌≤◌, ◌⊎◌, ◌↔◌, List, [], length, take, Option, Some, IsTrue, IfSome, IsSome, IsNone, MatchBool}
+use Rattle.std.specs.Prelude.{◌≡◌, ℕ, ◌<◌, ◌≤◌, ◌⊎◌, ◌↔◌, List, []}
+use Rattle.std.specs.Prelude.{length, take, Option, Some, IsTrue, IfSome, IsSome, IsNone, MatchBool}
 use Rattle.std.specs.Io.KnownBytes.{Keeps, Appends, Consumes}
+use Rattle.suit_cards.specs.Cards.{Text}
 use Rattle.suit_ports.specs.Counts.{Rose}
 use Rattle.suit_ports.specs.Room.{KeepsRoom, IsFull}
 use Rattle.suit_top.specs.declared.status.Status.{Status}
 use Rattle.suit_top.specs.declared.status.Status.TheVariants.{Done, Usage, ReadFault, WriteFault, Memory}
-use Rattle.suit_top.specs.Answers.{Says}
-use Rattle.suit_top.specs.declared.command.Command.{Command}
-use Rattle.suit_top.specs.Commands.{command_of, words_read, reads_input, limit_of}
+use Rattle.suit_top.specs.declared.commands.Command.{Command}
+use Rattle.suit_top.specs.Commands.{command_of, words_read, reads_input, limit_of, Says}
 use Rattle.suit_top.specs.Owing.{Owes}
 
 -- what both ports tell at one moment
 pub record Ports : Type 0 where
   -- the bytes that the source has left, where it tells them
-  pub left : Option (List ℕ)
+  pub left : Option Text
   pub source_faults : ℕ
   -- the bytes that the sink holds, where it tells them
-  pub written : Option (List ℕ)
+  pub written : Option Text
   -- the whole room of the sink, where it tells that
   pub room : Option ℕ
   pub sink_faults : ℕ
   pub empty_puts : ℕ
 
 -- the input of a run: all that the source had left, where it tells that; none for words that read none
-abbrev pub IsInput : List (List ℕ) → Ports → List ℕ → Type 0
-IsInput words before input = MatchBool (words_read (command_of words)) (IfSome before.left (λ bytes. input ≡ bytes)) (input ≡ [])
+abbrev pub IsInput : List Text → Ports → Text → Type 0
+IsInput words before input =
+    MatchBool (words_read (command_of words)) (IfSome before.left (λ bytes. input ≡ bytes)) (input ≡ [])
 
 -- the run ended as it owes: its whole text was written, and nothing else
-pub record Ended (words : List (List ℕ)) (before after : Ports) (status : Status) : Type 0 where
-  pub input : List ℕ
-  pub text : List ℕ
+pub record Ended (words : List Text) (before after : Ports) (status : Status) : Type 0 where
+  pub input : Text
+  pub text : Text
   pub is_input : IsInput words before input
   pub owed : Owes words input status text
   pub written : Appends before.written after.written text
@@ -39,23 +41,23 @@ pub record Ended (words : List (List ℕ)) (before after : Ports) (status : Stat
   pub all_read : status ≡ Done → IsTrue (words_read (command_of words)) → IfSome before.left (λ _. after.left ≡ Some [])
 
 -- the source failed before it had given more than the command takes, and nothing was written
-pub record SourceFailed (words : List (List ℕ)) (before after : Ports) (status : Status) : Type 0 where
+pub record SourceFailed (words : List Text) (before after : Ports) (status : Status) : Type 0 where
   pub is_read_fault : status ≡ ReadFault
   pub command : Command
   pub named : command_of words ≡ Some command
   pub reads : IsTrue (reads_input command)
   pub rose : Rose before.source_faults after.source_faults
-  pub taken : List ℕ
+  pub taken : Text
   pub took : Consumes before.left after.left taken
   pub within : length taken ≤ limit_of command
   pub nothing_written : Keeps before.written after.written
 
 -- the sink failed, or took nothing, after a front of the text that was owed but not the whole
-pub record SinkFailed (words : List (List ℕ)) (before after : Ports) (status : Status) : Type 0 where
+pub record SinkFailed (words : List Text) (before after : Ports) (status : Status) : Type 0 where
   pub is_write_fault : status ≡ WriteFault
   pub rose : Rose before.sink_faults after.sink_faults ⊎ Rose before.empty_puts after.empty_puts
-  pub input : List ℕ
-  pub text : List ℕ
+  pub input : Text
+  pub text : Text
   pub owed_status : Status
   pub sent : ℕ
   pub is_input : IsInput words before input
@@ -64,13 +66,13 @@ pub record SinkFailed (words : List (List ℕ)) (before after : Ports) (status :
   pub written : Appends before.written after.written (take sent text)
 
 -- for want of memory nothing was written
-pub record LackedMemory (words : List (List ℕ)) (before after : Ports) (status : Status) : Type 0 where
+pub record LackedMemory (words : List Text) (before after : Ports) (status : Status) : Type 0 where
   pub is_memory : status ≡ Memory
   pub command : IsSome (command_of words)
   pub nothing_written : Keeps before.written after.written
 
 -- a run with these words, from what the ports told before to what they told after
-pub record Runs (words : List (List ℕ)) (before after : Ports) (status : Status) : Type 0 where
+pub record Runs (words : List Text) (before after : Ports) (status : Status) : Type 0 where
   -- one of four cases stands
   pub ending : Ended words before after status
       ⊎ (SourceFailed words before after status

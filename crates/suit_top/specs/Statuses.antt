@@ -1,7 +1,8 @@
 -- How a run ends, and the number that tells it to whoever started the program.
 use Rattle.std.specs.Prelude.{ℕ}
 use Rattle.suit_top.specs.declared.status.Status.{Status}
-use Rattle.suit_top.specs.declared.status.Status.TheVariants.{Done, Usage, Malformed, ReadFault, WriteFault, Memory, Long, NotBuilt}
+use Rattle.suit_top.specs.declared.status.Status.TheVariants.{Done, Usage, Malformed, ReadFault}
+use Rattle.suit_top.specs.declared.status.Status.TheVariants.{WriteFault, Memory, Long, NotBuilt}
 
 -- the exit code of a status
 abbrev pub code_of : Status → ℕ

@@ -1,10 +1,11 @@
 -- The text of a reply.
-use Rattle.std.specs.Prelude.{ℕ, List, []}
-use Rattle.suit_top.specs.declared.reply.Text.{Text}
-use Rattle.suit_top.specs.declared.reply.Text.TheVariants.{Made, Line, Nothing}
+use Rattle.std.specs.Prelude.{[], string_bytes}
+use Rattle.suit_cards.specs.Cards.{Text}
+use Rattle.suit_top.specs.declared.reply.ReplyText.{ReplyText}
+use Rattle.suit_top.specs.declared.reply.ReplyText.TheVariants.{Made, Line, Nothing}
 
 -- the bytes of a text
-abbrev pub text_bytes : Text → List ℕ
-text_bytes (Made text) = text.items
+abbrev pub text_bytes : ReplyText → Text
+text_bytes (Made text) = string_bytes text
 text_bytes (Line text) = text.bytes
 text_bytes Nothing = []

@@ -1,43 +1,37 @@
 //! What a command makes of its input, whole, before the first byte is written.
-ghost use Rattle.std.specs.Prelude.{◌≡◌, ◌≤◌, [], Some, IfOk, IsErrOf, length};
+ghost use Rattle.std.specs.Prelude.{◌≡◌, [], IfOk, IsErrOf, string_bytes};
 ghost use Rattle.suit_ports.specs.Counts.{Rose};
-ghost use Rattle.suit_top.specs.Dues.{due_within, is_one_trick};
-ghost use Rattle.suit_top.specs.Commands.{limit_of};
-ghost use Rattle.suit_top.specs.Answers.{Answers, Says};
-ghost use Rattle.suit_top.specs.Texts.{text_bytes};
-ghost use Rattle.suit_top.specs.Weighing.{Weighs};
+ghost use Rattle.suit_top.specs.Refusals.{malformed_line};
 ghost use Rattle.suit_top.specs.Replies.{Failed, IsReply};
+ghost use Rattle.suit_top.specs.Texts.{text_bytes};
 
-use crate::answer::answer_to;
-use crate::command::Command;
+use crate::commands::Command;
 use crate::refusal::{Refusal, malformed};
 use crate::status::Status;
-use crate::weighing::weights_of;
 use std::alloc::{AllocError, Global};
-use suit_game::Question;
 use suit_ports::{ReadEnd, Source, read_all};
-use suit_question::read_question;
+use suit_question::QuestionFault;
 
 /// The text of a reply.
 #[derive(Debug, Drop)]
-pub enum Text {
+pub enum ReplyText {
     /// A text of any length, made in memory.
-    Made(Vec<u8>),
+    Made(String),
     /// The line of a refusal.
     Line(Refusal),
     /// No byte.
     Nothing,
 }
 
-impl Text {
+impl ReplyText {
     /// The bytes of the text.
     pub fn as_bytes(&self) -> &[u8]
         ensures { result.now ≡ text_bytes self.now }
     {
         match self {
-            Text::Made(text) => text,
-            Text::Line(text) => text.as_bytes(),
-            Text::Nothing => &[],
+            ReplyText::Made(text) => text.as_bytes(),
+            ReplyText::Line(text) => text.as_bytes(),
+            ReplyText::Nothing => &[],
         }
     }
 }
@@ -46,7 +40,42 @@ impl Text {
 #[derive(Debug, Drop)]
 pub struct Reply {
     pub status: Status,
-    pub text: Text,
+    pub text: ReplyText,
+}
+
+impl Reply {
+    /// The text that the command is for.
+    pub fn done(text: String) -> Reply
+        ensures status { result.status ≡ Status.Done }
+        ensures text { text_bytes result.text ≡ string_bytes text }
+    {
+        Reply {
+            status: Status::Done,
+            text: ReplyText::Made(text),
+        }
+    }
+
+    /// The line of a question text's first fault.
+    pub fn malformed(fault: QuestionFault) -> Reply
+        ensures status { result.status ≡ Status.Malformed }
+        ensures text { text_bytes result.text ≡ malformed_line fault }
+    {
+        Reply {
+            status: Status::Malformed,
+            text: ReplyText::Line(malformed(fault)),
+        }
+    }
+
+    /// A reply with which nothing is written.
+    pub fn silent(status: Status) -> Reply
+        ensures status { result.status ≡ status }
+        ensures text { text_bytes result.text ≡ [] }
+    {
+        Reply {
+            status,
+            text: ReplyText::Nothing,
+        }
+    }
 }
 
 /// Why a command made no reply.
@@ -80,79 +109,9 @@ pub fn reply_to<S: Source>(
         → Rose (S.faults source.old) (S.faults source.new) × Failed command (S.left source.old) (S.left source.new) }
 {
     match read_all(alloc, source, command.limit()) {
-        Ok(input) => Ok(reply_within(alloc, command, &input)?),
-        Err(ReadEnd::Long) => Ok(silent(Status::Long)),
+        Ok(input) => Ok(command.reply(alloc, &input)?),
+        Err(ReadEnd::Long) => Ok(Reply::silent(Status::Long)),
         Err(ReadEnd::Fault) => Err(ReplyEnd::ReadFault),
         Err(ReadEnd::Memory) => Err(ReplyEnd::Memory),
-    }
-}
-
-/// The reply to a command whose input is not too long.
-fn reply_within(alloc: Global, command: Command, input: &[u8]) -> Result<Reply, AllocError>
-    requires { length input.now ≤ limit_of command }
-    ensures status { IfOk result (λ reply. reply.status ≡ (due_within command input.now).status) }
-    ensures text { IfOk result (λ reply. text_bytes reply.text ≡ (due_within command input.now).text) }
-    ensures says { IfOk result (λ reply. reply.status ≡ Status.Done → Says (Some command) input.now (text_bytes reply.text)) }
-{
-    match command {
-        Command::Solve => solved(alloc, input),
-        Command::Weigh => weighed(alloc, input),
-    }
-}
-
-/// The reply of `solve`.
-fn solved(alloc: Global, input: &[u8]) -> Result<Reply, AllocError>
-    requires { length input.now ≤ 2097152 }
-    ensures status { IfOk result (λ reply. reply.status ≡ (due_within Command.Solve input.now).status) }
-    ensures text { IfOk result (λ reply. text_bytes reply.text ≡ (due_within Command.Solve input.now).text) }
-    ensures says { IfOk result (λ reply. reply.status ≡ Status.Done → Answers input.now (text_bytes reply.text)) }
-{
-    match read_question(input) {
-        Err(fault) => Ok(Reply {
-            status: Status::Malformed,
-            text: Text::Line(malformed(fault)),
-        }),
-        Ok(question) if has_one_trick(&question) => Ok(Reply {
-            status: Status::Done,
-            text: Text::Made(Vec::from_slice(alloc, answer_to(&question))?),
-        }),
-        Ok(_) => Ok(silent(Status::NotBuilt)),
-    }
-}
-
-/// The reply of `weigh`.
-fn weighed(alloc: Global, input: &[u8]) -> Result<Reply, AllocError>
-    requires { length input.now ≤ 2097152 }
-    ensures status { IfOk result (λ reply. reply.status ≡ (due_within Command.Weigh input.now).status) }
-    ensures text { IfOk result (λ reply. text_bytes reply.text ≡ (due_within Command.Weigh input.now).text) }
-    ensures says { IfOk result (λ reply. reply.status ≡ Status.Done → Weighs input.now (text_bytes reply.text)) }
-{
-    match read_question(input) {
-        Err(fault) => Ok(Reply {
-            status: Status::Malformed,
-            text: Text::Line(malformed(fault)),
-        }),
-        Ok(question) => Ok(Reply {
-            status: Status::Done,
-            text: Text::Made(weights_of(alloc, &question)?),
-        }),
-    }
-}
-
-/// Whether no declarer hand has two cards.
-fn has_one_trick(question: &Question) -> bool
-    ensures { result ≡ is_one_trick question.now }
-{
-    question.north.len() <= 1 && question.south.len() <= 1
-}
-
-/// A reply with which nothing is written.
-fn silent(status: Status) -> Reply
-    ensures status { result.status ≡ status }
-    ensures text { text_bytes result.text ≡ [] }
-{
-    Reply {
-        status,
-        text: Text::Nothing,
     }
 }

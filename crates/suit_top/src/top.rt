@@ -6,7 +6,7 @@ ghost use Rattle.suit_top.specs.Replies.{Delivered, Stopped};
 ghost use Rattle.suit_top.specs.Commands.{command_of, words_read};
 ghost use Rattle.suit_top.specs.Runs.{Runs};
 
-use crate::command::command_in;
+use crate::commands::Command;
 use crate::reply::{Reply, ReplyEnd, reply_to};
 use crate::status::Status;
 use std::alloc::Global;
@@ -50,7 +50,7 @@ pub fn run<R: Threads + Sync, G: Gate + Sync, S: Source, K: Sink>(
     ensures source_kept { words_read (command_of (map (λ word. word.now) words.now)) ≡ false → source.new ≡ source.old }
     ensures sink_kept { command_of (map (λ word. word.now) words.now) ≡ None → sink.new ≡ sink.old }
 {
-    let Some(command) = command_in(words) else {
+    let Some(command) = Command::of(words) else {
         return Status::Usage;
     };
     match reply_to(alloc, command, source) {

@@ -4,5 +4,6 @@ use Rattle.suit_top.proofs.top.run.Goals as goal
 
 pub returns-in-Ok-clause-clause : goal.returns-in-Ok-clause-clause
 returns-in-Ok-clause-clause g c =
-    run_replies _ c.in-Some.command _ _ c.in-Ok.reply c.deliver.result (sym c.command_in.ensures ∙ c.in-Some.is) c.in-Ok.ensures.reply
+    run_replies _ c.in-Some.command _ _ c.in-Ok.reply c.deliver.result
+    (sym c.of.ensures ∙ c.in-Some.is) c.in-Ok.ensures.reply
     c.deliver.ensures.ending c.deliver.ensures.room_kept c.deliver.ensures.empty_puts

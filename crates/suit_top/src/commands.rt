@@ -1,0 +1,90 @@
+//! The commands, one file each, and the lists that name them all.
+ghost use Rattle.std.specs.Prelude.{◌≡◌, ◌≤◌, Some, IfOk, length, map};
+ghost use Rattle.suit_game.specs.Validity.{IsValid};
+ghost use Rattle.suit_top.specs.Commands.{command_of, limit_of, due_about, due_within, SaysAbout, Says};
+ghost use Rattle.suit_top.specs.Texts.{text_bytes};
+ghost use Rattle.suit_top.specs.Words.{is_only};
+
+use crate::reply::Reply;
+use crate::status::Status;
+use std::alloc::{AllocError, Global};
+use suit_game::Question;
+use suit_question::read_question;
+
+mod solve;
+mod weigh;
+
+/// The most bytes of input of a command that reads a question.
+pub const MOST_INPUT: usize = 2_097_152;
+
+/// What the program can be asked to do.
+#[derive(Clone, Copy, Debug, PartialEq, Eq)]
+pub enum Command {
+    /// Answer the question that is read.
+    Solve,
+    /// Tell the weights of the class layouts of the question that is read.
+    Weigh,
+}
+
+impl Command {
+    /// The command that the words after the program's name form.
+    pub fn of(words: &[&str]) -> Option<Command>
+        ensures { result ≡ command_of (map (λ word. word.now) words.now) }
+    {
+        if solve::are_words(words) {
+            return Some(Command::Solve);
+        }
+        if weigh::are_words(words) {
+            return Some(Command::Weigh);
+        }
+        None
+    }
+
+    /// The most bytes of input that the command takes.
+    pub fn limit(self) -> usize
+        ensures { result ≡ limit_of self }
+    {
+        match self {
+            Command::Solve => solve::LIMIT,
+            Command::Weigh => weigh::LIMIT,
+        }
+    }
+
+    /// The reply to an input that is not too long: to the question that it asks, or to the first fault of its text.
+    pub fn reply(self, alloc: Global, input: &[u8]) -> Result<Reply, AllocError>
+        requires { length input.now ≤ limit_of self }
+        ensures status { IfOk result (λ reply. reply.status ≡ (due_within self input.now).status) }
+        ensures text { IfOk result (λ reply. text_bytes reply.text ≡ (due_within self input.now).text) }
+        ensures says { IfOk result (λ reply. reply.status ≡ Status.Done
+            → Says (Some self) input.now (text_bytes reply.text)) }
+    {
+        match read_question(input) {
+            Ok(question) => self.reply_about(alloc, &question),
+            Err(fault) => Ok(Reply::malformed(fault)),
+        }
+    }
+
+    /// The reply to the question that the input asks.
+    fn reply_about(self, alloc: Global, question: &Question) -> Result<Reply, AllocError>
+        requires { IsValid question.now }
+        ensures status { IfOk result (λ reply. reply.status ≡ (due_about self question.now).status) }
+        ensures text { IfOk result (λ reply. text_bytes reply.text ≡ (due_about self question.now).text) }
+        ensures says { IfOk result (λ reply. reply.status ≡ Status.Done
+            → SaysAbout self question.now (text_bytes reply.text)) }
+    {
+        match self {
+            Command::Solve => solve::reply(alloc, question),
+            Command::Weigh => weigh::reply(alloc, question),
+        }
+    }
+}
+
+/// Whether the words are one word, which is this one.
+fn is_only(word: &str, words: &[&str]) -> bool
+    ensures { result ≡ is_only word.now (map (λ word. word.now) words.now) }
+{
+    match words {
+        [only] => *only == word,
+        _ => false,
+    }
+}

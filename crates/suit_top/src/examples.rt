@@ -1,0 +1,17 @@
+//! What some runs owe, by the definitions, on texts that were read apart from them.
+ghost use Rattle.suit_top.specs.Examples.{Solved, Weighed, Refused};
+
+/// Answers of `solve`.
+pub fn solved()
+    ensures { Solved }
+{}
+
+/// A text of `weigh`.
+pub fn weighed()
+    ensures { Weighed }
+{}
+
+/// Statuses without the text that the command is for.
+pub fn refused()
+    ensures { Refused }
+{}
