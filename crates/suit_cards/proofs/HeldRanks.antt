@@ -1,4 +1,5 @@
-use Rattle.std.proofs.Common.{◌≡◌, ℕ, ◌+◌, ◌<◌, ◌≤◌, zero, suc, Bool, true, false, not, ◌||◌, nat_eq, List, [], ◌∷◌, length, get_or, refl, inl, inr, arith}
+use Rattle.std.proofs.Common.{◌≡◌, ℕ, ◌+◌, ◌<◌, ◌≤◌, zero, suc, Bool, true, false, not, ◌||◌, nat_eq, List, [], ◌∷◌}
+use Rattle.std.proofs.Common.{length, get_or, refl, inl, inr, arith}
 use Rattle.std.specs.Prelude.{◌↔◌, IsTrue, Contains, Any}
 use Rattle.std.specs.List.{filter, list_any}
 use Rattle.std.proofs.lemmas.Bool.{eqb-true, eq-eqb, ne_eqb, or_cases, cases_Bool, false≢true, true≢false}
@@ -69,7 +70,8 @@ filter-some test (x ∷ xs) h empty = elim (cases_Bool (test x)) [
 ]
 
 -- an element passes a test where the filter leaves something
-pub list_any-filter : (test : ℕ → Bool) (xs : List ℕ) (n : ℕ) → (filter test xs ≡ [] → n ≡ 0) → (n ≡ 0 → filter test xs ≡ [])
+pub list_any-filter : (test : ℕ → Bool) (xs : List ℕ) (n : ℕ) → (filter test xs ≡ [] → n ≡ 0)
+    → (n ≡ 0 → filter test xs ≡ [])
     → not (nat_eq n 0) ≡ list_any test xs
 list_any-filter test xs n zero_if_none none_if_zero = elim (cases_Bool (list_any test xs)) [
   | inl some ↦ rw (some, ne_eqb n 0 (λ e. filter-some test xs some (none_if_zero e))) refl

@@ -1,4 +1,6 @@
-use Rattle.std.proofs.Common.{◌≡◌, ℕ, ◌+◌, ◌-◌, take, ◌<◌, ◌≤◌, Bool, true, false, cond, ◌||◌, nat_eq, nat_lt, List, [], ◌∷◌, ◌++◌, length, drop, Option, Some, None, Result, Ok, Err, refl, sym, ◌∙◌, ap, inl, inr, arith, append-nil, append_assoc, length-drop}
+use Rattle.std.proofs.Common.{◌≡◌, ℕ, ◌+◌, ◌-◌, take, ◌<◌, ◌≤◌, Bool, true, false, cond, ◌||◌, nat_eq, nat_lt, List, []}
+use Rattle.std.proofs.Common.{◌∷◌, ◌++◌, length, drop, Option, Some, None, Result, Ok, Err, refl, sym, ◌∙◌, ap, inl}
+use Rattle.std.proofs.Common.{inr, arith, append-nil, append_assoc, length-drop}
 use Rattle.std.proofs.Math.Seq.{take-length}
 use Rattle.std.specs.List.{filter, find}
 use Rattle.std.specs.Option.{option_map_or}
@@ -10,7 +12,8 @@ use Rattle.std.proofs.lemmas.List.Elements.{filter-append, filter_map-append}
 use Rattle.suit_cards.specs.Ranks.{IsRank, rank_named}
 use Rattle.suit_cards.specs.Holdings.{holds, suit, with_rank}
 use Rattle.suit_cards.specs.Masks.{suit_is}
-use Rattle.suit_cards.specs.Reading.{Spot, spots_from, ranks_read, before, is_at_fault, fault_at, holding_read, BeginsNoRank, BeginsRank}
+use Rattle.suit_cards.specs.Reading.{Spot, spots_from, ranks_read, before, is_at_fault, fault_at, holding_read}
+use Rattle.suit_cards.specs.Reading.{BeginsNoRank, BeginsRank}
 use Rattle.suit_cards.specs.declared.holdings.CardFault.{CardFault}
 use Rattle.suit_cards.specs.declared.holdings.CardFault.TheVariants.{NotRank, Twice}
 use Rattle.suit_cards.proofs.SuitRuns.{filter_suit-agree, holds-filter_suit}

@@ -1,4 +1,5 @@
-use Rattle.std.specs.Prelude.{◌≡◌, ℕ, ◌+◌, ◌-◌, ◌*◌, ◌%◌, ◌^◌, ◌<◌, ◌==◌, nat_eq, Bool, true, false, cond, [], ◌∷◌, filter, refl}
+use Rattle.std.specs.Prelude.{◌≡◌, ℕ, ◌+◌, ◌-◌, ◌*◌, ◌%◌, ◌^◌, ◌<◌, ◌==◌, nat_eq, Bool, true, false, cond, [], ◌∷◌}
+use Rattle.std.specs.Prelude.{filter, refl}
 use Rattle.std.specs.Int.{bit_at}
 use Rattle.std.proofs.Common.{zero, suc, sym, ◌∙◌, arith, zero-add}
 use Rattle.std.proofs.lemmas.Nat.{mod-pow-add}

@@ -1,5 +1,6 @@
 //! Holdings: the cards of a suit that a hand holds.
-ghost use Rattle.std.specs.Prelude.{◌≡◌, ◌<◌, ◌≤◌, ◌↔◌, [], ◌∷◌, length, Ok, IsTrue, IfOk, IfNone, IfSome, Contains, Any};
+ghost use Rattle.std.specs.Prelude.{◌≡◌, ◌<◌, ◌≤◌, ◌↔◌, [], ◌∷◌, length, Ok, IsTrue, IfOk, IfNone, IfSome, Contains};
+ghost use Rattle.std.specs.Prelude.{Any};
 ghost use Rattle.std.specs.List.{list_any};
 ghost use Rattle.suit_cards.specs.Holdings.{IsHolding, holds, with_rank, without_rank, others_of, text_of};
 ghost use Rattle.suit_cards.specs.Ranks.{IsRank};

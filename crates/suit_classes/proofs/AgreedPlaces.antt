@@ -1,5 +1,6 @@
 -- The class game and the play of single cards agree at each history.
-use Rattle.std.proofs.Common.{◌≡◌, ℕ, suc, max, Bool, true, false, not, ◌||◌, List, [], ◌∷◌, ◌++◌, length, refl, sym, ap, ◌∙◌, arith}
+use Rattle.std.proofs.Common.{◌≡◌, ℕ, suc, max, Bool, true, false, not, ◌||◌, List, [], ◌∷◌, ◌++◌, length, refl, sym}
+use Rattle.std.proofs.Common.{ap, ◌∙◌, arith}
 use Rattle.std.specs.Prelude.{map, filter, nat_lt, ◌&&◌, if◌then◌else◌}
 use Rattle.std.proofs.lemmas.Bool.{lt-ltb}
 use Rattle.std.proofs.lemmas.Simd.{map-map}
@@ -15,7 +16,8 @@ use Rattle.suit_game.specs.declared.question.Entries.{Entries}
 use Rattle.suit_game.specs.declared.moves.Move.TheVariants as cards
 use Rattle.suit_game.specs.declared.turn.Turn.TheVariants as games
 use Rattle.suit_game.specs.Histories.{History}
-use Rattle.suit_game.specs.Positions.{Position, Trick, dealt, hand, ended_in, follows_of, is_empty, leads_at, after, legal_in, legal_at, may_lead_n, may_lead_s, payoff}
+use Rattle.suit_game.specs.Positions.{Position, Trick, dealt, hand, ended_in, follows_of, is_empty, leads_at, after}
+use Rattle.suit_game.specs.Positions.{legal_in, legal_at, may_lead_n, may_lead_s, payoff}
 use Rattle.suit_game.specs.Positions.{Closed as NoTrick, Open as InTrick}
 use Rattle.suit_game.specs.PlaceViews.{IsPlay, turn_on}
 use Rattle.suit_classes.specs.declared.class_moves.ClassMove.{ClassMove}
@@ -23,10 +25,14 @@ use Rattle.suit_classes.specs.declared.class_moves.ClassMove.TheVariants.{Lead, 
 use Rattle.suit_classes.specs.declared.class_turn.ClassTurn.TheVariants as turns
 use Rattle.suit_classes.specs.Agreement.{AgreesAt}
 use Rattle.suit_classes.specs.Classes.{Hands, hands_of, class_of}
-use Rattle.suit_classes.specs.ClassGame.{MergesTo, TellsCards, cards_in, class_turn_for, counts_of, decided_in, each_once, is_decided, is_goal_settled}
+use Rattle.suit_classes.specs.ClassGame.{MergesTo, TellsCards, cards_in, class_turn_for, counts_of, decided_in}
+use Rattle.suit_classes.specs.ClassGame.{each_once, is_decided, is_goal_settled}
 use Rattle.suit_classes.specs.ClassMoves.{ClassHistory, merge, merged}
 use Rattle.suit_classes.specs.declared.class_trick.ClassTrick.TheVariants.{Closed}
-use Rattle.suit_classes.specs.ClassPlaces.{ClassTrick, ClassView, class_after, class_decided, class_decided_in, class_leads, class_moves, class_moves_in, class_numbers, class_payoff, class_turn, classes_left, counted_classes, left, may_lead, or_show_out, turn_of}
+use Rattle.suit_classes.specs.ClassPlaces.{ClassTrick, ClassView, class_after, class_decided, class_decided_in}
+use Rattle.suit_classes.specs.ClassPlaces.{class_leads, class_moves, class_moves_in, class_numbers, class_payoff}
+use Rattle.suit_classes.specs.ClassPlaces.{class_turn, classes_left, counted_classes, left, may_lead, or_show_out}
+use Rattle.suit_classes.specs.ClassPlaces.{turn_of}
 use Rattle.suit_classes.proofs.DealtClasses.{IsDealt, IsHolding-dealt, IsHolding-without}
 use Rattle.suit_classes.proofs.MergedPlaces.{HasCounts, IsMerged, merged_trick, after_merged, play_dealt}
 use Rattle.suit_classes.proofs.MovesOnce.{leads_once, merged_once}
@@ -57,13 +63,15 @@ leads_merged hands north south is_north is_south =
     ∙ ap (λ (l : List ClassMove). l ++ map (merge hands) (map (cards.Lead S) south))
     (map-map (merge hands) (cards.Lead N) north ∙ sym (leads_are hands north)))
     ∙ leads_once (map (class_of hands) north) (map (merge hands) (map (cards.Lead S) south)) (present hands south)
-    (ap each_once (map-map (merge hands) (cards.Lead S) south) ∙ merged_once hands south (Lead S) is_south (λ a b. refl))
+    (ap each_once (map-map (merge hands) (cards.Lead S) south)
+    ∙ merged_once hands south (Lead S) is_south (λ a b. refl))
     ∙ ap (λ (l : List ClassMove). l ++ map (Lead S) (present hands south))
     (ap each_once (leads_are hands north) ∙ merged_once hands north (Lead N) is_north (λ a b. refl))
 
 leads_either : (hands : Hands) (north south : List ℕ) (from_n from_s : Bool) → IsHolding north → IsHolding south
     → each_once
-    (map (merge hands) ((if from_n then map (cards.Lead N) north else []) ++ (if from_s then map (cards.Lead S) south else [])))
+    (map (merge hands) ((if from_n then map (cards.Lead N) north else []) ++ (if from_s then map (cards.Lead S) south
+    else [])))
     ≡ (if from_n then map (Lead N) (present hands north) else []) ++
     (if from_s then map (Lead S) (present hands south) else [])
 leads_either hands north south true true is_north is_south = leads_merged hands north south is_north is_south
@@ -87,7 +95,8 @@ follows_merged : (hands : Hands) (held : Cards) → IsHolding held
 unfolding each_once
 follows_merged hands [] is = ap (λ (l : List ℕ). or_show_out (map Follow l)) (sym (no_classes hands class_numbers))
 follows_merged hands (card ∷ held) is =
-    let once : each_once (map (merge hands) (map cards.Follow (card ∷ held))) ≡ map Follow (present hands (card ∷ held)) =
+    let once : each_once (map (merge hands) (map cards.Follow (card ∷ held)))
+    ≡ map Follow (present hands (card ∷ held)) =
     ap each_once (map-map (merge hands) cards.Follow (card ∷ held))
     ∙ merged_once hands (card ∷ held) Follow is (λ a b. refl) in
     once ∙ shown_first (map Follow (present hands (card ∷ held))) _ _ (sym once)
@@ -114,16 +123,20 @@ leads_agree : (question : Question) (west : Cards) (place : Position) (view : Cl
 leads_agree question west place view is counts =
     let hands : Hands = hands_of question in
     ap
-    (λ (b : Bool). (if b then map (Lead N) (counted_classes view.north) else []) ++ (if may_lead view.lead view.entries_s S then map (Lead S) (counted_classes view.south) else []))
+    (λ (b : Bool). (if b then map (Lead N) (counted_classes view.north) else [])
+    ++ (if may_lead view.lead view.entries_s S then map (Lead S) (counted_classes view.south) else []))
     (may_lead_same view place.lead view.entries_n place.entries_n N counts.lead counts.entries_n)
     ∙ ap
-    (λ (b : Bool). (if may_lead_n place then map (Lead N) (counted_classes view.north) else []) ++ (if b then map (Lead S) (counted_classes view.south) else []))
+    (λ (b : Bool). (if may_lead_n place then map (Lead N) (counted_classes view.north) else [])
+    ++ (if b then map (Lead S) (counted_classes view.south) else []))
     (may_lead_same view place.lead view.entries_s place.entries_s S counts.lead counts.entries_s)
     ∙ ap
-    (λ (l : List ℕ). (if may_lead_n place then map (Lead N) l else []) ++ (if may_lead_s place then map (Lead S) (counted_classes view.south) else []))
+    (λ (l : List ℕ). (if may_lead_n place then map (Lead N) l else [])
+    ++ (if may_lead_s place then map (Lead S) (counted_classes view.south) else []))
     (classes_left_are question west place view N counts)
     ∙ ap
-    (λ (l : List ℕ). (if may_lead_n place then map (Lead N) (present hands (hand question [] place N)) else []) ++ (if may_lead_s place then map (Lead S) l else []))
+    (λ (l : List ℕ). (if may_lead_n place then map (Lead N) (present hands (hand question [] place N)) else [])
+    ++ (if may_lead_s place then map (Lead S) l else []))
     (classes_left_are question west place view S counts)
     ∙ sym
     (leads_either hands (hand question [] place N) (hand question [] place S) (may_lead_n place) (may_lead_s place)
@@ -178,17 +191,23 @@ decided_closed view question west place counts =
     let n = may_lead_same view place.lead view.entries_n place.entries_n N counts.lead counts.entries_n in
     let s = may_lead_same view place.lead view.entries_s place.entries_s S counts.lead counts.entries_s in
     ap
-    (λ (b : Bool). not ((b && nat_lt 0 view.cards_n) || (may_lead view.lead view.entries_s S && nat_lt 0 view.cards_s)) || is_goal_settled view.goal view.won (max view.cards_n view.cards_s)) n
+    (λ (b : Bool). not ((b && nat_lt 0 view.cards_n) || (may_lead view.lead view.entries_s S && nat_lt 0 view.cards_s))
+    || is_goal_settled view.goal view.won (max view.cards_n view.cards_s)) n
     ∙ ap
-    (λ (b : Bool). not ((may_lead_n place && nat_lt 0 view.cards_n) || (b && nat_lt 0 view.cards_s)) || is_goal_settled view.goal view.won (max view.cards_n view.cards_s)) s
+    (λ (b : Bool). not ((may_lead_n place && nat_lt 0 view.cards_n) || (b && nat_lt 0 view.cards_s))
+    || is_goal_settled view.goal view.won (max view.cards_n view.cards_s)) s
     ∙ ap
-    (λ (k : ℕ). not ((may_lead_n place && nat_lt 0 k) || (may_lead_s place && nat_lt 0 view.cards_s)) || is_goal_settled view.goal view.won (max k view.cards_s)) counts.cards_n
+    (λ (k : ℕ). not ((may_lead_n place && nat_lt 0 k) || (may_lead_s place && nat_lt 0 view.cards_s))
+    || is_goal_settled view.goal view.won (max k view.cards_s)) counts.cards_n
     ∙ ap
-    (λ (k : ℕ). not ((may_lead_n place && nat_lt 0 (length north)) || (may_lead_s place && nat_lt 0 k)) || is_goal_settled view.goal view.won (max (length north) k)) counts.cards_s
+    (λ (k : ℕ). not ((may_lead_n place && nat_lt 0 (length north)) || (may_lead_s place && nat_lt 0 k))
+    || is_goal_settled view.goal view.won (max (length north) k)) counts.cards_s
     ∙ ap
-    (λ (g : Goal). not ((may_lead_n place && nat_lt 0 (length north)) || (may_lead_s place && nat_lt 0 (length south))) || is_goal_settled g view.won (max (length north) (length south))) counts.goal
+    (λ (g : Goal). not ((may_lead_n place && nat_lt 0 (length north)) || (may_lead_s place && nat_lt 0 (length south)))
+    || is_goal_settled g view.won (max (length north) (length south))) counts.goal
     ∙ ap
-    (λ (w : ℕ). not ((may_lead_n place && nat_lt 0 (length north)) || (may_lead_s place && nat_lt 0 (length south))) || is_goal_settled question.goal w (max (length north) (length south))) counts.won
+    (λ (w : ℕ). not ((may_lead_n place && nat_lt 0 (length north)) || (may_lead_s place && nat_lt 0 (length south)))
+    || is_goal_settled question.goal w (max (length north) (length south))) counts.won
     ∙ ap (λ (b : Bool). b || is_goal_settled question.goal place.won (max (length north) (length south)))
     (sym (empty_leads north south (may_lead_n place) (may_lead_s place)))
 
@@ -206,10 +225,12 @@ decided_agrees question west place view one =
 turn_in : (hands : Hands) (question : Question) (place : Position) (trick : Trick)
     → (if decided_in question place trick then turns.Decided else turn_of (merged_trick hands trick))
     ≡
-    (if decided_in question place trick then turns.Decided else class_turn_for (if ended_in question place trick then games.Over else turn_on trick))
+    (if decided_in question place trick then turns.Decided
+    else class_turn_for (if ended_in question place trick then games.Over else turn_on trick))
 turn_in hands question place NoTrick =
     either (is_empty (leads_at question place))
-    (is_goal_settled question.goal place.won (max (length (hand question [] place N)) (length (hand question [] place S))))
+    (is_goal_settled question.goal place.won
+    (max (length (hand question [] place N)) (length (hand question [] place S))))
   where
     either : (ended settled : Bool)
         → (if ended || settled then turns.Decided else turns.Lead)

@@ -1,5 +1,6 @@
 -- Which class histories a class layout allows, move by move.
-use Rattle.std.proofs.Common.{◌≡◌, ℕ, zero, suc, ◌+◌, ◌-◌, ◌≤◌, Bool, true, false, not, List, [], ◌∷◌, ◌++◌, refl, sym, ap, ◌∙◌, subst, inl, inr, arith, add-zero}
+use Rattle.std.proofs.Common.{◌≡◌, ℕ, zero, suc, ◌+◌, ◌-◌, ◌≤◌, Bool, true, false, not, List, [], ◌∷◌, ◌++◌, refl, sym}
+use Rattle.std.proofs.Common.{ap, ◌∙◌, subst, inl, inr, arith, add-zero}
 use Rattle.std.specs.Prelude.{fold, map, filter, Contains, ◌↔◌, if◌then◌else◌}
 use Rattle.std.specs.List.{AllByRecursion}
 use Rattle.std.proofs.lemmas.Bool.{cases_lt}
@@ -13,7 +14,8 @@ use Rattle.suit_game.specs.Layouts.{layouts}
 use Rattle.suit_game.specs.Positions.{Position, LegalFrom, IsLegal, legal, legal_at, start_place, step}
 use Rattle.suit_game.specs.PlaceViews.{IsPlay}
 use Rattle.suit_game.specs.Validity.{IsValid}
-use Rattle.suit_game.proofs.EachElement.{Contains-cons_cases, Contains-first, Contains-later, Contains-map_from, Contains-nil, each_at, each_filter, each_gives, Contains-filter, Contains-map}
+use Rattle.suit_game.proofs.EachElement.{Contains-cons_cases, Contains-first, Contains-later, Contains-map_from}
+use Rattle.suit_game.proofs.EachElement.{Contains-nil, each_at, each_filter, each_gives, Contains-filter, Contains-map}
 use Rattle.suit_game.proofs.SeenPlaces.{play_more, play_none}
 use Rattle.suit_classes.specs.declared.class_moves.ClassMove.{ClassMove}
 use Rattle.suit_classes.specs.Classes.{Hands, hands_of, class_below, class_of, holder, same_owner}
@@ -32,7 +34,8 @@ once_within [] = tt
 once_within (move ∷ moves) = (
   Contains-first move moves,
   each_filter (Contains (move ∷ moves)) (λ other. not (same_class_move move other)) (each_once moves)
-      (each_gives (Contains moves) (Contains (move ∷ moves)) (each_once moves) (λ other found. Contains-later move moves other found) (once_within moves)),
+      (each_gives (Contains moves) (Contains (move ∷ moves)) (each_once moves)
+      (λ other found. Contains-later move moves other found) (once_within moves)),
 )
 
 -- a move of a list without repeats is one of the list
@@ -84,7 +87,8 @@ allows_more question counts history move allows found =
     ap (λ (h : ClassHistory). class_moves (class_after question h) counts) (sym allows.merges)
     ∙ ap (class_moves (class_after question (merged hands allows.cards))) (sym allows.counted) ∙ agrees.moves in
     let card = Contains-map_from (merge hands) (legal question allows.west allows.cards) move
-    (Contains-each_once (map (merge hands) (legal question allows.west allows.cards)) move (subst (λ (l : List ClassMove). Contains l move) moves found)) in
+    (Contains-each_once (map (merge hands) (legal question allows.west allows.cards)) move
+    (subst (λ (l : List ClassMove). Contains l move) moves found)) in
     record {
       west = allows.west;
       cards = allows.cards ++ card.0 ∷ [];

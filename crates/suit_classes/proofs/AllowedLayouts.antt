@@ -1,5 +1,6 @@
 -- What counts are told to allow is what they allow.
-use Rattle.std.proofs.Common.{◌≡◌, ℕ, ◌≤◌, Bool, true, cond, List, [], ◌∷◌, ◌++◌, length, map, take, drop, refl, sym, ap, ◌∙◌, subst, arith}
+use Rattle.std.proofs.Common.{◌≡◌, ℕ, ◌≤◌, Bool, true, cond, List, [], ◌∷◌, ◌++◌, length, map, take, drop, refl, sym}
+use Rattle.std.proofs.Common.{ap, ◌∙◌, subst, arith}
 use Rattle.std.specs.Prelude.{◌↔◌, ◌==◌, Contains}
 use Rattle.std.specs.List.{AllByRecursion, count_by, flat_map}
 use Rattle.std.proofs.lemmas.Bool.{and_from, and_parts}
@@ -103,7 +104,8 @@ count_told hands west class holding =
     let held : ℕ → ℕ = λ card. cond (holds (class_ranks hands class) card) 1 0 in
     let named : ℕ → ℕ = λ card. cond (class_of hands card == class) 1 0 in
     sum_by_alike held named west
-    (each_gives (λ card. holds (class_ranks hands class) card ≡ (class_of hands card == class)) (λ card. held card ≡ named card) west
+    (each_gives (λ card. holds (class_ranks hands class) card ≡ (class_of hands card == class)) (λ card. held card
+    ≡ named card) west
     (λ card same. ap {B = ℕ} (λ (b : Bool). cond b 1 0) same) (ranks_told hands class 15 west (omega arith) holding))
     ∙ sym (length-filter (λ card. class_of hands card == class) west)
 

@@ -1,5 +1,6 @@
 -- Cards by class: what is held, left and gone of a class, and that equal counts are of equally many cards: alike_long.
-use Rattle.std.proofs.Common.{◌≡◌, ℕ, ◌+◌, ◌<◌, Bool, true, false, cond, [], ◌∷◌, length, map, refl, sym, ap, ◌∙◌, subst, inl, inr, arith}
+use Rattle.std.proofs.Common.{◌≡◌, ℕ, ◌+◌, ◌<◌, Bool, true, false, cond, [], ◌∷◌, length, map, refl, sym, ap, ◌∙◌}
+use Rattle.std.proofs.Common.{subst, inl, inr, arith}
 use Rattle.std.specs.Prelude.{filter, sum, sum_by, Contains, ◌==◌, if◌then◌else◌}
 use Rattle.std.specs.List.{AllByRecursion, range_with_len}
 use Rattle.std.proofs.lemmas.Bool.{eq-eqb, ne_eqb}
@@ -70,8 +71,12 @@ missing_class question card held =
     let rank = IsRank-held (missing question) card (IsHolding-others_of question.north question.south) held in
     Contains-filter (λ class. same_owner (class_owner hands class) owners.Defence)
     (range_with_len 0 (class_count hands)) (class_of hands card)
-    (Contains-range 0 (class_count hands) (class_of hands card) (omega arith) (omega (arith, class_of-below hands card rank)))
-    (ap (λ owner. same_owner owner owners.Defence) (class_owner-class_of hands card rank ∙ missing_holder question card held))
+    (Contains-range 0 (class_count hands) (class_of hands card) (omega arith) (omega (
+      arith,
+      class_of-below hands card rank,
+    )))
+    (ap (λ owner. same_owner owner owners.Defence) (class_owner-class_of hands card rank
+    ∙ missing_holder question card held))
 
 -- no class comes twice among the defenders'
 pub once_defence : (hands : Hands) → IsOnce (defence_classes hands)
@@ -122,8 +127,13 @@ both_sums : (f g : ℕ → ℕ) (classes : Indices)
 both_sums f g [] = omega arith
 both_sums f g (class ∷ classes) =
     let both : ℕ → ℕ = λ number. f number + g number in
-    omega
-    (arith, sum_by-cons both class classes, sum_by-cons f class classes, sum_by-cons g class classes, both_sums f g classes)
+    omega (
+      arith,
+      sum_by-cons both class classes,
+      sum_by-cons f class classes,
+      sum_by-cons g class classes,
+      both_sums f g classes,
+    )
 
 -- cards whose classes are all among some, of which none comes twice, are as many as those of the classes together
 pub cards_in-all : (hands : Hands) (classes : Indices) (cards : Cards) → IsOnce classes

@@ -1,5 +1,6 @@
 -- The numbers of classes rise down the suit, and one side holds all ranks of a class.
-use Rattle.std.proofs.Common.{◌≡◌, ℕ, zero, suc, ◌+◌, ◌-◌, ◌<◌, ◌≤◌, Bool, true, false, cond, List, [], ◌∷◌, length, get_or, refl, sym, ap, ◌∙◌, subst, inl, inr, arith, Some}
+use Rattle.std.proofs.Common.{◌≡◌, ℕ, zero, suc, ◌+◌, ◌-◌, ◌<◌, ◌≤◌, Bool, true, false, cond, List, [], ◌∷◌, length}
+use Rattle.std.proofs.Common.{get_or, refl, sym, ap, ◌∙◌, subst, inl, inr, arith, Some}
 use Rattle.std.specs.Prelude.{map, not, filter, count_by, find, ◌==◌, if◌then◌else◌}
 use Rattle.std.specs.List.{range_with_len}
 use Rattle.std.proofs.lemmas.Bool.{cases_lt, eq-eqb, ne_eqb, false≢true}
@@ -9,7 +10,8 @@ use Rattle.suit_cards.specs.Holdings.{suit}
 use Rattle.suit_cards.specs.Ranks.{IsRank}
 use Rattle.suit_classes.specs.declared.classes.Owner.{Owner}
 use Rattle.suit_classes.specs.declared.classes.Owner.TheVariants as owners
-use Rattle.suit_classes.specs.Classes.{Hands, holder, same_owner, class_below, class_of, class_count, class_top, class_size}
+use Rattle.suit_classes.specs.Classes.{Hands, holder, same_owner, class_below, class_of, class_count, class_top}
+use Rattle.suit_classes.specs.Classes.{class_size}
 use Rattle.suit_classes.specs.Numbering.{numbers_of}
 
 step_least : (b : Bool) (n : ℕ) → n ≤ n + (if b then 0 else 1)
@@ -143,7 +145,8 @@ find_first p f from (suc count) (suc place) small passes before =
     let turned : from + 1 + place ≡ from + suc place = omega arith in
     rw here (
     find_first p f (from + 1) count place (omega arith) (subst (λ (n : ℕ). p (f n) ≡ true) (sym turned) passes)
-    (λ k low. let up : from + suc k ≡ from + 1 + k = omega arith in subst (λ (n : ℕ). p (f n) ≡ false) up (before (suc k) (omega arith)))
+    (λ k low. let up : from + suc k ≡ from + 1 + k = omega arith in
+    subst (λ (n : ℕ). p (f n) ≡ false) up (before (suc k) (omega arith)))
     ∙ ap (λ (n : ℕ). Some (f n)) turned
     )
 
@@ -163,7 +166,8 @@ class_top-first hands class place rank small is here before =
     ap (find (λ r. class_of hands r == class)) suit_is_ranks
     ∙ find_first (λ r. class_of hands r == class) (λ place. 14 - place) 0 13 place small
     (let same : 14 - (14 - (0 + place)) ≡ place = omega arith in rw same (eq-eqb (class_below hands place) class here))
-    (λ k low. let same : 14 - (14 - (0 + k)) ≡ k = omega arith in rw same (ne_eqb (class_below hands k) class (before k low)))
+    (λ k low. let same : 14 - (14 - (0 + k)) ≡ k = omega arith in
+    rw same (ne_eqb (class_below hands k) class (before k low)))
     ∙ ap Some (omega arith)
 
 -- the number that is read at a place, where the numbers are those of some hands
@@ -178,7 +182,8 @@ pub length-filter_map : (p : ℕ → Bool) (f : ℕ → ℕ) (xs : List ℕ)
     → length (filter p (map f xs)) ≡ length (filter (λ x. p (f x)) xs)
 length-filter_map p f [] = refl
 length-filter_map p f (x ∷ xs) =
-    elim (p (f x)) as (λ b. length (cond b (f x ∷ filter p (map f xs)) (filter p (map f xs))) ≡ length (cond b (x ∷ filter (λ y. p (f y)) xs) (filter (λ y. p (f y)) xs))) [
+    elim (p (f x)) as (λ b. length (cond b (f x ∷ filter p (map f xs)) (filter p (map f xs)))
+    ≡ length (cond b (x ∷ filter (λ y. p (f y)) xs) (filter (λ y. p (f y)) xs))) [
       | true ↦ ap suc (length-filter_map p f xs)
       | false ↦ length-filter_map p f xs
     ]
@@ -212,7 +217,8 @@ class_size-some hands class few =
     numbers_of-at hands place.0 (omega (arith, place.1)) ∙ place.2 in
     subst (λ (n : ℕ). 0 < n)
     (length-filter (λ number. number == class) (numbers_of hands) ∙ numbers_counted hands class)
-    (filter_some (λ number. number == class) (numbers_of hands) place.0 at (eq-eqb (get_or (numbers_of hands) place.0 0) class is))
+    (filter_some (λ number. number == class) (numbers_of hands) place.0 at
+    (eq-eqb (get_or (numbers_of hands) place.0 0) class is))
 
 -- how many ranks a class has is a small number
 pub class_size-most : (hands : Hands) (class : ℕ) → class_size hands class ≤ 13
@@ -242,5 +248,6 @@ class_below-later hands above place number later starts next is told chosen =
     ∙ sym (new_or_kept (same_owner (holder hands (14 - above)) (holder hands (14 - place))) number)
     ∙ ap (λ (n : ℕ). n + (if same_owner (holder hands (14 - above)) (holder hands (14 - place)) then 0 else 1)) is
     ∙ subst
-    (λ (p : ℕ). class_below hands above + (if same_owner (holder hands (14 - above)) (holder hands (14 - p)) then 0 else 1) ≡ class_below hands p)
+    (λ (p : ℕ). class_below hands above + (if same_owner (holder hands (14 - above)) (holder hands (14 - p)) then 0
+    else 1) ≡ class_below hands p)
     (sym here) refl

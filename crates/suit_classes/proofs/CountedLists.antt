@@ -1,5 +1,6 @@
 -- Lists of counts, and the classes of which they have a card.
-use Rattle.std.proofs.Common.{◌≡◌, ℕ, zero, suc, ◌+◌, ◌-◌, ◌*◌, ◌<◌, ◌≤◌, Bool, true, false, cond, List, [], ◌∷◌, ◌++◌, length, get_or, refl, sym, ap, ◌∙◌, subst, inl, inr, arith, append_assoc, append-nil}
+use Rattle.std.proofs.Common.{◌≡◌, ℕ, zero, suc, ◌+◌, ◌-◌, ◌*◌, ◌<◌, ◌≤◌, Bool, true, false, cond, List, [], ◌∷◌, ◌++◌}
+use Rattle.std.proofs.Common.{length, get_or, refl, sym, ap, ◌∙◌, subst, inl, inr, arith, append_assoc, append-nil}
 use Rattle.std.specs.Prelude.{map, filter, nat_lt, nat_eq, slice_index, if◌then◌else◌}
 use Rattle.std.specs.List.{range_with_len}
 use Rattle.std.proofs.Math.ListN.{set, length-set}
@@ -7,7 +8,8 @@ use Rattle.std.proofs.lemmas.Bool.{cases_lt, cases_eq, ltb-true, lt-ltb, le-ltb,
 use Rattle.std.proofs.lemmas.List.{map-append, length-map, get_or-set_same, get_or-set_other, get_or_past}
 use Rattle.std.proofs.lemmas.List.Sums.{length-filter, count_by-le-length}
 use Rattle.std.proofs.lemmas.List.Edits.{fill_by_more}
-use Rattle.std.proofs.lemmas.List.FromFn.{fill_by_all, get_or-map-range_with_len, length-map-range_with_len, length-range_with_len}
+use Rattle.std.proofs.lemmas.List.FromFn.{fill_by_all, get_or-map-range_with_len, length-map-range_with_len}
+use Rattle.std.proofs.lemmas.List.FromFn.{length-range_with_len}
 use Rattle.suit_cards.specs.Cards.{Counts}
 use Rattle.suit_cards.specs.Holdings.{suit, IsHolding}
 use Rattle.suit_cards.proofs.SuitRuns.{IsHolding-filter_suit}
@@ -19,7 +21,9 @@ use Rattle.suit_classes.specs.Classes.{Hands, same_owner, class_of, class_count,
 use Rattle.suit_cards.specs.declared.seats.Seat.{Seat}
 use Rattle.suit_cards.specs.declared.seats.Seat.TheVariants.{E, W}
 use Rattle.suit_classes.specs.declared.class_trick.ClassTrick.TheVariants.{Open}
-use Rattle.suit_classes.specs.ClassPlaces.{AreApart, ClassView, class_moves, class_moves_in, class_numbers, classes_left, counted_classes, dealt_to, held_by, is_defence_class, left, none_played, or_show_out, west_count}
+use Rattle.suit_classes.specs.ClassPlaces.{AreApart, ClassView, class_moves, class_moves_in, class_numbers}
+use Rattle.suit_classes.specs.ClassPlaces.{classes_left, counted_classes, dealt_to, held_by, is_defence_class, left}
+use Rattle.suit_classes.specs.ClassPlaces.{none_played, or_show_out, west_count}
 use Rattle.suit_classes.proofs.DefenceClasses.{filter_range-push, filter_range-more, filter_range-most}
 use Rattle.suit_classes.proofs.RankBlocks.{StaysBelow, with_number, falling_stays}
 
@@ -114,7 +118,8 @@ filled_dealt hands owner counts class all filled =
       | inr past ↦
           filled.rest k past
           ∙ sym
-          (held_none (same_owner (class_owner hands k) owner) (class_size hands k) (class_size-none hands k (omega arith)))
+          (held_none (same_owner (class_owner hands k) owner) (class_size hands k)
+          (class_size-none hands k (omega arith)))
     ])
 
 -- a side's count in a class
@@ -152,7 +157,9 @@ pub one_less-at : (counts : Counts) (class k : ℕ) → k < length counts
 one_less-at counts class k small = elim (cases_eq class k) [
   | inl here ↦
       rw (eq-eqb class k here)
-      (ap (λ (j : ℕ). get_or (set counts class (get_or counts j 0 - 1)) k 0) here ∙ ap (λ (j : ℕ). get_or (set counts j (get_or counts k 0 - 1)) k 0) here ∙ get_or-set_same counts k (get_or counts k 0 - 1) 0 small)
+      (ap (λ (j : ℕ). get_or (set counts class (get_or counts j 0 - 1)) k 0) here
+      ∙ ap (λ (j : ℕ). get_or (set counts j (get_or counts k 0 - 1)) k 0) here
+      ∙ get_or-set_same counts k (get_or counts k 0 - 1) 0 small)
   | inr other ↦
       rw (ne_eqb class k other)
       (get_or-set_other counts class k (get_or counts class 0 - 1) 0 (λ same. other (sym same)) ∙ omega arith)
@@ -164,7 +171,9 @@ pub one_more-at : (counts : Counts) (class k : ℕ) → k < length counts
 one_more-at counts class k small = elim (cases_eq class k) [
   | inl here ↦
       rw (eq-eqb class k here)
-      (ap (λ (j : ℕ). get_or (set counts class (get_or counts j 0 + 1)) k 0) here ∙ ap (λ (j : ℕ). get_or (set counts j (get_or counts k 0 + 1)) k 0) here ∙ get_or-set_same counts k (get_or counts k 0 + 1) 0 small)
+      (ap (λ (j : ℕ). get_or (set counts class (get_or counts j 0 + 1)) k 0) here
+      ∙ ap (λ (j : ℕ). get_or (set counts j (get_or counts k 0 + 1)) k 0) here
+      ∙ get_or-set_same counts k (get_or counts k 0 + 1) 0 small)
   | inr other ↦
       rw (ne_eqb class k other)
       (get_or-set_other counts class k (get_or counts class 0 + 1) 0 (λ same. other (sym same)) ∙ omega arith)
@@ -183,7 +192,8 @@ moves_next base move p class b items later are is chosen =
     ∙ ap (λ (l : List ℕ). base ++ map move l) (sym (filter_range-push p class))
   where
     either : (t : Bool)
-        → (if t then (base ++ map move (filter p (range_with_len 0 class))) ++ move class ∷ [] else base ++ map move (filter p (range_with_len 0 class)))
+        → (if t then (base ++ map move (filter p (range_with_len 0 class))) ++ move class ∷ []
+        else base ++ map move (filter p (range_with_len 0 class)))
         ≡ base ++ map move (filter p (range_with_len 0 class) ++ (if t then class ∷ [] else []))
     either true = append_assoc base (map move (filter p (range_with_len 0 class))) (move class ∷ [])
         ∙ ap (λ (l : List ClassMove). base ++ l)
@@ -253,8 +263,11 @@ apart_fit north south apart =
 -- and those of one
 pub counted_classes-most : (counts : Counts) → length (counted_classes counts) ≤ 13
 counted_classes-most counts =
-    omega
-    (arith, length-class_numbers, disjoint_fit (λ class. nat_lt 0 (get_or counts class 0)) (λ class. false) class_numbers (λ class some. refl))
+    omega (
+      arith,
+      length-class_numbers,
+      disjoint_fit (λ class. nat_lt 0 (get_or counts class 0)) (λ class. false) class_numbers (λ class some. refl),
+    )
 
 -- with no class a hand shows out
 pub or_show_out-none : (moves : List ClassMove) → length moves ≡ 0 → moves ++ ShowOut ∷ [] ≡ or_show_out moves
@@ -316,7 +329,8 @@ counted_is_left view counts seat here right =
     same_from from zero same = refl
     same_from from (suc count) same =
         rw (same from (omega arith) (omega arith))
-        (ap (λ (l : List ℕ). cond (nat_lt 0 (left view counts seat from)) (from ∷ l) l) (same_from (from + 1) count (λ class least most. same class (omega arith) (omega arith))))
+        (ap (λ (l : List ℕ). cond (nat_lt 0 (left view counts seat from)) (from ∷ l) l)
+        (same_from (from + 1) count (λ class least most. same class (omega arith) (omega arith))))
 
 -- what the seat on turn may follow with
 pub follows_at : (view : ClassView) (counts : Counts) (turn : Seat) (after : ℕ) (winner : Owner) (highest : ℕ)
@@ -327,5 +341,9 @@ follows_at view counts turn after winner highest is = sym (ap (class_moves_in vi
 -- no more numbers passed than there were
 pub index_few : (p : ℕ → Bool) (class : ℕ) → length (filter p (range_with_len 0 class)) ≤ class
 index_few p class =
-    omega
-    (arith, length-filter p (range_with_len 0 class), count_by-le-length p (range_with_len 0 class), length-range_with_len 0 class)
+    omega (
+      arith,
+      length-filter p (range_with_len 0 class),
+      count_by-le-length p (range_with_len 0 class),
+      length-range_with_len 0 class,
+    )

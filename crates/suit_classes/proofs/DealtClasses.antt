@@ -1,5 +1,6 @@
 -- The cards that the seats were dealt, by their classes.
-use Rattle.std.proofs.Common.{◌≡◌, ℕ, ◌-◌, Bool, true, false, not, List, [], ◌∷◌, length, refl, sym, ap, ◌∙◌, inl, inr, arith}
+use Rattle.std.proofs.Common.{◌≡◌, ℕ, ◌-◌, Bool, true, false, not, List, [], ◌∷◌, length, refl, sym, ap, ◌∙◌, inl, inr}
+use Rattle.std.proofs.Common.{arith}
 use Rattle.std.specs.Prelude.{map, filter, ◌==◌, ◌&&◌, if◌then◌else◌}
 use Rattle.std.proofs.lemmas.Bool.{cases_eq, true≢false, and_from, false_from_ne_true, eq-eqb, ne_eqb}
 use Rattle.suit_cards.specs.Cards.{Cards}
@@ -20,7 +21,8 @@ use Rattle.suit_game.proofs.LayoutCards.{missing-apart, east-missing}
 use Rattle.suit_game.proofs.LongestPlay.{none_shared}
 use Rattle.suit_classes.specs.declared.classes.Owner.{Owner}
 use Rattle.suit_classes.specs.declared.classes.Owner.TheVariants as owners
-use Rattle.suit_classes.specs.Classes.{Hands, hands_of, holder, same_owner, class_of, class_owner, class_ranks, defence_classes}
+use Rattle.suit_classes.specs.Classes.{Hands, hands_of, holder, same_owner, class_of, class_owner, class_ranks}
+use Rattle.suit_classes.specs.Classes.{defence_classes}
 use Rattle.suit_classes.specs.ClassGame.{cards_in, counts_of}
 use Rattle.suit_classes.specs.ClassPlaces.{held_by, side}
 use Rattle.suit_classes.proofs.DefenceClasses.{missing_are, class_owner-class_of}
@@ -72,7 +74,8 @@ pub holder-dealt : (question : Question) (west : Cards) (seat : Seat) (card : �
 holder-dealt question west N card is held = held_north (holds question.north card) (holds question.south card) held
 holder-dealt question west S card is held =
     held_south (holds question.north card) (holds question.south card)
-    (false_from_ne_true (holds question.north card) (λ in_north. none_shared question.north question.south is.deal.apart card in_north held)) held
+    (false_from_ne_true (holds question.north card)
+    (λ in_north. none_shared question.north question.south is.deal.apart card in_north held)) held
 holder-dealt question west W card is held = missing_holder question card (is.deal.defenders card held)
 holder-dealt question west E card is held = missing_holder question card (east-missing question west card held)
 
@@ -171,7 +174,8 @@ pub cards_in-south : (question : Question) (west : Cards) (class : ℕ) → IsDe
 cards_in-south question west class is =
     cards_in-side (hands_of question) owners.S question.south class
     (filter_suit-agree (λ rank. same_owner (holder (hands_of question) rank) owners.S) (holds question.south)
-    (λ rank least most. south_test (holds question.north rank) (holds question.south rank) (none_shared question.north question.south is.deal.apart rank))
+    (λ rank least most. south_test (holds question.north rank) (holds question.south rank)
+    (none_shared question.north question.south is.deal.apart rank))
     ∙ filter_suit-holds question.south is.deal.south)
 
 pub cards_in-missing : (question : Question) (class : ℕ)
@@ -214,14 +218,24 @@ cards_in-played hands cards gone card class is held =
           length-without_one 15 (filter test cards) gone card (IsHolding-filter test cards is)
           (holds-without (filter test cards) gone card kept parts.1) in
           rw (eq-eqb (class_of hands card) class here)
-          (omega (arith, one, ap length (cards_left_of_class hands cards (card ∷ gone) class), ap length (cards_left_of_class hands cards gone class)))
+          (omega (
+            arith,
+            one,
+            ap length (cards_left_of_class hands cards (card ∷ gone) class),
+            ap length (cards_left_of_class hands cards gone class),
+          ))
       | inr other ↦
           let away : holds (filter test cards) card ≡ false =
           holds-filter test cards card
           ∙ ap (λ (b : Bool). holds cards card && b) (ne_eqb (class_of hands card) class other)
           ∙ and_swapped (holds cards card) false in
           rw (ne_eqb (class_of hands card) class other)
-          (omega (arith, ap length (cards_left_of_class hands cards (card ∷ gone) class ∙ without_away (filter test cards) gone card away), ap length (cards_left_of_class hands cards gone class)))
+          (omega (
+            arith,
+            ap length (cards_left_of_class hands cards (card ∷ gone) class
+                ∙ without_away (filter test cards) gone card away),
+            ap length (cards_left_of_class hands cards gone class),
+          ))
     ]
 
 -- as another card goes, the hand keeps its cards

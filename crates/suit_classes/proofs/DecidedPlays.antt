@@ -10,7 +10,8 @@ use Rattle.suit_game.specs.declared.question.Question.{Question}
 use Rattle.suit_game.specs.declared.question.Goal.{Goal}
 use Rattle.suit_game.specs.declared.question.Goal.TheVariants.{AtLeast, Tricks}
 use Rattle.suit_game.specs.declared.moves.Move.{Move}
-use Rattle.suit_game.specs.Positions.{Position, Trick, Closed, Open, LegalFrom, after, hand, is_empty, leads_at, legal_in, payoff, step}
+use Rattle.suit_game.specs.Positions.{Position, Trick, Closed, Open, LegalFrom, after, hand, is_empty, leads_at}
+use Rattle.suit_game.specs.Positions.{legal_in, payoff, step}
 use Rattle.suit_game.specs.PlaceViews.{IsPlay}
 use Rattle.suit_game.specs.Reached.{IsWithin, turns_had}
 use Rattle.suit_game.proofs.EachElement.{Contains-nil}
@@ -60,7 +61,9 @@ stays_in : (question : Question) (west : Cards) (place : Position) (moves : List
     → LegalFrom question west place moves → IsWithin question place (fold (step question) place moves)
     → payoff question.goal (fold (step question) place moves).won ≡ payoff question.goal place.won
 stays_in question west place moves Closed closed decided legal within =
-    elim (or_cases (is_empty (leads_at question place)) (is_goal_settled question.goal place.won (max (length (hand question [] place N)) (length (hand question [] place S)))) decided) [
+    elim (or_cases (is_empty (leads_at question place))
+    (is_goal_settled question.goal place.won
+    (max (length (hand question [] place N)) (length (hand question [] place S)))) decided) [
       | inl none ↦ ended_stays question west place moves closed none legal
       | inr settled ↦
           let no_n : turns_had place.trick N ≡ 0 = ap (λ (t : Trick). turns_had t N) closed in
@@ -91,5 +94,6 @@ class_histories_are_short question counts history allows =
       arith,
       ap length allows.merges,
       length-map allows.cards (merge (hands_of question)),
-      histories_are_short question allows.west allows.cards allows.play.valid.north allows.play.valid.south allows.play.valid.apart allows.play.legal,
+      histories_are_short question allows.west allows.cards allows.play.valid.north allows.play.valid.south
+          allows.play.valid.apart allows.play.legal,
     )

@@ -1,5 +1,6 @@
 -- The defenders' classes: who held a class, and how many there are.
-use Rattle.std.proofs.Common.{◌≡◌, ℕ, zero, suc, ◌+◌, ◌-◌, ◌<◌, ◌≤◌, Bool, true, false, cond, not, ◌||◌, List, [], ◌∷◌, ◌++◌, length, get_or, refl, sym, ap, ◌∙◌, subst, inl, inr, arith, Some, append-nil}
+use Rattle.std.proofs.Common.{◌≡◌, ℕ, zero, suc, ◌+◌, ◌-◌, ◌<◌, ◌≤◌, Bool, true, false, cond, not, ◌||◌, List, [], ◌∷◌}
+use Rattle.std.proofs.Common.{◌++◌, length, get_or, refl, sym, ap, ◌∙◌, subst, inl, inr, arith, Some, append-nil}
 use Rattle.std.specs.Prelude.{filter, find, Option, ◌==◌, if◌then◌else◌}
 use Rattle.std.specs.List.{range_with_len}
 use Rattle.std.specs.Option.{option_map_or}
@@ -11,7 +12,8 @@ use Rattle.suit_cards.specs.Holdings.{holds, suit, others_of}
 use Rattle.suit_cards.specs.Ranks.{IsRank}
 use Rattle.suit_classes.specs.declared.classes.Owner.{Owner}
 use Rattle.suit_classes.specs.declared.classes.Owner.TheVariants as owners
-use Rattle.suit_classes.specs.Classes.{Hands, holder, same_owner, class_below, class_of, class_count, class_owner, defence_classes}
+use Rattle.suit_classes.specs.Classes.{Hands, holder, same_owner, class_below, class_of, class_count, class_owner}
+use Rattle.suit_classes.specs.Classes.{defence_classes}
 use Rattle.suit_classes.proofs.ClassNumbers.{class_below-ace, class_held_alike, length-filter_map, suit_is_ranks}
 
 -- a passing element is found, and stands at some place
@@ -28,7 +30,14 @@ found_more p x xs true here rest =
     record { element = x; is = rw here refl; passes = here; place = 0; within = omega arith; stands = refl }
 found_more p x xs false here rest =
     let later = rest refl in
-    record { element = later.element; is = rw here later.is; passes = later.passes; place = suc later.place; within = omega (arith, later.within); stands = later.stands }
+    record {
+      element = later.element;
+      is = rw here later.is;
+      passes = later.passes;
+      place = suc later.place;
+      within = omega (arith, later.within);
+      stands = later.stands;
+    }
 
 found_in : (p : ℕ → Bool) (xs : List ℕ) (place : ℕ) → place < length xs → p (get_or xs place 0) ≡ true → Found p xs
 found_in p [] place small passes = absurd (omega arith)
@@ -182,7 +191,8 @@ counted_to hands zero small =
 counted_to hands (suc n) small =
     subst (λ (ranks : ℕ). Counted (classes_to hands (suc n)) ranks (suc n) (is_defence (holder hands (14 - suc n))))
     (sym (filter_range-more (λ place. is_defence (holder hands (14 - place))) (suc n)))
-    (counted_next (holder hands (14 - n)) (holder hands (14 - suc n)) (classes_to hands n) (ranks_to hands n) (classes_to hands (suc n)) n
+    (counted_next (holder hands (14 - n)) (holder hands (14 - suc n)) (classes_to hands n) (ranks_to hands n)
+    (classes_to hands (suc n)) n
     (counted_to hands n (omega arith))
     (classes_next hands n (same_owner (holder hands (14 - n)) (holder hands (14 - suc n))) small refl))
 

@@ -9,7 +9,8 @@ use Rattle.std.proofs.lemmas.List.FromFn.{length-range_with_len, get_or-range_wi
 use Rattle.std.proofs.lemmas.List.Sums.{sum-map}
 use Rattle.suit_cards.specs.Holdings.{others_of}
 use Rattle.suit_classes.specs.declared.classes.Owner.TheVariants as owners
-use Rattle.suit_classes.specs.Classes.{Hands, same_owner, class_count, class_owner, class_ranks, class_size, defence_classes, defence_sizes}
+use Rattle.suit_classes.specs.Classes.{Hands, same_owner, class_count, class_owner, class_ranks, class_size}
+use Rattle.suit_classes.specs.Classes.{defence_classes, defence_sizes}
 use Rattle.suit_classes.proofs.ClassNumbers.{class_size-some}
 use Rattle.suit_classes.proofs.DefenceClasses.{defence_classes-few}
 use Rattle.suit_classes.proofs.RankBlocks.{missing_in_blocks}
@@ -30,7 +31,9 @@ defence_classes-below hands =
 pub defence_sizes-some : (hands : Hands) → All (λ size. 1 ≤ size) (defence_sizes hands)
 defence_sizes-some hands =
     All-map (λ size. 1 ≤ size) (class_size hands) (defence_classes hands)
-    (All-weaker (λ class. class < class_count hands) (λ class. 1 ≤ class_size hands class) (λ class few. class_size-some hands class few) (defence_classes hands) (defence_classes-below hands))
+    (All-weaker (λ class. class < class_count hands) (λ class. 1
+    ≤ class_size hands class) (λ class few. class_size-some hands class few) (defence_classes hands)
+    (defence_classes-below hands))
 
 -- together they are the missing cards
 pub sum-defence_sizes : (hands : Hands) → sum (defence_sizes hands) ≡ length (others_of hands.north hands.south)

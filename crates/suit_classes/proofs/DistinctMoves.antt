@@ -1,5 +1,6 @@
 -- Lists in which no element comes twice, and the class moves of a position, which are such a list.
-use Rattle.std.proofs.Common.{◌≡◌, ◌∙◌, ℕ, zero, suc, ◌+◌, ◌<◌, Bool, true, false, cond, not, List, [], ◌∷◌, ◌++◌, map, ap, sym, arith}
+use Rattle.std.proofs.Common.{◌≡◌, ◌∙◌, ℕ, zero, suc, ◌+◌, ◌<◌, Bool, true, false, cond, not, List, [], ◌∷◌, ◌++◌, map}
+use Rattle.std.proofs.Common.{ap, sym, arith}
 use Rattle.std.specs.Prelude.{AllPairs, Contains, filter, nat_lt, slice_index, ◌≢◌, if◌then◌else◌}
 use Rattle.std.specs.List.{AllByRecursion, flat_map, range_with_len}
 use Rattle.std.proofs.lemmas.List.Elements.{All-from_recursion, filter_passes, recursion_from_All}
@@ -7,14 +8,16 @@ use Rattle.std.proofs.lemmas.Bool.{true≢false}
 use Rattle.std.proofs.lemmas.List.Kept.{AllPairs-cons}
 use Rattle.suit_cards.specs.Cards.{Counts}
 use Rattle.suit_cards.specs.declared.seats.Seat.TheVariants.{N, S}
-use Rattle.suit_game.proofs.EachElement.{Contains-first, Contains-later, each_append, each_at, each_filter, each_gives, each_in, each_map, each_of}
+use Rattle.suit_game.proofs.EachElement.{Contains-first, Contains-later, each_append, each_at, each_filter, each_gives}
+use Rattle.suit_game.proofs.EachElement.{each_in, each_map, each_of}
 use Rattle.suit_classes.specs.declared.class_moves.ClassMove.{ClassMove}
 use Rattle.suit_classes.specs.declared.class_moves.ClassMove.TheVariants.{Lead, Follow}
 use Rattle.suit_classes.specs.ClassGame.{each_once}
 use Rattle.suit_classes.specs.ClassMoves.{same_class_move}
 use Rattle.suit_classes.specs.MoveOrder.{class_named, kind_of}
 use Rattle.suit_classes.specs.declared.class_trick.ClassTrick.TheVariants.{Closed, Open}
-use Rattle.suit_classes.specs.ClassPlaces.{ClassTrick, ClassView, class_leads, class_moves, class_moves_in, class_numbers, classes_left, counted_classes, left, may_lead, or_show_out}
+use Rattle.suit_classes.specs.ClassPlaces.{ClassTrick, ClassView, class_leads, class_moves, class_moves_in}
+use Rattle.suit_classes.specs.ClassPlaces.{class_numbers, classes_left, counted_classes, left, may_lead, or_show_out}
 use Rattle.suit_classes.proofs.SameMoves.{same_move-itself}
 
 -- no element comes twice
@@ -124,12 +127,17 @@ once_leads view =
     once_append (if may_lead view.lead view.entries_n N then north else [])
     (if may_lead view.lead view.entries_s S then south else [])
     (once_if (may_lead view.lead view.entries_n N) north
-    (once_map (Lead N) (counted_classes view.north) (λ class number same. ap class_named same) (once_numbers (λ class. nat_lt 0 (slice_index view.north class)))))
+    (once_map (Lead N) (counted_classes view.north) (λ class number same. ap class_named same)
+    (once_numbers (λ class. nat_lt 0 (slice_index view.north class)))))
     (once_if (may_lead view.lead view.entries_s S) south
-    (once_map (Lead S) (counted_classes view.south) (λ class number same. ap class_named same) (once_numbers (λ class. nat_lt 0 (slice_index view.south class)))))
-    (each_if (λ move. AllByRecursion (λ other. move ≡ other → ⊥) (if may_lead view.lead view.entries_s S then south else [])) (may_lead view.lead view.entries_n N) north
-    (each_map (λ move. AllByRecursion (λ other. move ≡ other → ⊥) (if may_lead view.lead view.entries_s S then south else [])) (Lead N) (counted_classes view.north)
-    (each_of (λ class. AllByRecursion (λ other. Lead N class ≡ other → ⊥) (if may_lead view.lead view.entries_s S then south else [])) (counted_classes view.north)
+    (once_map (Lead S) (counted_classes view.south) (λ class number same. ap class_named same)
+    (once_numbers (λ class. nat_lt 0 (slice_index view.south class)))))
+    (each_if (λ move. AllByRecursion (λ other. move ≡ other → ⊥) (if may_lead view.lead view.entries_s S then south
+    else [])) (may_lead view.lead view.entries_n N) north
+    (each_map (λ move. AllByRecursion (λ other. move ≡ other → ⊥) (if may_lead view.lead view.entries_s S then south
+    else [])) (Lead N) (counted_classes view.north)
+    (each_of (λ class. AllByRecursion (λ other. Lead N class ≡ other
+    → ⊥) (if may_lead view.lead view.entries_s S then south else [])) (counted_classes view.north)
     (λ class. each_if (λ other. Lead N class ≡ other → ⊥) (may_lead view.lead view.entries_s S) south
     (each_map (λ other. Lead N class ≡ other → ⊥) (Lead S) (counted_classes view.south)
     (each_of (λ number. Lead N class ≡ Lead S number → ⊥) (counted_classes view.south) (lead_kinds class)))))))
@@ -138,7 +146,8 @@ once_moves_in : (view : ClassView) (counts : Counts) (trick : ClassTrick) → Is
 once_moves_in view counts Closed = once_leads view
 once_moves_in view counts (Open turn after winner highest) =
     once_or_show_out (map Follow (classes_left view counts turn))
-    (once_map Follow (classes_left view counts turn) (λ class number same. ap class_named same) (once_numbers (λ class. nat_lt 0 (left view counts turn class))))
+    (once_map Follow (classes_left view counts turn) (λ class number same. ap class_named same)
+    (once_numbers (λ class. nat_lt 0 (left view counts turn class))))
 
 -- no class move comes twice at a position
 pub once_class_moves : (view : ClassView) (counts : Counts) → IsOnce (class_moves view counts)
@@ -149,7 +158,8 @@ apart_from : (move : ClassMove) (moves : List ClassMove)
     → AllByRecursion (λ other. move ≡ other → ⊥) moves
 apart_from move moves =
     each_gives (λ other. not (same_class_move move other) ≡ true) (λ other. move ≡ other → ⊥) moves
-    (λ other differs same. true≢false (sym (sym (ap not (ap (same_class_move move) (sym same) ∙ same_move-itself move)) ∙ differs)))
+    (λ other differs same. true≢false (sym (sym (ap not (ap (same_class_move move) (sym same) ∙ same_move-itself move))
+    ∙ differs)))
 
 -- a list without repeats has no move twice
 pub once_each_once : (moves : List ClassMove) → IsOnce (each_once moves)
@@ -157,7 +167,8 @@ unfolding each_once IsOnce
 once_each_once [] = tt
 once_each_once (move ∷ moves) = (
   apart_from move (filter (λ other. not (same_class_move move other)) (each_once moves))
-      (recursion_from_All (λ other. not (same_class_move move other) ≡ true) (filter (λ other. not (same_class_move move other)) (each_once moves))
+      (recursion_from_All (λ other. not (same_class_move move other)
+      ≡ true) (filter (λ other. not (same_class_move move other)) (each_once moves))
       (filter_passes (λ other. not (same_class_move move other)) (each_once moves))),
   once_filter (λ other. not (same_class_move move other)) (each_once moves) (once_each_once moves),
 )

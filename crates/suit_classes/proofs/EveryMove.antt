@@ -1,5 +1,6 @@
 -- The class moves at a position are all class moves that are among them, in their order (`class_moves_listed`).
-use Rattle.std.proofs.Common.{◌≡◌, ℕ, Bool, true, false, cond, nat_lt, List, [], ◌∷◌, ◌++◌, refl, sym, ap, ◌∙◌, inl, inr}
+use Rattle.std.proofs.Common.{◌≡◌, ℕ, Bool, true, false, cond, nat_lt, List, [], ◌∷◌, ◌++◌, refl, sym, ap, ◌∙◌, inl}
+use Rattle.std.proofs.Common.{inr}
 use Rattle.std.specs.Prelude.{◌&&◌, ◌||◌, Contains, map, filter, slice_index, if◌then◌else◌}
 use Rattle.std.specs.List.{AllByRecursion}
 use Rattle.std.proofs.lemmas.Bool.{cases_Bool, false≢true}
@@ -13,12 +14,14 @@ use Rattle.suit_classes.specs.ClassMoves.{same_class_move}
 use Rattle.suit_classes.specs.declared.class_view.ClassView.{ClassView}
 use Rattle.suit_classes.specs.declared.class_trick.ClassTrick.{ClassTrick}
 use Rattle.suit_classes.specs.declared.class_trick.ClassTrick.TheVariants.{Closed, Open}
-use Rattle.suit_classes.specs.ClassPlaces.{class_moves, class_moves_in, class_numbers, classes_left, counted_classes, left, may_lead, or_show_out}
+use Rattle.suit_classes.specs.ClassPlaces.{class_moves, class_moves_in, class_numbers, classes_left, counted_classes}
+use Rattle.suit_classes.specs.ClassPlaces.{left, may_lead, or_show_out}
 use Rattle.suit_classes.proofs.MovesOnce.{filter_of_map}
 use Rattle.suit_classes.proofs.SameMoves.{among_contained, same_move_is}
 use Rattle.suit_classes.specs.AllowedHistories.{is_among, every_move}
 
-fails_first : (may : ClassMove → Bool) (first : ClassMove) (moves : List ClassMove) (move : ClassMove) → may move ≡ false → is_among (filter may moves) move ≡ false
+fails_first : (may : ClassMove → Bool) (first : ClassMove) (moves : List ClassMove) (move : ClassMove)
+    → may move ≡ false → is_among (filter may moves) move ≡ false
     → (kept : Bool) → may first ≡ kept → is_among (cond kept (first ∷ filter may moves) (filter may moves)) move ≡ false
 unfolding is_among
 fails_first may first moves move fails later false is = later
@@ -28,29 +31,36 @@ fails_first may first moves move fails later true is = elim (cases_Bool (same_cl
 ]
 
 -- a move that fails a test is not among what the test keeps
-pub among_kept-fails : (may : ClassMove → Bool) (moves : List ClassMove) (move : ClassMove) → may move ≡ false → is_among (filter may moves) move ≡ false
+pub among_kept-fails : (may : ClassMove → Bool) (moves : List ClassMove) (move : ClassMove) → may move ≡ false
+    → is_among (filter may moves) move ≡ false
 unfolding is_among
 among_kept-fails may [] move fails = refl
-among_kept-fails may (first ∷ moves) move fails = fails_first may first moves move fails (among_kept-fails may moves move fails) (may first) refl
+among_kept-fails may (first ∷ moves) move fails =
+    fails_first may first moves move fails (among_kept-fails may moves move fails) (may first) refl
 
 -- a move of a list is among what a test keeps exactly where it passes
-pub among_kept : (may : ClassMove → Bool) (moves : List ClassMove) (move : ClassMove) → Contains moves move → is_among (filter may moves) move ≡ may move
+pub among_kept : (may : ClassMove → Bool) (moves : List ClassMove) (move : ClassMove) → Contains moves move
+    → is_among (filter may moves) move ≡ may move
 among_kept may moves move found = elim (cases_Bool (may move)) [
   | inl passes ↦ among_contained (filter may moves) move (Contains-filter may moves move found passes) ∙ sym passes
   | inr fails ↦ among_kept-fails may moves move fails ∙ sym fails
 ]
 
 -- tests that agree on a list keep the same of it
-pub filter_alike : {X : Type 0} (p q : X → Bool) (xs : List X) → AllByRecursion (λ x. p x ≡ q x) xs → filter p xs ≡ filter q xs
+pub filter_alike : {X : Type 0} (p q : X → Bool) (xs : List X) → AllByRecursion (λ x. p x ≡ q x) xs
+    → filter p xs ≡ filter q xs
 filter_alike p q [] alike = refl
 filter_alike {X} p q (x ∷ xs) alike =
-    ap (λ (b : Bool). cond b (x ∷ filter p xs) (filter p xs)) alike.0 ∙ ap (λ (l : List X). cond (q x) (x ∷ l) l) (filter_alike p q xs alike.1)
+    ap (λ (b : Bool). cond b (x ∷ filter p xs) (filter p xs)) alike.0
+    ∙ ap (λ (l : List X). cond (q x) (x ∷ l) l) (filter_alike p q xs alike.1)
 
 -- what a test keeps of a list is also kept by asking what is among it
-pub kept_by_among : (may : ClassMove → Bool) (moves : List ClassMove) → filter may moves ≡ filter (is_among (filter may moves)) moves
+pub kept_by_among : (may : ClassMove → Bool) (moves : List ClassMove)
+    → filter may moves ≡ filter (is_among (filter may moves)) moves
 kept_by_among may moves =
     filter_alike may (is_among (filter may moves)) moves
-    (each_in (λ move. may move ≡ is_among (filter may moves) move) moves (λ move found. sym (among_kept may moves move found)))
+    (each_in (λ move. may move ≡ is_among (filter may moves) move) moves
+    (λ move found. sym (among_kept may moves move found)))
 
 pub filter_none : {X : Type 0} (xs : List X) → filter (λ x. false) xs ≡ []
 filter_none [] = refl
@@ -62,9 +72,11 @@ is_none (x ∷ xs) = false
 
 -- whether a move may be made at a trick
 unfoldable pub may_make : ClassView → List ℕ → ClassTrick → ClassMove → Bool
-may_make view counts Closed (Lead N class) = may_lead view.lead view.entries_n N && nat_lt 0 (slice_index view.north class)
+may_make view counts Closed (Lead N class) = may_lead view.lead view.entries_n N
+    && nat_lt 0 (slice_index view.north class)
 may_make view counts Closed (Lead E class) = false
-may_make view counts Closed (Lead S class) = may_lead view.lead view.entries_s S && nat_lt 0 (slice_index view.south class)
+may_make view counts Closed (Lead S class) = may_lead view.lead view.entries_s S
+    && nat_lt 0 (slice_index view.south class)
 may_make view counts Closed (Lead W class) = false
 may_make view counts Closed (Follow class) = false
 may_make view counts Closed ShowOut = false
@@ -82,19 +94,23 @@ append_nothing : {X : Type 0} (xs : List X) → xs ++ [] ≡ xs
 append_nothing [] = refl
 append_nothing {X} (x ∷ xs) = ap (λ (l : List X). x ∷ l) (append_nothing xs)
 
-shown_or_not : (classes : List ℕ) → or_show_out (map Follow classes) ≡ map Follow classes ++ cond (is_none classes) (ShowOut ∷ []) []
+shown_or_not : (classes : List ℕ)
+    → or_show_out (map Follow classes) ≡ map Follow classes ++ cond (is_none classes) (ShowOut ∷ []) []
 unfolding is_none
 shown_or_not [] = refl
-shown_or_not (class ∷ classes) = ap (λ (l : List ClassMove). Follow class ∷ l) (sym (append_nothing (map Follow classes)))
+shown_or_not (class ∷ classes) =
+    ap (λ (l : List ClassMove). Follow class ∷ l) (sym (append_nothing (map Follow classes)))
 
 pub filter_joined : (may : ClassMove → Bool) (north south follow shown : List ClassMove)
-    → filter may (north ++ south ++ follow ++ shown) ≡ filter may north ++ filter may south ++ filter may follow ++ filter may shown
+    → filter may (north ++ south ++ follow ++ shown) ≡ filter may north ++ filter may south ++ filter may follow
+    ++ filter may shown
 filter_joined may north south follow shown =
     filter-append may (north ++ south ++ follow) shown
     ∙ ap (λ (l : List ClassMove). l ++ filter may shown) (filter-append may (north ++ south) follow)
     ∙ ap (λ (l : List ClassMove). l ++ filter may follow ++ filter may shown) (filter-append may north south)
 
-joined_alike : (north south follow north' south' follow' shown : List ClassMove) → north ≡ north' → south ≡ south' → follow ≡ follow'
+joined_alike : (north south follow north' south' follow' shown : List ClassMove) → north ≡ north' → south ≡ south'
+    → follow ≡ follow'
     → north ++ south ++ follow ++ shown ≡ north' ++ south' ++ follow' ++ shown
 joined_alike north south follow north' south' follow' shown same_n same_s same_f =
     ap (λ (l : List ClassMove). l ++ south ++ follow ++ shown) same_n
@@ -110,14 +126,19 @@ kinds_kept : (may : ClassMove → Bool)
     ++ cond (may ShowOut) (ShowOut ∷ []) []
 unfolding every_move
 kinds_kept may =
-    filter_joined may (map (Lead N) class_numbers) (map (Lead S) class_numbers) (map Follow class_numbers) (ShowOut ∷ [])
-    ∙ joined_alike (filter may (map (Lead N) class_numbers)) (filter may (map (Lead S) class_numbers)) (filter may (map Follow class_numbers))
-    (map (Lead N) (filter (λ class. may (Lead N class)) class_numbers)) (map (Lead S) (filter (λ class. may (Lead S class)) class_numbers))
+    filter_joined may (map (Lead N) class_numbers) (map (Lead S) class_numbers) (map Follow class_numbers) (ShowOut
+    ∷ [])
+    ∙ joined_alike (filter may (map (Lead N) class_numbers)) (filter may (map (Lead S) class_numbers))
+    (filter may (map Follow class_numbers))
+    (map (Lead N) (filter (λ class. may (Lead N class)) class_numbers))
+    (map (Lead S) (filter (λ class. may (Lead S class)) class_numbers))
     (map Follow (filter (λ class. may (Follow class)) class_numbers)) (filter may (ShowOut ∷ []))
-    (filter_of_map may (Lead N) class_numbers) (filter_of_map may (Lead S) class_numbers) (filter_of_map may Follow class_numbers)
+    (filter_of_map may (Lead N) class_numbers) (filter_of_map may (Lead S) class_numbers)
+    (filter_of_map may Follow class_numbers)
 
 -- the class moves are those of all that may be made
-pub moves_kept : (view : ClassView) (counts : List ℕ) (trick : ClassTrick) → class_moves_in view counts trick ≡ filter (may_make view counts trick) every_move
+pub moves_kept : (view : ClassView) (counts : List ℕ) (trick : ClassTrick)
+    → class_moves_in view counts trick ≡ filter (may_make view counts trick) every_move
 unfolding may_make
 moves_kept view counts Closed =
     let may : ClassMove → Bool = may_make view counts Closed in
@@ -131,7 +152,8 @@ moves_kept view counts Closed =
     ∙ append_nothing (leads_n ++ leads_s ++ [])
     ∙ append_nothing (leads_n ++ leads_s)
     ∙ ap (λ (l : List ClassMove). l ++ leads_s) (led_kept may_n N view.north class_numbers)
-    ∙ ap (λ (l : List ClassMove). (if may_n then map (Lead N) (counted_classes view.north) else []) ++ l) (led_kept may_s S view.south class_numbers))
+    ∙ ap (λ (l : List ClassMove). (if may_n then map (Lead N) (counted_classes view.north) else [])
+    ++ l) (led_kept may_s S view.south class_numbers))
 moves_kept view counts (Open turn after winner highest) =
     let may : ClassMove → Bool = may_make view counts (Open turn after winner highest) in
     let follows : List ClassMove = map Follow (filter (λ class. may (Follow class)) class_numbers) in
@@ -139,11 +161,13 @@ moves_kept view counts (Open turn after winner highest) =
     shown_or_not (classes_left view counts turn)
     ∙ sym
     (kinds_kept may
-    ∙ ap (λ (l : List ℕ). map (Lead N) l ++ map (Lead S) (filter (λ class. may (Lead S class)) class_numbers) ++ follows ++ shown) (filter_none class_numbers)
+    ∙ ap (λ (l : List ℕ). map (Lead N) l ++ map (Lead S) (filter (λ class. may (Lead S class)) class_numbers) ++ follows
+    ++ shown) (filter_none class_numbers)
     ∙ ap (λ (l : List ℕ). map (Lead S) l ++ follows ++ shown) (filter_none class_numbers))
 
 -- the class moves at a position are all class moves that are among them, in their order
-pub class_moves_listed : (view : ClassView) (counts : List ℕ) → class_moves view counts ≡ filter (is_among (class_moves view counts)) every_move
+pub class_moves_listed : (view : ClassView) (counts : List ℕ)
+    → class_moves view counts ≡ filter (is_among (class_moves view counts)) every_move
 class_moves_listed view counts =
     let may : ClassMove → Bool = may_make view counts view.trick in
     let kept : class_moves view counts ≡ filter may every_move = moves_kept view counts view.trick in

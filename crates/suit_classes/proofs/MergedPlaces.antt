@@ -1,5 +1,6 @@
 -- A class place follows the position of single cards, move by move.
-use Rattle.std.proofs.Common.{◌≡◌, ℕ, zero, suc, ◌+◌, ◌-◌, ◌<◌, ◌≤◌, Bool, true, false, List, [], ◌∷◌, length, get_or, refl, sym, ap, ◌∙◌, subst, inl, inr, arith}
+use Rattle.std.proofs.Common.{◌≡◌, ℕ, zero, suc, ◌+◌, ◌-◌, ◌<◌, ◌≤◌, Bool, true, false, List, [], ◌∷◌, length, get_or}
+use Rattle.std.proofs.Common.{refl, sym, ap, ◌∙◌, subst, inl, inr, arith}
 use Rattle.std.specs.Prelude.{fold, nat_lt, slice_index, Contains, ◌==◌, ◌&&◌, if◌then◌else◌}
 use Rattle.std.proofs.Math.ListN.{length-set}
 use Rattle.std.proofs.lemmas.Bool.{ltb-true, ltb-false}
@@ -16,7 +17,9 @@ use Rattle.suit_game.specs.declared.question.LeadAt.{LeadAt}
 use Rattle.suit_game.specs.declared.question.Entries.{Entries}
 use Rattle.suit_game.specs.declared.moves.Move.{Move}
 use Rattle.suit_game.specs.declared.moves.Move.TheVariants as cards
-use Rattle.suit_game.specs.Positions.{Position, Trick, IsLegal, LegalFrom, dealt, hand, without, leads_at, follows_of, after, after_lead, ended_trick, followed, led, legal, legal_at, legal_in, turn_passed, start_place, step}
+use Rattle.suit_game.specs.Positions.{Position, Trick, IsLegal, LegalFrom, dealt, hand, without, leads_at, follows_of}
+use Rattle.suit_game.specs.Positions.{after, after_lead, ended_trick, followed, led, legal, legal_at, legal_in}
+use Rattle.suit_game.specs.Positions.{turn_passed, start_place, step}
 use Rattle.suit_game.specs.Positions.{Closed as NoTrick, Open as InTrick}
 use Rattle.suit_game.specs.Reached.{IsOpen, IsTrickAt}
 use Rattle.suit_game.specs.Strategies.{same_seat}
@@ -34,9 +37,12 @@ use Rattle.suit_classes.specs.Classes.{Hands, hands_of, class_of}
 use Rattle.suit_classes.specs.ClassMoves.{merge, merged}
 use Rattle.suit_classes.specs.ClassGame.{cards_in, counts_of}
 use Rattle.suit_classes.specs.declared.class_trick.ClassTrick.TheVariants.{Closed, Open}
-use Rattle.suit_classes.specs.ClassPlaces.{ClassTrick, ClassView, class_after, class_ended, class_followed, class_led, class_passed, class_played, class_start, class_step, class_step_in, left, is_defence_class, west_count, side}
+use Rattle.suit_classes.specs.ClassPlaces.{ClassTrick, ClassView, class_after, class_ended, class_followed, class_led}
+use Rattle.suit_classes.specs.ClassPlaces.{class_passed, class_played, class_start, class_step, class_step_in, left}
+use Rattle.suit_classes.specs.ClassPlaces.{is_defence_class, west_count, side}
 use Rattle.suit_classes.proofs.CountedLists.{one_less-at, one_more-at, length-dealt_to, length-none_played}
-use Rattle.suit_classes.proofs.DealtClasses.{IsDealt, IsHolding-dealt, holder-dealt, dealt_apart, class_held_by_one, cards_in-played, cards_in-kept}
+use Rattle.suit_classes.proofs.DealtClasses.{IsDealt, IsHolding-dealt, holder-dealt, dealt_apart, class_held_by_one}
+use Rattle.suit_classes.proofs.DealtClasses.{cards_in-played, cards_in-kept}
 use Rattle.suit_classes.proofs.RankBlocks.{class_of-rises}
 use Rattle.suit_classes.proofs.StartCounts.{left-start}
 
@@ -90,7 +96,8 @@ east_taken false size count gone gone' one more = omega arith
 left-played : (view : ClassView) (counts : Counts) (seat other : Seat) (card_class class : ℕ) → AreLong view
     → class < 13
     → left
-    (class_played view seat card_class) counts other class ≡ left view counts other class - taken seat card_class other class
+    (class_played view seat card_class) counts other class
+    ≡ left view counts other class - taken seat card_class other class
 left-played view counts N N card_class class long small =
     one_less-at view.north card_class class (omega (arith, long.north))
 left-played view counts S S card_class class long small =
@@ -118,17 +125,36 @@ left-played view counts E W card_class class long small = omega arith
 
 long-played : (view : ClassView) (seat : Seat) (class : ℕ) → AreLong view → AreLong (class_played view seat class)
 long-played view N class long =
-    record
-    { north = length-set view.north class (get_or view.north class 0 - 1) ∙ long.north; south = long.south; gone_w = long.gone_w; gone_e = long.gone_e }
+    record {
+      north = length-set view.north class (get_or view.north class 0 - 1)
+          ∙ long.north;
+      south = long.south;
+      gone_w = long.gone_w;
+      gone_e = long.gone_e;
+    }
 long-played view S class long =
-    record
-    { north = long.north; south = length-set view.south class (get_or view.south class 0 - 1) ∙ long.south; gone_w = long.gone_w; gone_e = long.gone_e }
+    record {
+      north = long.north;
+      south = length-set view.south class (get_or view.south class 0 - 1)
+          ∙ long.south;
+      gone_w = long.gone_w;
+      gone_e = long.gone_e;
+    }
 long-played view W class long =
-    record
-    { north = long.north; south = long.south; gone_w = length-set view.gone_w class (get_or view.gone_w class 0 + 1) ∙ long.gone_w; gone_e = long.gone_e }
+    record {
+      north = long.north;
+      south = long.south;
+      gone_w = length-set view.gone_w class (get_or view.gone_w class 0 + 1)
+          ∙ long.gone_w;
+      gone_e = long.gone_e;
+    }
 long-played view E class long =
-    record
-    { north = long.north; south = long.south; gone_w = long.gone_w; gone_e = length-set view.gone_e class (get_or view.gone_e class 0 + 1) ∙ long.gone_e }
+    record {
+      north = long.north;
+      south = long.south;
+      gone_w = long.gone_w;
+      gone_e = length-set view.gone_e class (get_or view.gone_e class 0 + 1) ∙ long.gone_e;
+    }
 
 -- a hand after a card of a seat's
 hand_taken_either : (question : Question) (west : Cards) (place : Position) (seat other : Seat) (card class : ℕ)
@@ -143,10 +169,12 @@ hand_taken_either question west place seat other card class true is told one hel
     subst (λ (l : List ℕ). cards_in (hands_of question) (without l (card ∷ place.gone)) class
     ≡ cards_in (hands_of question) (without l place.gone) class -
     (if class_of (hands_of question) card == class then 1 else 0)) (one refl)
-    (cards_in-played (hands_of question) (dealt question west seat) place.gone card class (IsHolding-dealt question west seat is) held)
+    (cards_in-played (hands_of question) (dealt question west seat) place.gone card class
+    (IsHolding-dealt question west seat is) held)
 hand_taken_either question west place seat other card class false is told one held =
     cards_in-kept (hands_of question) (dealt question west other) place.gone card class
-    (dealt_apart question west seat other card is told (holds-from_without (dealt question west seat) place.gone card held).0)
+    (dealt_apart question west seat other card is told
+    (holds-from_without (dealt question west seat) place.gone card held).0)
 
 same_hand : (question : Question) (west : Cards) (seat other : Seat) → same_seat seat other ≡ true
     → dealt question west seat ≡ dealt question west other
@@ -294,19 +322,55 @@ same_counts question west place next view later counts same gone lead entries_n 
 
 all_same : (view : ClassView) → SameCounts view view
 all_same view =
-    record
-    { north = refl; south = refl; cards_n = refl; cards_s = refl; defence = refl; gone_w = refl; gone_e = refl; regain = refl; goal = refl }
+    record {
+      north = refl;
+      south = refl;
+      cards_n = refl;
+      cards_s = refl;
+      defence = refl;
+      gone_w = refl;
+      gone_e = refl;
+      regain = refl;
+      goal = refl;
+    }
 
 same-ended : (view : ClassView) (winner : Owner) → SameCounts view (class_ended view winner)
 same-ended view owners.N =
-    record
-    { north = refl; south = refl; cards_n = refl; cards_s = refl; defence = refl; gone_w = refl; gone_e = refl; regain = refl; goal = refl }
+    record {
+      north = refl;
+      south = refl;
+      cards_n = refl;
+      cards_s = refl;
+      defence = refl;
+      gone_w = refl;
+      gone_e = refl;
+      regain = refl;
+      goal = refl;
+    }
 same-ended view owners.S =
-    record
-    { north = refl; south = refl; cards_n = refl; cards_s = refl; defence = refl; gone_w = refl; gone_e = refl; regain = refl; goal = refl }
+    record {
+      north = refl;
+      south = refl;
+      cards_n = refl;
+      cards_s = refl;
+      defence = refl;
+      gone_w = refl;
+      gone_e = refl;
+      regain = refl;
+      goal = refl;
+    }
 same-ended view owners.Defence =
-    record
-    { north = refl; south = refl; cards_n = refl; cards_s = refl; defence = refl; gone_w = refl; gone_e = refl; regain = refl; goal = refl }
+    record {
+      north = refl;
+      south = refl;
+      cards_n = refl;
+      cards_s = refl;
+      defence = refl;
+      gone_w = refl;
+      gone_e = refl;
+      regain = refl;
+      goal = refl;
+    }
 
 -- the end of a trick
 merged-ended : (question : Question) (west : Cards) (place : Position) (view : ClassView) (winner : Seat)
@@ -344,7 +408,17 @@ merged-passed question west place view turn zero winner highest counts =
 merged-passed question west place view turn (suc after) winner highest counts = record {
   counts = same_counts question west place (record place { trick = InTrick (clockwise turn) after winner highest }) view
       (record view { trick = Open (clockwise turn) after (side winner) (class_of (hands_of question) highest) }) counts
-      (record { north = refl; south = refl; cards_n = refl; cards_s = refl; defence = refl; gone_w = refl; gone_e = refl; regain = refl; goal = refl })
+      (record {
+        north = refl;
+        south = refl;
+        cards_n = refl;
+        cards_s = refl;
+        defence = refl;
+        gone_w = refl;
+        gone_e = refl;
+        regain = refl;
+        goal = refl;
+      })
       refl counts.lead counts.entries_n counts.entries_s counts.won;
   trick = refl;
 }
@@ -357,8 +431,10 @@ merged-either : (question : Question) (west : Cards) (place : Position) (view : 
     → nat_lt (class_of (hands_of question) card) (class_of (hands_of question) highest) ≡ class_beats
     → (class_of (hands_of question) card ≡ class_of (hands_of question) highest → side turn ≡ side winner)
     → IsMerged question west
-    (if beats then turn_passed question place turn after turn card else turn_passed question place turn after winner highest)
-    (if class_beats then class_passed view turn after (side turn) (class_of (hands_of question) card) else class_passed view turn after (side winner) (class_of (hands_of question) highest))
+    (if beats then turn_passed question place turn after turn card
+    else turn_passed question place turn after winner highest)
+    (if class_beats then class_passed view turn after (side turn) (class_of (hands_of question) card)
+    else class_passed view turn after (side winner) (class_of (hands_of question) highest))
 merged-either question west place view turn after winner highest card true true counts higher lower one =
     merged-passed question west place view turn after turn card counts
 merged-either question west place view turn after winner highest card false false counts higher lower one =
@@ -371,9 +447,11 @@ merged-either question west place view turn after winner highest card true false
     let rises = class_of-rises hands card highest (omega arith) in
     let same : class_of hands card ≡ class_of hands highest = omega arith in
     subst
-    (λ (owner : Owner). IsMerged question west (turn_passed question place turn after turn card) (class_passed view turn after owner (class_of hands highest)))
+    (λ (owner : Owner). IsMerged question west (turn_passed question place turn after turn card)
+    (class_passed view turn after owner (class_of hands highest)))
     (one same)
-    (subst (λ (class : ℕ). IsMerged question west (turn_passed question place turn after turn card) (class_passed view turn after (side turn) class)) same
+    (subst (λ (class : ℕ). IsMerged question west (turn_passed question place turn after turn card)
+    (class_passed view turn after (side turn) class)) same
     (merged-passed question west place view turn after turn card counts))
 merged-either question west place view turn after winner highest card false true counts higher lower one =
     let hands : Hands = hands_of question in
@@ -389,7 +467,8 @@ merged-followed : (question : Question) (west : Cards) (place : Position) (view 
     → HasCounts question west place view → holds (without (dealt question west turn) place.gone) card ≡ true
     → holds (dealt question west winner) highest ≡ true
     → IsMerged question west (followed question place turn after winner highest card)
-    (class_followed view turn after (side winner) (class_of (hands_of question) highest) (class_of (hands_of question) card))
+    (class_followed view turn after (side winner) (class_of (hands_of question) highest)
+    (class_of (hands_of question) card))
 merged-followed question west place view turn after winner highest card is counts held won =
     let hands : Hands = hands_of question in
     let own : holds (dealt question west turn) card ≡ true =
@@ -416,9 +495,21 @@ merged-led_n question west place view card is counts held =
     record {
       counts = same_counts question west (record place { gone = card ∷ place.gone }) (led place N card)
           (class_played view N class) (class_led view N class) played
-          (record { north = refl; south = refl; cards_n = refl; cards_s = refl; defence = refl; gone_w = refl; gone_e = refl; regain = refl; goal = refl })
+          (record {
+            north = refl;
+            south = refl;
+            cards_n = refl;
+            cards_s = refl;
+            defence = refl;
+            gone_w = refl;
+            gone_e = refl;
+            regain = refl;
+            goal = refl;
+          })
           refl counts.lead
-          (ap (λ (lead : LeadAt). after_lead lead N view.entries_n) counts.lead ∙ ap (λ (entries : Entries). after_lead place.lead N entries) counts.entries_n) counts.entries_s counts.won;
+          (ap (λ (lead : LeadAt). after_lead lead N view.entries_n) counts.lead
+          ∙ ap (λ (entries : Entries). after_lead place.lead N entries) counts.entries_n) counts.entries_s
+          counts.won;
       trick = refl;
     }
 
@@ -432,9 +523,20 @@ merged-led_s question west place view card is counts held =
     record {
       counts = same_counts question west (record place { gone = card ∷ place.gone }) (led place S card)
           (class_played view S class) (class_led view S class) played
-          (record { north = refl; south = refl; cards_n = refl; cards_s = refl; defence = refl; gone_w = refl; gone_e = refl; regain = refl; goal = refl })
+          (record {
+            north = refl;
+            south = refl;
+            cards_n = refl;
+            cards_s = refl;
+            defence = refl;
+            gone_w = refl;
+            gone_e = refl;
+            regain = refl;
+            goal = refl;
+          })
           refl counts.lead counts.entries_n
-          (ap (λ (lead : LeadAt). after_lead lead S view.entries_s) counts.lead ∙ ap (λ (entries : Entries). after_lead place.lead S entries) counts.entries_s) counts.won;
+          (ap (λ (lead : LeadAt). after_lead lead S view.entries_s) counts.lead
+          ∙ ap (λ (entries : Entries). after_lead place.lead S entries) counts.entries_s) counts.won;
       trick = refl;
     }
 
@@ -469,18 +571,26 @@ lead_merged question west place view move is merged closed found =
     elim (lead_cases question place move found) [
       | inl north ↦
           subst
-          (λ (m : Move). IsMerged question west (step question place m) (class_step view (merge (hands_of question) m))) north.2
-          (carried question west (led place N north.0) (step question place (cards.Lead N north.0)) (class_led view N (class_of (hands_of question) north.0)) (class_step view (Lead N (class_of (hands_of question) north.0)))
+          (λ (m : Move). IsMerged question west (step question place m) (class_step view (merge (hands_of question) m)))
+          north.2
+          (carried question west (led place N north.0) (step question place (cards.Lead N north.0))
+          (class_led view N (class_of (hands_of question) north.0))
+          (class_step view (Lead N (class_of (hands_of question) north.0)))
           (step-led question place N north.0 closed)
           (class_step-led view view.trick N (class_of (hands_of question) north.0) shut)
-          (merged-led_n question west place view north.0 is merged.counts ((holds_tells (without question.north place.gone) north.0).1 north.1)))
+          (merged-led_n question west place view north.0 is merged.counts
+          ((holds_tells (without question.north place.gone) north.0).1 north.1)))
       | inr south ↦
           subst
-          (λ (m : Move). IsMerged question west (step question place m) (class_step view (merge (hands_of question) m))) south.2
-          (carried question west (led place S south.0) (step question place (cards.Lead S south.0)) (class_led view S (class_of (hands_of question) south.0)) (class_step view (Lead S (class_of (hands_of question) south.0)))
+          (λ (m : Move). IsMerged question west (step question place m) (class_step view (merge (hands_of question) m)))
+          south.2
+          (carried question west (led place S south.0) (step question place (cards.Lead S south.0))
+          (class_led view S (class_of (hands_of question) south.0))
+          (class_step view (Lead S (class_of (hands_of question) south.0)))
           (step-led question place S south.0 closed)
           (class_step-led view view.trick S (class_of (hands_of question) south.0) shut)
-          (merged-led_s question west place view south.0 is merged.counts ((holds_tells (without question.south place.gone) south.0).1 south.1)))
+          (merged-led_s question west place view south.0 is merged.counts
+          ((holds_tells (without question.south place.gone) south.0).1 south.1)))
     ]
 
 follow_merged : (question : Question) (west : Cards) (place : Position) (view : ClassView) (turn : Seat) (after : ℕ)
@@ -496,19 +606,25 @@ follow_merged question west place view turn after winner highest move is merged 
     elim (follow_or_show (hand question west place turn) move found) [
       | inl card ↦
           subst
-          (λ (m : Move). IsMerged question west (step question place m) (class_step view (merge (hands_of question) m))) card.2
-          (carried question west (followed question place turn after winner highest card.0) (step question place (cards.Follow card.0))
-          (class_followed view turn after (side winner) (class_of (hands_of question) highest) (class_of (hands_of question) card.0))
+          (λ (m : Move). IsMerged question west (step question place m) (class_step view (merge (hands_of question) m)))
+          card.2
+          (carried question west (followed question place turn after winner highest card.0)
+          (step question place (cards.Follow card.0))
+          (class_followed view turn after (side winner) (class_of (hands_of question) highest)
+          (class_of (hands_of question) card.0))
           (class_step view (Follow (class_of (hands_of question) card.0)))
           (step-followed question place turn after winner highest card.0 open_is)
-          (class_step-followed view view.trick turn after (side winner) (class_of (hands_of question) highest) (class_of (hands_of question) card.0) shown)
+          (class_step-followed view view.trick turn after (side winner) (class_of (hands_of question) highest)
+          (class_of (hands_of question) card.0) shown)
           (merged-followed question west place view turn after winner highest card.0 is merged.counts
           ((holds_tells (without (dealt question west turn) place.gone) card.0).1 card.1)
           ((holds_tells (dealt question west winner) highest).1 sense.highest_dealt)))
       | inr none ↦
           subst
-          (λ (m : Move). IsMerged question west (step question place m) (class_step view (merge (hands_of question) m))) none.1
-          (carried question west (turn_passed question place turn after winner highest) (step question place cards.ShowOut)
+          (λ (m : Move). IsMerged question west (step question place m) (class_step view (merge (hands_of question) m)))
+          none.1
+          (carried question west (turn_passed question place turn after winner highest)
+          (step question place cards.ShowOut)
           (class_passed view turn after (side winner) (class_of (hands_of question) highest)) (class_step view ShowOut)
           (step-shown_out question place turn after winner highest open_is)
           (class_step-shown_out view view.trick turn after (side winner) (class_of (hands_of question) highest) shown)

@@ -1,5 +1,6 @@
 -- The classes of a falling hand, each once, are those of which it has a card.
-use Rattle.std.proofs.Common.{◌≡◌, ℕ, zero, suc, ◌+◌, ◌<◌, ◌≤◌, Bool, true, false, cond, not, List, [], ◌∷◌, ◌++◌, length, refl, sym, ap, ◌∙◌, subst, inl, inr, arith}
+use Rattle.std.proofs.Common.{◌≡◌, ℕ, zero, suc, ◌+◌, ◌<◌, ◌≤◌, Bool, true, false, cond, not, List, [], ◌∷◌, ◌++◌}
+use Rattle.std.proofs.Common.{length, refl, sym, ap, ◌∙◌, subst, inl, inr, arith}
 use Rattle.std.specs.Prelude.{map, filter, nat_lt, ◌==◌}
 use Rattle.std.specs.List.{range_with_len}
 use Rattle.std.proofs.lemmas.Bool.{cases_eq, eq-eqb, ne_eqb, lt-ltb}
@@ -14,7 +15,8 @@ use Rattle.suit_classes.specs.ClassMoves.{same_class_move}
 use Rattle.suit_classes.specs.ClassGame.{cards_in, each_once}
 use Rattle.suit_classes.specs.ClassPlaces.{class_numbers}
 use Rattle.suit_classes.proofs.ClassNumbers.{class_count-most}
-use Rattle.suit_classes.proofs.RankBlocks.{Rises, Rises-lower, StaysBelow, with_number, with_number-none, holding_rises, falling_stays}
+use Rattle.suit_classes.proofs.RankBlocks.{Rises, Rises-lower, StaysBelow, with_number, with_number-none, holding_rises}
+use Rattle.suit_classes.proofs.RankBlocks.{falling_stays}
 
 -- whether some of a list have a number
 abbrev has_number : (ℕ → ℕ) → List ℕ → ℕ → Bool
@@ -25,7 +27,8 @@ pub filter_of_map : {X Y : Type 0} (p : Y → Bool) (f : X → Y) (xs : List X)
     → filter p (map f xs) ≡ map f (filter (λ x. p (f x)) xs)
 filter_of_map p f [] = refl
 filter_of_map {X} {Y} p f (x ∷ xs) =
-    elim (p (f x)) as (λ b. cond b (f x ∷ filter p (map f xs)) (filter p (map f xs)) ≡ map f (cond b (x ∷ filter (λ y. p (f y)) xs) (filter (λ y. p (f y)) xs))) [
+    elim (p (f x)) as (λ b. cond b (f x ∷ filter p (map f xs)) (filter p (map f xs))
+    ≡ map f (cond b (x ∷ filter (λ y. p (f y)) xs) (filter (λ y. p (f y)) xs))) [
       | true ↦ ap (λ (l : List Y). f x ∷ l) (filter_of_map p f xs)
       | false ↦ filter_of_map p f xs
     ]
@@ -50,7 +53,8 @@ numbers_after f x xs from (suc count) past =
     rw (ne_eqb (f x) from differs)
     (ap (λ (l : List ℕ). cond (has_number f xs from) (from ∷ l) l) (numbers_after f x xs (from + 1) count (omega arith))
     ∙ sym
-    (kept_either (f x) from (filter (has_number f xs) (range_with_len (from + 1) count)) (has_number f xs from) differs))
+    (kept_either (f x) from (filter (has_number f xs) (range_with_len (from + 1) count)) (has_number f xs from)
+    differs))
 
 has_here : (f : ℕ → ℕ) (x : ℕ) (xs : List ℕ) (number : ℕ) → f x ≡ number → has_number f (x ∷ xs) number ≡ true
 has_here f x xs number here =
@@ -63,13 +67,16 @@ numbers_more f x xs from zero least most rises = absurd (omega arith)
 numbers_more f x xs from (suc count) least most rises = elim (cases_eq (f x) from) [
   | inl here ↦
       ap
-      (λ (b : Bool). cond b (from ∷ filter (has_number f (x ∷ xs)) (range_with_len (from + 1) count)) (filter (has_number f (x ∷ xs)) (range_with_len (from + 1) count)))
+      (λ (b : Bool). cond b (from ∷ filter (has_number f (x ∷ xs)) (range_with_len (from + 1) count))
+      (filter (has_number f (x ∷ xs)) (range_with_len (from + 1) count)))
       (has_here f x xs from here)
       ∙ (ap (λ (l : List ℕ). from ∷ l) (numbers_after f x xs (from + 1) count (omega arith))
       ∙ ap (λ (n : ℕ). n ∷ filter (λ k. not (f x == k)) (filter (has_number f xs) (range_with_len (from + 1) count)))
       (sym here)
       ∙ ap (λ (l : List ℕ). f x ∷ l)
-      (sym (subst (λ (n : ℕ). filter (λ k. not (f x == k)) (cond (has_number f xs from) (n ∷ filter (has_number f xs) (range_with_len (from + 1) count)) (filter (has_number f xs) (range_with_len (from + 1) count)))
+      (sym (subst (λ (n : ℕ). filter (λ k. not (f x == k))
+      (cond (has_number f xs from) (n ∷ filter (has_number f xs) (range_with_len (from + 1) count))
+      (filter (has_number f xs) (range_with_len (from + 1) count)))
       ≡ filter (λ k. not (f x == k)) (filter (has_number f xs) (range_with_len (from + 1) count))) here
       (dropped_either (f x) (filter (has_number f xs) (range_with_len (from + 1) count)) (has_number f xs from)))))
   | inr later ↦
@@ -92,9 +99,11 @@ once_from f move (x ∷ xs) from count told rises stays =
     ap (λ (l : List ClassMove). move (f x) ∷ filter (λ other. not (same_class_move (move (f x)) other)) l)
     (once_from f move xs from count told (Rises-lower f from (f x) xs rises.0 rises.1) stays.1)
     ∙ ap (λ (l : List ClassMove). move (f x) ∷ l)
-    (filter_of_map (λ other. not (same_class_move (move (f x)) other)) move (filter (has_number f xs) (range_with_len from count))
+    (filter_of_map (λ other. not (same_class_move (move (f x)) other)) move
+    (filter (has_number f xs) (range_with_len from count))
     ∙ ap (map move)
-    (filter_agree (λ n. not (same_class_move (move (f x)) (move n))) (λ n. not (f x == n)) (λ n. ap not (told (f x) n)) (filter (has_number f xs) (range_with_len from count))))
+    (filter_agree (λ n. not (same_class_move (move (f x)) (move n))) (λ n. not (f x == n)) (λ n. ap not (told (f x) n))
+    (filter (has_number f xs) (range_with_len from count))))
     ∙ ap (map move) (sym (numbers_more f x xs from count rises.0 stays.0 rises.1))
 
 stays_longer : (f : ℕ → ℕ) (low high : ℕ) (xs : List ℕ) → low ≤ high → StaysBelow f low xs → StaysBelow f high xs
@@ -109,7 +118,8 @@ pub merged_once : (hands : Hands) (cards : Cards) (move : ℕ → ClassMove) →
 unfolding class_numbers
 merged_once hands cards move is told =
     once_from (class_of hands) move cards 0 13 told (holding_rises hands cards is)
-    (stays_longer (class_of hands) (class_count hands) (0 + 13) cards (omega (arith, class_count-most hands)) (falling_stays hands 15 cards is))
+    (stays_longer (class_of hands) (class_count hands) (0 + 13) cards (omega (arith, class_count-most hands))
+    (falling_stays hands 15 cards is))
 
 -- the leads of South stand after those of North, and none of them is one of North's
 pub leads_once : (classes : Indices) (later : List ClassMove) (others : List ℕ) → each_once later ≡ map (Lead S) others

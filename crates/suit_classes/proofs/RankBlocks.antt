@@ -1,5 +1,6 @@
 -- Cards that fall stand in blocks of their classes.
-use Rattle.std.proofs.Common.{◌≡◌, ℕ, zero, suc, ◌+◌, ◌-◌, ◌<◌, ◌≤◌, Bool, true, false, cond, List, [], ◌∷◌, ◌++◌, refl, sym, ap, ◌∙◌, subst, inl, inr, arith}
+use Rattle.std.proofs.Common.{◌≡◌, ℕ, zero, suc, ◌+◌, ◌-◌, ◌<◌, ◌≤◌, Bool, true, false, cond, List, [], ◌∷◌, ◌++◌, refl}
+use Rattle.std.proofs.Common.{sym, ap, ◌∙◌, subst, inl, inr, arith}
 use Rattle.std.specs.Prelude.{filter, ◌==◌, ◌&&◌, if◌then◌else◌}
 use Rattle.std.specs.List.{range_with_len, flat_map}
 use Rattle.std.proofs.lemmas.Bool.{cases_eq, eqb-true, eq-eqb, ne_eqb}
@@ -9,7 +10,8 @@ use Rattle.suit_cards.proofs.HeldSuits.{IsHolding-others_of}
 use Rattle.suit_cards.proofs.SuitRuns.{filter-filter, filter_suit-agree}
 use Rattle.suit_classes.specs.declared.classes.Owner.{Owner}
 use Rattle.suit_classes.specs.declared.classes.Owner.TheVariants as owners
-use Rattle.suit_classes.specs.Classes.{Hands, holder, same_owner, class_of, class_count, class_owner, class_ranks, defence_classes}
+use Rattle.suit_classes.specs.Classes.{Hands, holder, same_owner, class_of, class_count, class_owner, class_ranks}
+use Rattle.suit_classes.specs.Classes.{defence_classes}
 use Rattle.suit_classes.proofs.ClassNumbers.{class_below-rises}
 use Rattle.suit_classes.proofs.DefenceClasses.{class_owner-class_of, missing_are}
 
@@ -95,8 +97,11 @@ pub falling_rises : (hands : Hands) (top least : ℕ) (cards : Cards) → FallsB
     → ((rank : ℕ) → rank < top → least ≤ class_of hands rank)
     → Rises (class_of hands) least cards
 falling_rises hands top least [] falls above = tt
-falling_rises hands top least (card ∷ cards) falls above =
-    (above card falls.1, falling_rises hands card (class_of hands card) cards falls.2 (λ rank low. class_of-rises hands card rank (omega arith)))
+falling_rises hands top least (card ∷ cards) falls above = (
+  above card falls.1,
+  falling_rises hands card (class_of hands card) cards falls.2
+      (λ rank low. class_of-rises hands card rank (omega arith)),
+)
 
 -- and stay below the number of classes
 pub falling_stays : (hands : Hands) (top : ℕ) (cards : Cards) → FallsBelow top cards
@@ -150,7 +155,8 @@ held_of_class hands owner class =
     (λ rank least most.
     both_tests (same_owner (holder hands rank) owner) (class_of hands rank == class)
     (same_owner (class_owner hands class) owner)
-    (λ here. ap (λ o. same_owner o owner) (ap (class_owner hands) (sym (eqb-true (class_of hands rank) class here)) ∙ class_owner-class_of hands rank (least, omega arith))))
+    (λ here. ap (λ o. same_owner o owner) (ap (class_owner hands) (sym (eqb-true (class_of hands rank) class here))
+    ∙ class_owner-class_of hands rank (least, omega arith))))
     ∙ chosen_or_none (same_owner (class_owner hands class) owner) (λ rank. class_of hands rank == class) suit
 
 -- the missing cards of a class are all its ranks, or none
@@ -168,7 +174,8 @@ missing_in_blocks hands =
     let missing : List ℕ = others_of hands.north hands.south in
     let holding = IsHolding-others_of hands.north hands.south in
     sym
-    (flat_map-filter (with_number (class_of hands) missing) (class_ranks hands) (λ class. same_owner (class_owner hands class) owners.Defence)
+    (flat_map-filter (with_number (class_of hands) missing) (class_ranks hands)
+    (λ class. same_owner (class_owner hands class) owners.Defence)
     (range_with_len 0 (class_count hands)) (missing_of_class hands))
     ∙ in_blocks (class_of hands) missing 0 (class_count hands) (holding_rises hands missing holding)
     (subst (λ (n : ℕ). StaysBelow (class_of hands) n missing) (omega arith) (falling_stays hands 15 missing holding))

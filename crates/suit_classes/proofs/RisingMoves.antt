@@ -1,5 +1,6 @@
 -- Lists of class moves rise by the order of class moves: class_moves_rise and every_move_rises.
-use Rattle.std.proofs.Common.{◌≡◌, ℕ, zero, suc, ◌+◌, ◌<◌, Bool, true, false, cond, List, [], ◌∷◌, ◌++◌, map, refl, arith}
+use Rattle.std.proofs.Common.{◌≡◌, ℕ, zero, suc, ◌+◌, ◌<◌, Bool, true, false, cond, List, [], ◌∷◌, ◌++◌, map, refl}
+use Rattle.std.proofs.Common.{arith}
 use Rattle.std.specs.Prelude.{AllPairs, filter, nat_lt, slice_index, if◌then◌else◌}
 use Rattle.std.specs.List.{AllByRecursion, range_with_len}
 use Rattle.std.proofs.lemmas.Bool.{lt-ltb}
@@ -12,7 +13,8 @@ use Rattle.suit_classes.specs.declared.class_moves.ClassMove.{ClassMove}
 use Rattle.suit_classes.specs.declared.class_moves.ClassMove.TheVariants.{Lead, Follow, ShowOut}
 use Rattle.suit_classes.specs.AllowedHistories.{every_move}
 use Rattle.suit_classes.specs.declared.class_trick.ClassTrick.TheVariants.{Closed, Open}
-use Rattle.suit_classes.specs.ClassPlaces.{ClassTrick, ClassView, class_moves, class_moves_in, class_numbers, classes_left, counted_classes, left, may_lead, or_show_out}
+use Rattle.suit_classes.specs.ClassPlaces.{ClassTrick, ClassView, class_moves, class_moves_in, class_numbers}
+use Rattle.suit_classes.specs.ClassPlaces.{classes_left, counted_classes, left, may_lead, or_show_out}
 use Rattle.suit_classes.specs.MoveOrder.{AreRising, stands_before}
 
 -- each element of a list is related to all later ones
@@ -144,7 +146,8 @@ every_move_rises =
     let LastAfter : ClassMove → Type 0 = λ move. AllByRecursion (IsBefore move) last in
     chained_pairs IsBefore (leads ++ follows ++ last)
     (chained_append IsBefore (leads ++ follows) last
-    (chained_append IsBefore leads follows (leads_rise class_numbers class_numbers all_numbers_rise all_numbers_rise true true)
+    (chained_append IsBefore leads follows
+    (leads_rise class_numbers class_numbers all_numbers_rise all_numbers_rise true true)
     (follows_rise class_numbers all_numbers_rise)
     (leads_before follows
     (λ class. each_map (IsBefore (Lead N class)) Follow class_numbers
@@ -153,4 +156,5 @@ every_move_rises =
     (each_of (λ other. IsBefore (Lead S class) (Follow other)) class_numbers (λ other. refl)))))
     (tt, tt)
     (each_append LastAfter leads follows (leads_before last (λ class. (refl, tt)) (λ class. (refl, tt)))
-    (each_map LastAfter Follow class_numbers (each_of (λ class. LastAfter (Follow class)) class_numbers (λ class. (refl, tt))))))
+    (each_map LastAfter Follow class_numbers
+    (each_of (λ class. LastAfter (Follow class)) class_numbers (λ class. (refl, tt))))))

@@ -1,5 +1,6 @@
 -- A short class history leaves the counts of a position small.
-use Rattle.std.proofs.Common.{◌≡◌, ℕ, zero, suc, ◌+◌, ◌≤◌, Bool, true, false, List, [], ◌∷◌, ◌++◌, length, get_or, ap, inl, inr, arith}
+use Rattle.std.proofs.Common.{◌≡◌, ℕ, zero, suc, ◌+◌, ◌≤◌, Bool, true, false, List, [], ◌∷◌, ◌++◌, length, get_or, ap}
+use Rattle.std.proofs.Common.{inl, inr, arith}
 use Rattle.std.specs.Prelude.{fold, nat_lt, if◌then◌else◌}
 use Rattle.std.proofs.Math.ListN.{set}
 use Rattle.std.proofs.lemmas.Bool.{cases_lt, cases_eq}
@@ -15,7 +16,8 @@ use Rattle.suit_classes.specs.declared.classes.Owner.TheVariants as owners
 use Rattle.suit_classes.specs.declared.class_moves.ClassMove.{ClassMove}
 use Rattle.suit_classes.specs.declared.class_moves.ClassMove.TheVariants.{Lead, Follow, ShowOut}
 use Rattle.suit_classes.specs.declared.class_trick.ClassTrick.TheVariants.{Closed, Open}
-use Rattle.suit_classes.specs.ClassPlaces.{ClassTrick, ClassView, IsSmall, class_after, class_ended, class_led, class_passed, class_played, class_start, class_step, class_step_in, side}
+use Rattle.suit_classes.specs.ClassPlaces.{ClassTrick, ClassView, IsSmall, class_after, class_ended, class_led}
+use Rattle.suit_classes.specs.ClassPlaces.{class_passed, class_played, class_start, class_step, class_step_in, side}
 use Rattle.suit_classes.proofs.CountedLists.{none_played-at}
 
 -- so many cards of a class have gone at most, and so many tricks been won
@@ -45,17 +47,29 @@ bounded_more view gone won more up bounded = record {
 bounded_played : (view : ClassView) (seat : Seat) (class gone won : ℕ) → Bounded view gone won
     → Bounded (class_played view seat class) (suc gone) won
 bounded_played view N class gone won bounded =
-    record
-    { gone_w = λ k. omega (arith, bounded.gone_w k); gone_e = λ k. omega (arith, bounded.gone_e k); won_most = bounded.won_most }
+    record {
+      gone_w = λ k. omega (arith, bounded.gone_w k);
+      gone_e = λ k. omega (arith, bounded.gone_e k);
+      won_most = bounded.won_most;
+    }
 bounded_played view S class gone won bounded =
-    record
-    { gone_w = λ k. omega (arith, bounded.gone_w k); gone_e = λ k. omega (arith, bounded.gone_e k); won_most = bounded.won_most }
+    record {
+      gone_w = λ k. omega (arith, bounded.gone_w k);
+      gone_e = λ k. omega (arith, bounded.gone_e k);
+      won_most = bounded.won_most;
+    }
 bounded_played view W class gone won bounded =
-    record
-    { gone_w = λ k. more_at view.gone_w class k gone bounded.gone_w; gone_e = λ k. omega (arith, bounded.gone_e k); won_most = bounded.won_most }
+    record {
+      gone_w = λ k. more_at view.gone_w class k gone bounded.gone_w;
+      gone_e = λ k. omega (arith, bounded.gone_e k);
+      won_most = bounded.won_most;
+    }
 bounded_played view E class gone won bounded =
-    record
-    { gone_w = λ k. omega (arith, bounded.gone_w k); gone_e = λ k. more_at view.gone_e class k gone bounded.gone_e; won_most = bounded.won_most }
+    record {
+      gone_w = λ k. omega (arith, bounded.gone_w k);
+      gone_e = λ k. more_at view.gone_e class k gone bounded.gone_e;
+      won_most = bounded.won_most;
+    }
 
 bounded_ended : (view : ClassView) (winner : Owner) (gone won : ℕ) → Bounded view gone won
     → Bounded (class_ended view winner) gone (suc won)
@@ -76,17 +90,29 @@ bounded_passed view turn (suc after) winner highest gone won bounded =
 bounded_led : (view : ClassView) (seat : Seat) (class gone won : ℕ) → Bounded view gone won
     → Bounded (class_led view seat class) (suc gone) (suc won)
 bounded_led view N class gone won bounded =
-    record
-    { gone_w = λ k. omega (arith, bounded.gone_w k); gone_e = λ k. omega (arith, bounded.gone_e k); won_most = omega (arith, bounded.won_most) }
+    record {
+      gone_w = λ k. omega (arith, bounded.gone_w k);
+      gone_e = λ k. omega (arith, bounded.gone_e k);
+      won_most = omega (arith, bounded.won_most);
+    }
 bounded_led view S class gone won bounded =
-    record
-    { gone_w = λ k. omega (arith, bounded.gone_w k); gone_e = λ k. omega (arith, bounded.gone_e k); won_most = omega (arith, bounded.won_most) }
+    record {
+      gone_w = λ k. omega (arith, bounded.gone_w k);
+      gone_e = λ k. omega (arith, bounded.gone_e k);
+      won_most = omega (arith, bounded.won_most);
+    }
 bounded_led view E class gone won bounded =
-    record
-    { gone_w = λ k. omega (arith, bounded.gone_w k); gone_e = λ k. omega (arith, bounded.gone_e k); won_most = omega (arith, bounded.won_most) }
+    record {
+      gone_w = λ k. omega (arith, bounded.gone_w k);
+      gone_e = λ k. omega (arith, bounded.gone_e k);
+      won_most = omega (arith, bounded.won_most);
+    }
 bounded_led view W class gone won bounded =
-    record
-    { gone_w = λ k. omega (arith, bounded.gone_w k); gone_e = λ k. omega (arith, bounded.gone_e k); won_most = omega (arith, bounded.won_most) }
+    record {
+      gone_w = λ k. omega (arith, bounded.gone_w k);
+      gone_e = λ k. omega (arith, bounded.gone_e k);
+      won_most = omega (arith, bounded.won_most);
+    }
 
 bounded_either : (view : ClassView) (turn : Seat) (after : ℕ) (winner : Owner) (highest class gone won : ℕ)
     (beats : Bool)

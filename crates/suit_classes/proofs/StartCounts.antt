@@ -1,5 +1,6 @@
 -- Before any move each seat has left what it was dealt of each class.
-use Rattle.std.proofs.Common.{◌≡◌, ℕ, zero, suc, ◌+◌, ◌-◌, ◌<◌, Bool, true, false, cond, not, List, [], ◌∷◌, length, get_or, refl, sym, ap, ◌∙◌, subst, inl, inr, arith}
+use Rattle.std.proofs.Common.{◌≡◌, ℕ, zero, suc, ◌+◌, ◌-◌, ◌<◌, Bool, true, false, cond, not, List, [], ◌∷◌, length}
+use Rattle.std.proofs.Common.{get_or, refl, sym, ap, ◌∙◌, subst, inl, inr, arith}
 use Rattle.std.specs.Prelude.{map, filter, nat_lt, ◌==◌, ◌&&◌, if◌then◌else◌}
 use Rattle.std.specs.List.{range_with_len}
 use Rattle.std.proofs.lemmas.Bool.{cases_lt, ltb-true, ltb-false, lt-ltb}
@@ -18,7 +19,8 @@ use Rattle.suit_classes.specs.ClassGame.{cards_in, counts_of}
 use Rattle.suit_classes.specs.ClassPlaces.{class_start, dealt_to, is_defence_class, left, west_count}
 use Rattle.suit_classes.proofs.ClassNumbers.{class_size-some}
 use Rattle.suit_classes.proofs.CountedLists.{class_size-none, dealt_to-at, none_played-at}
-use Rattle.suit_classes.proofs.DealtClasses.{IsDealt, cards_in-north, cards_in-south, cards_in-missing, cards_left_of_class}
+use Rattle.suit_classes.proofs.DealtClasses.{IsDealt, cards_in-north, cards_in-south, cards_in-missing}
+use Rattle.suit_classes.proofs.DealtClasses.{cards_left_of_class}
 
 at_place_either : (f : ℕ → ℕ) (from : ℕ) (xs ys : List ℕ) (value : ℕ) (b : Bool)
     → get_or (map f xs) (length ys) 0 ≡ value
@@ -37,7 +39,8 @@ at_place f p from (suc before) (suc count) small passes =
     let turned : from + 1 + before ≡ from + suc before = omega arith in
     at_place_either f from (filter p (range_with_len (from + 1) count)) (filter p (range_with_len (from + 1) before))
     (f (from + suc before)) (p from)
-    (at_place f p (from + 1) before count (omega arith) (subst (λ (n : ℕ). p n ≡ true) (sym turned) passes) ∙ ap f turned)
+    (at_place f p (from + 1) before count (omega arith) (subst (λ (n : ℕ). p n ≡ true) (sym turned) passes)
+    ∙ ap f turned)
 
 held_some : (b : Bool) (size : ℕ) → 0 < size → nat_lt 0 (if b then size else 0) ≡ b
 held_some true size some = lt-ltb 0 size some
@@ -77,10 +80,12 @@ west_count-start question west class small is =
     let p : ℕ → Bool = λ c. same_owner (class_owner hands c) owners.Defence in
     let told =
     held_few hands (p class) class
-    (subst (λ (n : ℕ). 0 < n) (dealt_to-at hands owners.Defence class small) (ltb-true 0 (get_or (dealt_to hands owners.Defence) class 0) is)) in
+    (subst (λ (n : ℕ). 0 < n) (dealt_to-at hands owners.Defence class small)
+    (ltb-true 0 (get_or (dealt_to hands owners.Defence) class 0) is)) in
     let up : 0 + class ≡ class = omega arith in
     ap (λ (l : List ℕ). get_or (counts_of hands west) (length l) 0)
-    (same_filter (is_defence_class (class_start question)) p 0 class (λ k low. defence_told question k (omega (arith, told.0)) (omega arith)))
+    (same_filter (is_defence_class (class_start question)) p 0 class
+    (λ k low. defence_told question k (omega (arith, told.0)) (omega arith)))
     ∙ at_place (cards_in hands west) p 0 class (class_count hands) told.0
     (subst (λ (n : ℕ). p n ≡ true) (sym up) told.1)
     ∙ ap (cards_in hands west) up
@@ -115,7 +120,8 @@ cards_in-parts question west class is =
     let test : ℕ → Bool = λ card. class_of (hands_of question) card == class in
     let those : filter (holds west) (filter test (missing question)) ≡ filter test west =
     same_holding (filter (holds west) (filter test (missing question))) (filter test west)
-    (IsHolding-filter (holds west) (filter test (missing question)) (IsHolding-filter test (missing question) (IsHolding-others_of question.north question.south)))
+    (IsHolding-filter (holds west) (filter test (missing question))
+    (IsHolding-filter test (missing question) (IsHolding-others_of question.north question.south)))
     (IsHolding-filter test west is.holding)
     (λ rank least most.
     holds-filter (holds west) (filter test (missing question)) rank
@@ -155,20 +161,24 @@ left-start question west S class is small =
     dealt_to-at (hands_of question) owners.S class small ∙ sym (cards_in-south question west class is)
     ∙ sym (no_cards (hands_of question) question.south class)
 left-start question west W class is small =
-    let size : get_or (dealt_to (hands_of question) owners.Defence) class 0 ≡ cards_in (hands_of question) (missing question) class =
+    let size : get_or (dealt_to (hands_of question) owners.Defence) class 0
+    ≡ cards_in (hands_of question) (missing question) class =
     dealt_to-at (hands_of question) owners.Defence class small ∙ sym (cards_in-missing question class) in
     let parts = cards_in-parts question west class is in
     (rw (none_played-at class)
-    (west_left (is_defence_class (class_start question) class) (west_count (class_start question) (counts_of (hands_of question) west) class)
+    (west_left (is_defence_class (class_start question) class)
+    (west_count (class_start question) (counts_of (hands_of question) west) class)
     (cards_in (hands_of question) west class) (west_count-start question west class small)
     (λ none. omega (arith, ltb-false 0 (get_or (dealt_to (hands_of question) owners.Defence) class 0) none))))
     ∙ sym (no_cards (hands_of question) west class)
 left-start question west E class is small =
-    let size : get_or (dealt_to (hands_of question) owners.Defence) class 0 ≡ cards_in (hands_of question) (missing question) class =
+    let size : get_or (dealt_to (hands_of question) owners.Defence) class 0
+    ≡ cards_in (hands_of question) (missing question) class =
     dealt_to-at (hands_of question) owners.Defence class small ∙ sym (cards_in-missing question class) in
     let parts = cards_in-parts question west class is in
     (rw (none_played-at class)
-    (east_left (is_defence_class (class_start question) class) (get_or (dealt_to (hands_of question) owners.Defence) class 0)
+    (east_left (is_defence_class (class_start question) class)
+    (get_or (dealt_to (hands_of question) owners.Defence) class 0)
     (west_count (class_start question) (counts_of (hands_of question) west) class)
     (cards_in (hands_of question) west class) (cards_in (hands_of question) (without (missing question) west) class)
     (omega arith) (west_count-start question west class small)

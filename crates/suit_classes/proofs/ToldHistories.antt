@@ -1,4 +1,5 @@
--- Counts of West's allow a history with one move more where they allow the history and the move is among those after it.
+-- Counts of West's allow a history with one move more where they allow the history and the move is among those after
+-- it.
 use Rattle.std.proofs.Common.{◌≡◌, Bool, true, false, [], ◌∷◌, ◌++◌, refl, ap, ◌∙◌}
 use Rattle.std.specs.Prelude.{◌&&◌, fold}
 use Rattle.suit_classes.specs.ClassMoves.{ClassHistory}

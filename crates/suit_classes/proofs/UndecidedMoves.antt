@@ -57,7 +57,8 @@ some_move question counts history allows undecided =
     sym (tells.decided_is allows.west allows.cards to) ∙ undecided in
     let place : Position = after question allows.cards in
     subst (HasFirst {X = ClassMove}) (sym (tells.moves_are allows.west allows.cards to))
-    (some_merged (merge (hands_of question)) (legal_at question allows.west place) (some_legal question allows.west place place.trick decided))
+    (some_merged (merge (hands_of question)) (legal_at question allows.west place)
+    (some_legal question allows.west place place.trick decided))
 
 -- a turn that is not over is no decided one
 pub undecided_turn : (plays : ClassTurn → Bool) (decided : Bool) (turn : ClassTurn) → plays turns.Decided ≡ false

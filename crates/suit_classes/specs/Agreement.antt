@@ -35,7 +35,8 @@ abbrev pub ClassGameAgrees : Type 0
 ClassGameAgrees = (question : Question) (west : Cards) (history : History) → IsPlay question west history
     → AgreesAt question west history (class_after question (merged (hands_of question) history))
 
--- in other words, a class place tells of its class history what the cards say: how the place is counted need not be read
+-- in other words, a class place tells of its class history what the cards say: how the place is counted need not be
+-- read
 abbrev pub ClassPlacesTellCards : Type 0
 ClassPlacesTellCards = (question : Question) (counts : Counts) (history : ClassHistory)
     → TellsCards question counts history (class_decided (class_after question history))
@@ -89,7 +90,8 @@ CountsByBlocks = (hands : Hands) (west : Cards) → IsHolding west
     → counts_of hands west ≡ map (λ class. length (filter (holds west) (class_ranks hands class)))
     (defence_classes hands)
 
--- the blocks of missing cards of these sizes are the defenders' classes: West's counts by blocks, of which class layouts are
+-- the blocks of missing cards of these sizes are the defenders' classes: West's counts by blocks, of which class
+-- layouts are
 -- made, are his counts in the class game, for every holding of his
 abbrev pub CountsAlike : Type 0
 CountsAlike = (question : Question) (west : Cards) → IsHolding west

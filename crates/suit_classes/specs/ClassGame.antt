@@ -1,5 +1,6 @@
 -- The class game: what play of single cards comes to where each card is told by its class alone.
-use Rattle.std.specs.Prelude.{◌≡◌, ℕ, ◌+◌, ◌||◌, ◌==◌, not, nat_lt, nat_le, max, Bool, false, List, [], ◌∷◌, length, map, filter, if◌then◌else◌}
+use Rattle.std.specs.Prelude.{◌≡◌, ℕ, ◌+◌, ◌||◌, ◌==◌, not, nat_lt, nat_le, max, Bool, false, List, [], ◌∷◌, length}
+use Rattle.std.specs.Prelude.{map, filter, if◌then◌else◌}
 use Rattle.suit_cards.specs.declared.seats.Seat.TheVariants.{N, S}
 use Rattle.suit_cards.specs.Cards.{Cards, Counts}
 use Rattle.suit_game.specs.declared.question.Question.{Question}
@@ -8,7 +9,8 @@ use Rattle.suit_game.specs.declared.question.Goal.TheVariants.{AtLeast, Tricks}
 use Rattle.suit_game.specs.declared.turn.Turn.{Turn}
 use Rattle.suit_game.specs.declared.turn.Turn.TheVariants as games
 use Rattle.suit_game.specs.Histories.{History}
-use Rattle.suit_game.specs.Positions.{Position, Trick, Closed, Open, after, declarer_hand, is_empty, leads_at, legal, payoff}
+use Rattle.suit_game.specs.Positions.{Position, Trick, Closed, Open, after, declarer_hand, is_empty, leads_at, legal}
+use Rattle.suit_game.specs.Positions.{payoff}
 use Rattle.suit_game.specs.PlaceViews.{IsPlay, turn_at}
 use Rattle.suit_classes.specs.declared.class_moves.ClassMove.{ClassMove}
 use Rattle.suit_classes.specs.declared.class_turn.ClassTurn.{ClassTurn}
@@ -70,13 +72,16 @@ abbrev pub merged_moves : Question → Cards → History → List ClassMove
 merged_moves question west history = each_once (map (merge (hands_of question)) (legal question west history))
 
 -- a legal history of single cards, under a layout in which West has these counts, that merges to a class history
-pub record MergesTo (question : Question) (counts : Counts) (history : ClassHistory) (west : Cards) (cards : History) : Type 0 where
+pub record MergesTo (question : Question) (counts : Counts) (history : ClassHistory) (west : Cards) (cards : History) :
+    Type 0 where
   pub play : IsPlay question west cards
   pub counted : counts_of (hands_of question) west ≡ counts
   pub merges : merged (hands_of question) cards ≡ history
 
--- what is told of a class history for West's counts is what the cards say, whichever legal history merges to it, and under
--- whichever layout with these counts: whether it is decided, who is on turn, what may be played, and what the tricks are worth
+-- what is told of a class history for West's counts is what the cards say, whichever legal history merges to it, and
+-- under
+-- whichever layout with these counts: whether it is decided, who is on turn, what may be played, and what the tricks
+-- are worth
 pub record TellsCards (question : Question) (counts : Counts) (history : ClassHistory)
     (decided : Bool) (turn : ClassTurn) (moves : List ClassMove) (worth : ℕ) : Type 0 where
   pub decided_is : (west : Cards) (cards : History) → MergesTo question counts history west cards

@@ -1,4 +1,5 @@
--- Class moves: moves of single cards, told by their classes alone, histories of them, and the order in which they stand.
+-- Class moves: moves of single cards, told by their classes alone, histories of them, and the order in which they
+-- stand.
 use Rattle.std.specs.Prelude.{ℕ, ◌==◌, ◌&&◌, ◌||◌, nat_lt, Bool, true, false, List, map}
 use Rattle.suit_cards.specs.declared.seats.Seat.TheVariants.{N, E, S, W}
 use Rattle.suit_game.specs.Histories.{History}

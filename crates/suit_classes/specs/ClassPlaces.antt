@@ -1,5 +1,6 @@
 -- Positions of the class game, told by how many cards of each class are left or played.
-use Rattle.std.specs.Prelude.{ℕ, zero, suc, ◌+◌, ◌-◌, ◌*◌, ◌<◌, ◌||◌, ◌&&◌, not, nat_lt, max, Bool, false, List, [], ◌∷◌, ◌++◌, length, map, filter, fold, slice_index, slice_set, ◌≡◌, if◌then◌else◌}
+use Rattle.std.specs.Prelude.{ℕ, zero, suc, ◌+◌, ◌-◌, ◌*◌, ◌<◌, ◌||◌, ◌&&◌, not, nat_lt, max, Bool, false, List, []}
+use Rattle.std.specs.Prelude.{◌∷◌, ◌++◌, length, map, filter, fold, slice_index, slice_set, ◌≡◌, if◌then◌else◌}
 use Rattle.std.specs.List.{range_with_len}
 use Rattle.suit_cards.specs.Cards.{Counts, Indices}
 use Rattle.suit_cards.specs.declared.seats.Seat.{Seat}
@@ -25,7 +26,8 @@ use Rattle.suit_classes.specs.ClassGame.{is_goal_settled}
 use Rattle.suit_classes.specs.ClassMoves.{ClassHistory}
 use Rattle.suit_classes.specs.Classes.{Hands, hands_of, same_owner, class_owner, class_size}
 
--- a position: counts of cards by class, and the trick in progress, which says who is on turn, how many seats play after it,
+-- a position: counts of cards by class, and the trick in progress, which says who is on turn, how many seats play after
+-- it,
 -- whose card is the highest, and of which class
 abbrev pub ClassView : Type 0
 ClassView = PlaceCounts
@@ -96,7 +98,8 @@ left view counts S class = slice_index view.south class
 left view counts W class =
     if is_defence_class view class then west_count view counts class - slice_index view.gone_w class else 0
 left view counts E class =
-    if is_defence_class view class then slice_index view.defence class - west_count view counts class - slice_index view.gone_e class else 0
+    if is_defence_class view class
+    then slice_index view.defence class - west_count view counts class - slice_index view.gone_e class else 0
 
 -- the classes of which a seat has a card left
 abbrev pub classes_left : ClassView → Counts → Seat → Indices

@@ -1,5 +1,6 @@
 -- Classes: the runs of touching cards that North, South or the defenders held at the start.
-use Rattle.std.specs.Prelude.{ℕ, zero, suc, ◌+◌, ◌-◌, ◌==◌, Bool, true, false, Option, find, filter, map, length, if◌then◌else◌}
+use Rattle.std.specs.Prelude.{ℕ, zero, suc, ◌+◌, ◌-◌, ◌==◌, Bool, true, false, Option, find, filter, map, length}
+use Rattle.std.specs.Prelude.{if◌then◌else◌}
 use Rattle.std.specs.List.{range_with_len}
 use Rattle.std.specs.Option.{option_map_or}
 use Rattle.suit_cards.specs.Cards.{Cards, Indices, Sizes}
@@ -27,7 +28,8 @@ same_owner owners.S owners.S = true
 same_owner owners.Defence owners.Defence = true
 same_owner _ _ = false
 
--- the number of the class of the rank so many below the ace: that of the rank above it where both were held alike, and else the next
+-- the number of the class of the rank so many below the ace: that of the rank above it where both were held alike, and
+-- else the next
 unfoldable pub class_below : Hands → ℕ → ℕ
 class_below hands zero = 0
 class_below hands (suc n) =

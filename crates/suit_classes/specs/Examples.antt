@@ -7,7 +7,8 @@ use Rattle.suit_game.specs.Examples.{eleven_cards, ten_cards, tenace}
 use Rattle.suit_game.specs.Positions.{after}
 use Rattle.suit_classes.specs.declared.classes.Owner.TheVariants as owners
 use Rattle.suit_classes.specs.declared.class_moves.ClassMove.TheVariants.{Lead, Follow, ShowOut}
-use Rattle.suit_classes.specs.Classes.{hands_of, class_count, class_of, class_owner, class_size, class_top, defence_classes, defence_sizes}
+use Rattle.suit_classes.specs.Classes.{hands_of, class_count, class_of, class_owner, class_size, class_top}
+use Rattle.suit_classes.specs.Classes.{defence_classes, defence_sizes}
 use Rattle.suit_classes.specs.ClassGame.{counts_of, is_decided, merged_moves}
 use Rattle.suit_classes.specs.ClassMoves.{merged}
 
@@ -17,7 +18,8 @@ ClassesOfTenCards =
     (map (class_of (hands_of ten_cards)) (14 ∷ 13 ∷ 12 ∷ 8 ∷ 4 ∷ 3 ∷ 2 ∷ []) ≡ 0 ∷ 1 ∷ 2 ∷ 2 ∷ 2 ∷ 3 ∷ 4 ∷ [])
     × (class_count (hands_of ten_cards) ≡ 5)
     ×
-    (map (class_owner (hands_of ten_cards)) (0 ∷ 1 ∷ 2 ∷ 3 ∷ 4 ∷ []) ≡ owners.N ∷ owners.Defence ∷ owners.N ∷ owners.S ∷ owners.Defence ∷ [])
+    (map (class_owner (hands_of ten_cards)) (0 ∷ 1 ∷ 2 ∷ 3 ∷ 4 ∷ []) ≡ owners.N ∷ owners.Defence ∷ owners.N ∷ owners.S
+    ∷ owners.Defence ∷ [])
     × (map (class_top (hands_of ten_cards)) (0 ∷ 2 ∷ 4 ∷ 5 ∷ []) ≡ Some 14 ∷ Some 12 ∷ Some 2 ∷ None ∷ [])
     × (map (class_size (hands_of ten_cards)) (0 ∷ 1 ∷ 2 ∷ 3 ∷ 4 ∷ []) ≡ 1 ∷ 1 ∷ 9 ∷ 1 ∷ 1 ∷ [])
 
@@ -48,10 +50,13 @@ abbrev pub DecidedInATenace : Type 0
 DecidedInATenace =
     (is_decided (tenace (AtLeast 2)) (after (tenace (AtLeast 2)) []) ≡ false)
     ×
-    (is_decided (tenace (AtLeast 2)) (after (tenace (AtLeast 2)) (cards.Lead S 3 ∷ cards.Follow 4 ∷ cards.Follow 12 ∷ [])) ≡ false)
+    (is_decided (tenace (AtLeast 2)) (after (tenace (AtLeast 2)) (cards.Lead S 3 ∷ cards.Follow 4 ∷ cards.Follow 12
+    ∷ [])) ≡ false)
     ×
-    (is_decided (tenace (AtLeast 2)) (after (tenace (AtLeast 2)) (cards.Lead S 3 ∷ cards.Follow 4 ∷ cards.Follow 12 ∷ cards.Follow 5 ∷ [])) ≡ false)
+    (is_decided (tenace (AtLeast 2)) (after (tenace (AtLeast 2)) (cards.Lead S 3 ∷ cards.Follow 4 ∷ cards.Follow 12
+    ∷ cards.Follow 5 ∷ [])) ≡ false)
     ×
-    (is_decided (tenace (AtLeast 2)) (after (tenace (AtLeast 2)) (cards.Lead S 3 ∷ cards.Follow 4 ∷ cards.Follow 12 ∷ cards.Follow 13 ∷ [])) ≡ true)
+    (is_decided (tenace (AtLeast 2)) (after (tenace (AtLeast 2)) (cards.Lead S 3 ∷ cards.Follow 4 ∷ cards.Follow 12
+    ∷ cards.Follow 13 ∷ [])) ≡ true)
     × (is_decided (tenace (AtLeast 0)) (after (tenace (AtLeast 0)) []) ≡ true)
     × (is_decided (tenace (AtLeast 3)) (after (tenace (AtLeast 3)) []) ≡ true)

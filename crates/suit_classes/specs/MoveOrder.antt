@@ -7,7 +7,8 @@ use Rattle.suit_classes.specs.declared.class_moves.ClassMove.TheVariants.{Lead, 
 use Rattle.suit_classes.specs.AllowedHistories.{every_move}
 use Rattle.suit_classes.specs.ClassPlaces.{ClassView, class_moves}
 
--- leads of North, leads of South, follows and showing out, in this order; leads of a defender, which never come, stand where the seat does
+-- leads of North, leads of South, follows and showing out, in this order; leads of a defender, which never come, stand
+-- where the seat does
 abbrev pub kind_of : ClassMove → ℕ
 kind_of (Lead N class) = 0
 kind_of (Lead E class) = 1

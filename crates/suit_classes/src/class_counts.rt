@@ -37,7 +37,8 @@ pub(crate) fn one_less(counts: &Counts, class: u8) -> Counts
 
 /// The counts with one card of a class more.
 pub(crate) fn one_more(counts: &Counts, class: u8) -> Counts
-    ensures { slice_index counts.now class < 255 → result ≡ slice_set counts.now class (slice_index counts.now class + 1) }
+    ensures { slice_index counts.now class < 255
+        → result ≡ slice_set counts.now class (slice_index counts.now class + 1) }
 {
     let mut later = *counts;
     if (class as usize) < later.len() {

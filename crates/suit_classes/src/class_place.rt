@@ -11,7 +11,8 @@ ghost use Rattle.suit_classes.specs.declared.classes.TheConstants.{MOST_CLASSES}
 ghost use Rattle.suit_classes.specs.declared.class_turn.ClassTurn.TheVariants.{Decided};
 ghost use Rattle.suit_classes.specs.ClassGame.{class_turn_at, counts_of, is_decided, is_goal_settled, merged_moves};
 ghost use Rattle.suit_classes.specs.ClassMoves.{ClassHistory};
-ghost use Rattle.suit_classes.specs.ClassPlaces.{class_after, class_decided, class_leads, class_moves, class_payoff, class_start, class_turn, has_class_lead, left, may_lead, turn_of};
+ghost use Rattle.suit_classes.specs.ClassPlaces.{class_after, class_decided, class_leads, class_moves, class_payoff};
+ghost use Rattle.suit_classes.specs.ClassPlaces.{class_start, class_turn, has_class_lead, left, may_lead, turn_of};
 
 use super::class_counts::{Counts, add_leads, dealt_to, follows_of};
 use super::{ClassMove, ClassTrick, ClassTurn, ClassView, Classes, MOST_CLASSES, Owner};
@@ -69,7 +70,8 @@ impl ClassPlace {
     pub fn turn(&self) -> ClassTurn
         ensures value { result ≡ class_turn self.now }
         ensures over { result ≡ Decided ↔ (class_decided self.now ≡ true) }
-        ensures cards { (question : Question) (west : Cards) (history : History) → StandsFor self.now question west history → result ≡ class_turn_at question (after question history) }
+        ensures cards { (question : Question) (west : Cards) (history : History)
+            → StandsFor self.now question west history → result ≡ class_turn_at question (after question history) }
     {
         self.turn_now()
     }
@@ -78,7 +80,8 @@ impl ClassPlace {
     /// and no lead is legal, or the goal is met or out of reach.
     pub fn decided(&self) -> bool
         ensures value { result ≡ class_decided self.now }
-        ensures cards { (question : Question) (west : Cards) (history : History) → StandsFor self.now question west history → result ≡ is_decided question (after question history) }
+        ensures cards { (question : Question) (west : Cards) (history : History)
+            → StandsFor self.now question west history → result ≡ is_decided question (after question history) }
     {
         self.is_decided()
     }
@@ -86,7 +89,9 @@ impl ClassPlace {
     /// The moves, in their order, where West was dealt these counts of the defenders' classes.
     pub fn moves(&self, counts: &[u8]) -> ArrayVec<ClassMove, MOST_CLASSES>
         ensures value { result.items ≡ class_moves self.now counts.now }
-        ensures cards { (question : Question) (west : Cards) (history : History) → StandsFor self.now question west history → counts.now ≡ counts_of (hands_of question) west → result.items ≡ merged_moves question west history }
+        ensures cards { (question : Question) (west : Cards) (history : History)
+            → StandsFor self.now question west history → counts.now ≡ counts_of (hands_of question) west
+            → result.items ≡ merged_moves question west history }
     {
         self.moves_for(counts)
     }
@@ -94,7 +99,8 @@ impl ClassPlace {
     /// The position after a move. A move of the wrong kind changes nothing: a follow or a showing out
     /// between tricks, or a lead to a trick in progress. No history that counts allow is longer than 52 moves.
     pub fn step(&self, mv: ClassMove) -> ClassPlace
-        ensures { (question : Question) (history : ClassHistory) → length history ≤ 52 → self.now ≡ class_after question history → result ≡ class_after question (history ++ mv ∷ []) }
+        ensures { (question : Question) (history : ClassHistory) → length history ≤ 52
+            → self.now ≡ class_after question history → result ≡ class_after question (history ++ mv ∷ []) }
     {
         ClassPlace {
             view: self.view.step(mv),
@@ -104,7 +110,8 @@ impl ClassPlace {
     /// What the tricks won are worth.
     pub fn payoff(&self) -> u64
         ensures value { result ≡ class_payoff self.now }
-        ensures cards { (question : Question) (west : Cards) (history : History) → StandsFor self.now question west history → result ≡ payoff question.goal (after question history).won }
+        ensures cards { (question : Question) (west : Cards) (history : History)
+            → StandsFor self.now question west history → result ≡ payoff question.goal (after question history).won }
     {
         self.worth()
     }
@@ -197,7 +204,8 @@ impl ClassPlace {
 
     // How many cards of each class West has left.
     fn left_to_west(&self, counts: &[u8]) -> Counts
-        ensures { (class : ℕ) → class < MOST_CLASSES → slice_index result class ≡ left self.now counts.now Seat.W class }
+        ensures { (class : ℕ) → class < MOST_CLASSES
+            → slice_index result class ≡ left self.now counts.now Seat.W class }
     {
         let mut left = [0; MOST_CLASSES];
         let mut index = 0;
@@ -212,7 +220,8 @@ impl ClassPlace {
 
     // How many cards of each class East has left.
     fn left_to_east(&self, counts: &[u8]) -> Counts
-        ensures { (class : ℕ) → class < MOST_CLASSES → slice_index result class ≡ left self.now counts.now Seat.E class }
+        ensures { (class : ℕ) → class < MOST_CLASSES
+            → slice_index result class ≡ left self.now counts.now Seat.E class }
     {
         let mut left = [0; MOST_CLASSES];
         let mut index = 0;

@@ -1,13 +1,15 @@
 //! What a class place holds, and how it goes on from move to move.
 ghost use Rattle.std.specs.Prelude.{◌≡◌, ◌<◌};
-ghost use Rattle.suit_classes.specs.ClassPlaces.{AreApart, IsSmall, class_ended, class_followed, class_led, class_passed, class_played, class_step, side};
+ghost use Rattle.suit_classes.specs.ClassPlaces.{AreApart, IsSmall, class_ended, class_followed, class_led};
+ghost use Rattle.suit_classes.specs.ClassPlaces.{class_passed, class_played, class_step, side};
 
 use super::class_counts::{Counts, one_less, one_more};
 use super::{ClassMove, ClassTrick, Owner};
 use suit_cards::Seat;
 use suit_game::{Entries, Goal, LeadAt};
 
-/// What a class place holds: a position of the class game, told by counts of cards. Contracts of `ClassPlace` speak of it.
+/// What a class place holds: a position of the class game, told by counts of cards. Contracts of `ClassPlace` speak of
+/// it.
 #[derive(Clone, Copy, Debug)]
 pub struct ClassView {
     /// How many cards of each class North has left.

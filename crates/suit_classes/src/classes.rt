@@ -6,7 +6,9 @@ ghost use Rattle.suit_classes.specs.declared.classes.TheConstants.{MOST_CLASSES,
 ghost use Rattle.suit_cards.specs.Holdings.{others_of};
 ghost use Rattle.suit_cards.specs.Ranks.{IsRank};
 ghost use Rattle.suit_classes.specs.ClassMoves.{merge, merged};
-ghost use Rattle.suit_classes.specs.Classes.{Hands, hands_of, holder, class_below, class_count, class_of, class_owner, class_ranks, class_size, class_top, defence_classes, defence_sizes, same_owner};
+ghost use Rattle.suit_classes.specs.Classes.{Hands, hands_of, holder, class_below, class_count, class_of, class_owner};
+ghost use Rattle.suit_classes.specs.Classes.{class_ranks, class_size, class_top, defence_classes, defence_sizes};
+ghost use Rattle.suit_classes.specs.Classes.{same_owner};
 
 use super::{ClassMove, History};
 use arrayvec::ArrayVec;
@@ -24,7 +26,8 @@ pub const MOST_CLASSES: usize = 13;
 /// The most classes that the defenders have: a card of declarer's stands between any two.
 pub const MOST_DEFENCE_CLASSES: usize = 7;
 
-/// The most missing cards and classes of the defenders together: the cards of the suit, and one more class than there are
+/// The most missing cards and classes of the defenders together: the cards of the suit, and one more class than there
+/// are
 /// cards of declarer's to part them.
 pub const MOST_MISSING_AND_CLASSES: usize = 14;
 
@@ -68,11 +71,16 @@ impl Model for Classes {
 
     ghost view = { λ classes. record { north = classes.north; south = classes.south } };
 
-    ghost invariant = { λ classes. classes.numbers ≡ numbers_of (record { north = classes.north; south = classes.south }) };
+    ghost invariant = { λ classes. classes.numbers
+        ≡ numbers_of (record { north = classes.north; south = classes.south }) };
 
     ghost inverse = { λ hands. record { north = hands.north; south = hands.south; numbers = numbers_of hands } };
 
-    ghost inverse_ok = { λ classes is. λ i. record { north = classes.north; south = classes.south; numbers = sym is i } };
+    ghost inverse_ok = { λ classes is. λ i. record {
+      north = classes.north;
+      south = classes.south;
+      numbers = sym is i;
+    } };
 }
 
 impl Classes {
@@ -152,7 +160,8 @@ impl Classes {
         ensures value { result.items ≡ defence_sizes self.now }
         ensures some { All (λ size. 1 ≤ size) result.items }
         ensures sum { sum result.items ≡ length (others_of self.now.north self.now.south) }
-        ensures few { length (others_of self.now.north self.now.south) + length result.items ≤ MOST_MISSING_AND_CLASSES }
+        ensures few { length (others_of self.now.north self.now.south) + length result.items
+            ≤ MOST_MISSING_AND_CLASSES }
     {
         let mut sizes = ArrayVec::new();
         for class in self.defence().as_slice() {
@@ -201,7 +210,8 @@ impl Classes {
 fn starts_class(north: Holding, south: Holding, index: usize) -> bool
     requires least { 1 ≤ index }
     requires most { index < MOST_CLASSES }
-    ensures { (hands : Hands) (above : ℕ) → hands.north ≡ north → hands.south ≡ south → above + 1 ≡ index → result ≡ not (same_owner (holder hands (14 - above)) (holder hands (14 - index))) }
+    ensures { (hands : Hands) (above : ℕ) → hands.north ≡ north → hands.south ≡ south → above + 1 ≡ index
+        → result ≡ not (same_owner (holder hands (14 - above)) (holder hands (14 - index))) }
 {
     let above = holder_of(north, south, rank_at(index - 1));
     let here = holder_of(north, south, rank_at(index));

@@ -1,5 +1,6 @@
 //! What the definitions of the class game come to on examples that were worked out apart from them.
-ghost use Rattle.suit_classes.specs.Examples.{ClassesOfTenCards, CountsInATenace, DecidedInATenace, DefenceOfElevenCards, MergedHistory, MovesOnce};
+ghost use Rattle.suit_classes.specs.Examples.{ClassesOfTenCards, CountsInATenace, DecidedInATenace};
+ghost use Rattle.suit_classes.specs.Examples.{DefenceOfElevenCards, MergedHistory, MovesOnce};
 
 /// All but the king and the two, facing the three: five classes.
 pub fn classes_of_ten_cards()

@@ -1,6 +1,8 @@
 //! Laws of the class game: each is the contract of a small function.
 ghost use Rattle.std.specs.Prelude.{◌≡◌};
-ghost use Rattle.suit_classes.specs.Agreement.{AllowedMoves, ClassGameAgrees, ClassHistoriesAreShort, ClassPlacesTellCards, ClassesAreRuns, CountsAlike, CountsByBlocks, CountsTellMoves, DecidedStays, LayoutsAllowNone};
+ghost use Rattle.suit_classes.specs.Agreement.{AllowedMoves, ClassGameAgrees, ClassHistoriesAreShort};
+ghost use Rattle.suit_classes.specs.Agreement.{ClassPlacesTellCards, ClassesAreRuns, CountsAlike, CountsByBlocks};
+ghost use Rattle.suit_classes.specs.Agreement.{CountsTellMoves, DecidedStays, LayoutsAllowNone};
 ghost use Rattle.suit_classes.specs.MoveOrder.{ClassMovesRise, EveryMoveRises, stands_before};
 
 use super::ClassMove;
@@ -10,7 +12,8 @@ pub fn classes_are_runs()
     ensures { ClassesAreRuns }
 {}
 
-/// Class moves are ordered: leads of North, leads of South, follows, each with class numbers rising, and last showing out.
+/// Class moves are ordered: leads of North, leads of South, follows, each with class numbers rising, and last showing
+/// out.
 pub fn moves_are_ordered(here: &ClassMove, there: &ClassMove) -> bool
     ensures { result ≡ stands_before here.now there.now }
 {
@@ -47,7 +50,8 @@ pub fn layouts_allow_none()
     ensures { LayoutsAllowNone }
 {}
 
-/// Counts allow a history with one more move exactly where they allow the history, and the move is a class move for them.
+/// Counts allow a history with one more move exactly where they allow the history, and the move is a class move for
+/// them.
 pub fn allowed_moves()
     ensures { AllowedMoves }
 {}

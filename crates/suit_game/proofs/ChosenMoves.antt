@@ -22,10 +22,12 @@ weighed_each : (P : Move → Type 0) (weight_of : Move → ℕ) (moves : List Mo
 unfolding weighed
 weighed_each P weight_of [] each = tt
 weighed_each P weight_of (move ∷ moves) each =
-    kept_each (λ choice. P choice.1) (weight_of move) move (weighed weight_of moves) (λ k. each.0) (weighed_each P weight_of moves each.1)
+    kept_each (λ choice. P choice.1) (weight_of move) move (weighed weight_of moves) (λ k. each.0)
+    (weighed_each P weight_of moves each.1)
 
 or_first_each : (P : Move → Type 0) (picked : List Weighed) (moves : List Move)
-    → AllByRecursion (λ choice. P choice.1) picked → AllByRecursion P (first_of moves) → AllByRecursion (λ choice. P choice.1) (or_first picked moves)
+    → AllByRecursion (λ choice. P choice.1) picked → AllByRecursion P (first_of moves)
+    → AllByRecursion (λ choice. P choice.1) (or_first picked moves)
 or_first_each P [] [] each first = tt
 or_first_each P [] (move ∷ moves) each first = first
 or_first_each P (choice ∷ picked) moves each first = each
@@ -42,11 +44,14 @@ chosen_each P weight_of moves each =
     or_first_each P (weighed weight_of moves) moves (weighed_each P weight_of moves each) (first_of_each P moves each)
 
 -- what is chosen among some moves is one of them
-pub chosen_from : (weight_of : Move → ℕ) (moves : List Move) (choice : Weighed) → Contains (chosen weight_of moves) choice → Contains moves choice.1
+pub chosen_from : (weight_of : Move → ℕ) (moves : List Move) (choice : Weighed)
+    → Contains (chosen weight_of moves) choice → Contains moves choice.1
 chosen_from weight_of moves choice found =
-    each_at (λ (it : Weighed). Contains moves it.1) (chosen weight_of moves) choice (chosen_each (Contains moves) weight_of moves (each_contained moves)) found
+    each_at (λ (it : Weighed). Contains moves it.1) (chosen weight_of moves) choice
+    (chosen_each (Contains moves) weight_of moves (each_contained moves)) found
 
-weighed-none : (weight_of : Move → ℕ) (moves : List Move) → ((move : Move) → weight_of move ≡ 0) → weighed weight_of moves ≡ []
+weighed-none : (weight_of : Move → ℕ) (moves : List Move) → ((move : Move) → weight_of move ≡ 0)
+    → weighed weight_of moves ≡ []
 unfolding weighed
 weighed-none weight_of [] none = refl
 weighed-none weight_of (move ∷ moves) none = rw (none move, weighed-none weight_of moves none)
@@ -57,11 +62,13 @@ pub chosen_first : (P : Move → Type 0) (weight_of : Move → ℕ) (moves : Lis
 chosen_first P weight_of moves none each =
     rw (weighed-none weight_of moves none) (or_first_each P [] moves tt each)
 
-weighed_above : (weight_of : Move → ℕ) (moves : List Move) → AllByRecursion (λ (choice : Weighed). 0 < choice.0) (weighed weight_of moves)
+weighed_above : (weight_of : Move → ℕ) (moves : List Move)
+    → AllByRecursion (λ (choice : Weighed). 0 < choice.0) (weighed weight_of moves)
 unfolding weighed
 weighed_above weight_of [] = tt
 weighed_above weight_of (move ∷ moves) =
-    kept_each (λ (choice : Weighed). 0 < choice.0) (weight_of move) move (weighed weight_of moves) (λ k. omega arith) (weighed_above weight_of moves)
+    kept_each (λ (choice : Weighed). 0 < choice.0) (weight_of move) move (weighed weight_of moves) (λ k. omega arith)
+    (weighed_above weight_of moves)
 
 or_first_weight : (value : Weighed → Fraction) (picked : List Weighed) (move : Move) (moves : List Move)
     → AllByRecursion (λ (choice : Weighed). 0 < choice.0) picked

@@ -4,7 +4,8 @@ use Rattle.std.specs.Prelude.{AllPairs, Contains, filter, ◌≢◌}
 use Rattle.std.specs.List.{AllByRecursion, flat_map}
 use Rattle.std.proofs.lemmas.List.Elements.{All-from_recursion}
 use Rattle.std.proofs.lemmas.List.Kept.{AllPairs-cons}
-use Rattle.suit_game.proofs.EachElement.{Contains-first, Contains-later, each_append, each_at, each_filter, each_gives, each_in, each_map}
+use Rattle.suit_game.proofs.EachElement.{Contains-first, Contains-later, each_append, each_at, each_filter, each_gives}
+use Rattle.suit_game.proofs.EachElement.{each_in, each_map}
 
 -- no element comes twice
 unfoldable pub IsOnce : {X : Type 0} → List X → Type 0

@@ -12,7 +12,8 @@ use Rattle.suit_game.specs.declared.moves.Move.{Move}
 use Rattle.suit_game.specs.declared.moves.Move.TheVariants.{Lead, Follow}
 use Rattle.suit_game.specs.Histories.{History}
 use Rattle.suit_game.specs.PlaceViews.{IsPlay}
-use Rattle.suit_game.specs.Positions.{Position, Trick, Closed, Open, dealt, follows_of, legal, legal_in, legal_at, may_lead_n, may_lead_s, without, after}
+use Rattle.suit_game.specs.Positions.{Position, Trick, Closed, Open, dealt, follows_of, legal, legal_in, legal_at}
+use Rattle.suit_game.specs.Positions.{may_lead_n, may_lead_s, without, after}
 use Rattle.suit_game.proofs.DistinctElements.{IsOnce, once_append, once_map}
 use Rattle.suit_game.proofs.EachElement.{each_of, each_map}
 use Rattle.suit_game.proofs.LayoutCards.{dealt-falls, layouts_are_deals}

@@ -1,9 +1,11 @@
 -- What is in a list, and what holds of each element of one.
-use Rattle.std.proofs.Common.{◌≡◌, ℕ, zero, suc, ◌+◌, ◌≤◌, ◌<◌, ◌⊎◌, Bool, true, false, cond, List, [], ◌∷◌, ◌++◌, map, refl, sym, ap, ◌∙◌, subst, inl, inr, arith}
+use Rattle.std.proofs.Common.{◌≡◌, ℕ, zero, suc, ◌+◌, ◌≤◌, ◌<◌, ◌⊎◌, Bool, true, false, cond, List, [], ◌∷◌, ◌++◌, map}
+use Rattle.std.proofs.Common.{refl, sym, ap, ◌∙◌, subst, inl, inr, arith}
 use Rattle.std.specs.Prelude.{Contains}
 use Rattle.std.specs.List.{AllByRecursion, filter, flat_map, range_with_len}
 use Rattle.std.proofs.lemmas.Bool.{cases_eq}
-use Rattle.std.proofs.lemmas.List.Elements.{All-contains, All-contains_itself, All-filter, All-from_recursion, Contains-append_left, Contains-append_right, recursion_from_All}
+use Rattle.std.proofs.lemmas.List.Elements.{All-contains, All-contains_itself, All-filter, All-from_recursion}
+use Rattle.std.proofs.lemmas.List.Elements.{Contains-append_left, Contains-append_right, recursion_from_All}
 
 -- an element of a list with a first one is the first, or one of the others
 pub Contains-cons_cases : {X : Type 0} (x : X) (xs : List X) (y : X) → Contains (x ∷ xs) y → (x ≡ y) ⊎ Contains xs y
@@ -22,7 +24,8 @@ pub Contains-later : {X : Type 0} (x : X) (xs : List X) (y : X) → Contains xs 
 Contains-later x xs y (k, below, is) = (suc k, omega arith, is)
 
 -- what a function makes of a list comes of its elements
-pub Contains-map_from : {X Y : Type 0} (f : X → Y) (xs : List X) (y : Y) → Contains (map f xs) y → (x : X) × Contains xs x × (f x ≡ y)
+pub Contains-map_from : {X Y : Type 0} (f : X → Y) (xs : List X) (y : Y) → Contains (map f xs) y → (x : X)
+    × Contains xs x × (f x ≡ y)
 Contains-map_from f [] y found = absurd (Contains-nil y found)
 Contains-map_from f (x ∷ xs) y found = elim (Contains-cons_cases (f x) (map f xs) y found) [
   | inl here ↦ (x, Contains-first x xs, here)
@@ -51,7 +54,8 @@ each_of P [] all = tt
 each_of P (x ∷ xs) all = (all x, each_of P xs all)
 
 -- what follows from what holds of each element
-pub each_gives : {X : Type 0} (P Q : X → Type 0) (xs : List X) → ((x : X) → P x → Q x) → AllByRecursion P xs → AllByRecursion Q xs
+pub each_gives : {X : Type 0} (P Q : X → Type 0) (xs : List X) → ((x : X) → P x → Q x) → AllByRecursion P xs
+    → AllByRecursion Q xs
 each_gives P Q [] gives each = tt
 each_gives P Q (x ∷ xs) gives each = (gives x each.0, each_gives P Q xs gives each.1)
 
@@ -60,17 +64,20 @@ pub each_in : {X : Type 0} (P : X → Type 0) (xs : List X) → ((x : X) → Con
 each_in P xs all = each_gives (Contains xs) P xs all (each_contained xs)
 
 -- each element that a map gives
-pub each_map : {X Y : Type 0} (P : Y → Type 0) (f : X → Y) (xs : List X) → AllByRecursion (λ x. P (f x)) xs → AllByRecursion P (map f xs)
+pub each_map : {X Y : Type 0} (P : Y → Type 0) (f : X → Y) (xs : List X) → AllByRecursion (λ x. P (f x)) xs
+    → AllByRecursion P (map f xs)
 each_map P f [] each = tt
 each_map P f (x ∷ xs) each = (each.0, each_map P f xs each.1)
 
 -- each element of two lists
-pub each_append : {X : Type 0} (P : X → Type 0) (xs ys : List X) → AllByRecursion P xs → AllByRecursion P ys → AllByRecursion P (xs ++ ys)
+pub each_append : {X : Type 0} (P : X → Type 0) (xs ys : List X) → AllByRecursion P xs → AllByRecursion P ys
+    → AllByRecursion P (xs ++ ys)
 each_append P [] ys each other = other
 each_append P (x ∷ xs) ys each other = (each.0, each_append P xs ys each.1 other)
 
 -- each element that a filter keeps
-pub each_filter : {X : Type 0} (P : X → Type 0) (test : X → Bool) (xs : List X) → AllByRecursion P xs → AllByRecursion P (filter test xs)
+pub each_filter : {X : Type 0} (P : X → Type 0) (test : X → Bool) (xs : List X) → AllByRecursion P xs
+    → AllByRecursion P (filter test xs)
 each_filter P test xs each = recursion_from_All P (filter test xs) (All-filter test P xs (All-from_recursion P xs each))
 
 -- what a function makes of an element is among what it makes of the list
@@ -82,16 +89,20 @@ Contains-map {Y = Y} f (y ∷ ys) x found = elim (Contains-cons_cases y ys x fou
 ]
 
 -- what stands in a piece stands in all pieces joined
-pub Contains-flat_map : {X Y : Type 0} (f : X → List Y) (xs : List X) (x : X) (y : Y) → Contains xs x → Contains (f x) y → Contains (flat_map f xs) y
+pub Contains-flat_map : {X Y : Type 0} (f : X → List Y) (xs : List X) (x : X) (y : Y) → Contains xs x → Contains (f x) y
+    → Contains (flat_map f xs) y
 Contains-flat_map f [] x y found within = absurd (Contains-nil x found)
 Contains-flat_map {X} f (first ∷ others) x y found within = elim (Contains-cons_cases first others x found) [
-  | inl here ↦ Contains-append_left (f first) (flat_map f others) y (subst (λ (z : X). Contains (f z) y) (sym here) within)
+  | inl here ↦ Contains-append_left (f first) (flat_map f others) y
+      (subst (λ (z : X). Contains (f z) y) (sym here) within)
   | inr there ↦ Contains-append_right (f first) (flat_map f others) y (Contains-flat_map f others x y there within)
 ]
 
 -- an element that passes is kept, whatever becomes of the one before it
-Contains-kept : {X : Type 0} (test : X → Bool) (x : X) (xs : List X) (passes : Bool) → test x ≡ passes → (y : X) → test y ≡ true
-    → Contains (x ∷ xs) y → (Contains xs y → Contains (filter test xs) y) → Contains (cond passes (x ∷ filter test xs) (filter test xs)) y
+Contains-kept : {X : Type 0} (test : X → Bool) (x : X) (xs : List X) (passes : Bool) → test x ≡ passes → (y : X)
+    → test y ≡ true
+    → Contains (x ∷ xs) y → (Contains xs y → Contains (filter test xs) y)
+    → Contains (cond passes (x ∷ filter test xs) (filter test xs)) y
 Contains-kept test x xs true is y passes found others = elim (Contains-cons_cases x xs y found) [
   | inl here ↦ subst (λ (z : _). Contains (x ∷ filter test xs) z) here (Contains-first x (filter test xs))
   | inr there ↦ Contains-later x (filter test xs) y (others there)
@@ -102,7 +113,8 @@ Contains-kept test x xs false is y passes found others = elim (Contains-cons_cas
 ]
 
 -- an element that passes is kept by a filter
-pub Contains-filter : {X : Type 0} (test : X → Bool) (xs : List X) (y : X) → Contains xs y → test y ≡ true → Contains (filter test xs) y
+pub Contains-filter : {X : Type 0} (test : X → Bool) (xs : List X) (y : X) → Contains xs y → test y ≡ true
+    → Contains (filter test xs) y
 Contains-filter test [] y found passes = found
 Contains-filter test (x ∷ xs) y found passes =
     Contains-kept test x xs (test x) refl y passes found (λ there. Contains-filter test xs y there passes)
@@ -111,6 +123,8 @@ Contains-filter test (x ∷ xs) y found passes =
 pub Contains-range : (a n count : ℕ) → a ≤ count → count < a + n → Contains (range_with_len a n) count
 Contains-range a zero count from below = absurd (omega arith)
 Contains-range a (suc n) count from below = elim (cases_eq a count) [
-  | inl here ↦ subst (λ (k : ℕ). Contains (range_with_len a (suc n)) k) here (Contains-first a (range_with_len (a + 1) n))
-  | inr other ↦ Contains-later a (range_with_len (a + 1) n) count (Contains-range (a + 1) n count (omega arith) (omega arith))
+  | inl here ↦ subst (λ (k : ℕ). Contains (range_with_len a (suc n)) k) here
+      (Contains-first a (range_with_len (a + 1) n))
+  | inr other ↦ Contains-later a (range_with_len (a + 1) n) count
+      (Contains-range (a + 1) n count (omega arith) (omega arith))
 ]

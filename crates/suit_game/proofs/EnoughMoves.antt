@@ -1,5 +1,6 @@
 -- Pay does not depend on how many moves are asked for, once they suffice.
-use Rattle.std.proofs.Common.{◌≡◌, ℕ, zero, suc, ◌+◌, ◌*◌, ◌≤◌, true, false, List, [], ◌∷◌, ◌++◌, refl, sym, ap, ◌∙◌, arith, IsTrue}
+use Rattle.std.proofs.Common.{◌≡◌, ℕ, zero, suc, ◌+◌, ◌*◌, ◌≤◌, true, false, List, [], ◌∷◌, ◌++◌, refl, sym, ap, ◌∙◌}
+use Rattle.std.proofs.Common.{arith, IsTrue}
 use Rattle.std.specs.Prelude.{map, not, Contains, if◌then◌else◌}
 use Rattle.std.specs.List.{list_any}
 use Rattle.std.proofs.lemmas.List.{nil_from_length}
@@ -10,7 +11,8 @@ use Rattle.suit_game.specs.declared.moves.Move.{Move}
 use Rattle.suit_game.specs.Fractions.{Fraction, whole, mean}
 use Rattle.suit_game.specs.Gains.{is_declarer_turn, played, pay_within, pay}
 use Rattle.suit_game.specs.Lengths.{cards_left, seats_left, room}
-use Rattle.suit_game.specs.Positions.{Position, Trick, Closed, Open, is_empty, after, legal, ended_in, has_ended, payoff, IsLegal, declarer_hand}
+use Rattle.suit_game.specs.Positions.{Position, Trick, Closed, Open, is_empty, after, legal, ended_in, has_ended}
+use Rattle.suit_game.specs.Positions.{payoff, IsLegal, declarer_hand}
 use Rattle.suit_game.specs.Strategies.{Way, DefenceWay, Weighed}
 use Rattle.suit_game.proofs.ChosenMoves.{chosen_from}
 use Rattle.suit_game.proofs.EachElement.{map_same}

@@ -1,5 +1,6 @@
 -- How much all layouts weigh together.
-use Rattle.std.proofs.Common.{◌≡◌, ℕ, zero, suc, ◌+◌, ◌-◌, ◌*◌, ◌^◌, ◌≤◌, Bool, true, false, List, [], ◌∷◌, length, refl, sym, ap, ◌∙◌, inl, inr, arith}
+use Rattle.std.proofs.Common.{◌≡◌, ℕ, zero, suc, ◌+◌, ◌-◌, ◌*◌, ◌^◌, ◌≤◌, Bool, true, false, List, [], ◌∷◌, length}
+use Rattle.std.proofs.Common.{refl, sym, ap, ◌∙◌, inl, inr, arith}
 use Rattle.std.specs.Prelude.{nat_le, if◌then◌else◌}
 use Rattle.std.specs.List.{sum_by, range_with_len}
 use Rattle.std.proofs.lemmas.Bool.{cases_lt, le-leb, lt-leb}
@@ -43,10 +44,12 @@ fill-next others whole count = elim (cases_lt whole count) [
 
 -- by Pascal: the first card is one of the whole or not
 pub choices_filled : (cards : List ℕ) (others whole : ℕ)
-    → sum_by (λ taken. if nat_le (length taken) whole then binomial others (whole - length taken) else 0) (choices_of cards)
+    → sum_by (λ taken. if nat_le (length taken) whole then binomial others (whole - length taken)
+    else 0) (choices_of cards)
     ≡ binomial (others + length cards) whole
 unfolding choices_of
-choices_filled [] others whole = let all : others + 0 ≡ others = omega arith in rw all (omega (arith, fill-none others whole))
+choices_filled [] others whole = let all : others + 0 ≡ others = omega arith in
+    rw all (omega (arith, fill-none others whole))
 choices_filled (card ∷ cards) others zero =
     omega (
       arith,
@@ -54,7 +57,8 @@ choices_filled (card ∷ cards) others zero =
       choices_filled cards others 0,
       binomial-none (others + length cards),
       binomial-none (others + suc (length cards)),
-      sum_by_none (λ (taken : List ℕ). fill others 0 (suc (length taken))) (choices_of cards) (λ taken. fill-past others (length taken)),
+      sum_by_none (λ (taken : List ℕ). fill others 0 (suc (length taken))) (choices_of cards)
+          (λ taken. fill-past others (length taken)),
     )
 choices_filled (card ∷ cards) others (suc whole) =
     let more : others + suc (length cards) ≡ suc (others + length cards) = omega arith in
@@ -64,25 +68,30 @@ choices_filled (card ∷ cards) others (suc whole) =
       choices_filled cards others whole,
       choices_filled cards others (suc whole),
       pascal (others + length cards) whole,
-      sum_by_same (λ (taken : List ℕ). fill others (suc whole) (suc (length taken))) (λ (taken : List ℕ). fill others whole (length taken)) (choices_of cards)
+      sum_by_same (λ (taken : List ℕ). fill others (suc whole) (suc (length taken)))
+          (λ (taken : List ℕ). fill others whole (length taken)) (choices_of cards)
           (λ taken. fill-next others whole (length taken)),
     ))
 
 -- the total, over the choices
-total_of_choices : (question : Question) → total question ≡ sum_by (λ west. weight_in_range question (length west)) (choices_of (missing question))
+total_of_choices : (question : Question)
+    → total question ≡ sum_by (λ west. weight_in_range question (length west)) (choices_of (missing question))
 unfolding layouts
 total_of_choices question =
-    sum_by_filter (λ (west : List ℕ). is_west_length question (length west)) (λ (west : List ℕ). weight question (length west)) (choices_of (missing question))
+    sum_by_filter (λ (west : List ℕ). is_west_length question (length west))
+    (λ (west : List ℕ). weight question (length west)) (choices_of (missing question))
 
 -- the total, over West's lengths
 pub total_by_length : (question : Question)
     → total question
-    ≡ sum_by (λ count. binomial (length (missing question)) count * weight_in_range question count) (range_with_len 0 (length (missing question) + 1))
+    ≡ sum_by (λ count. binomial (length (missing question)) count * weight_in_range question count)
+    (range_with_len 0 (length (missing question) + 1))
 total_by_length question = total_of_choices question ∙ choices_summed (weight_in_range question) (missing question)
 
 -- without a range, the weights of all choices are all the ways to choose West's places
 all_weights : (question : Question) → length (missing question) ≤ question.vacant_w + question.vacant_e
-    → sum_by (λ west. weight question (length west)) (choices_of (missing question)) ≡ binomial (question.vacant_w + question.vacant_e) question.vacant_w
+    → sum_by (λ west. weight question (length west)) (choices_of (missing question))
+    ≡ binomial (question.vacant_w + question.vacant_e) question.vacant_w
 all_weights question fits =
     let m = length (missing question) in
     let places : question.vacant_w + question.vacant_e - m + m ≡ question.vacant_w + question.vacant_e = omega arith in
@@ -94,20 +103,26 @@ in_range true n = omega arith
 in_range false n = omega arith
 
 -- a range only leaves some out
-total_le_all : (question : Question) → total question ≤ sum_by (λ west. weight question (length west)) (choices_of (missing question))
+total_le_all : (question : Question)
+    → total question ≤ sum_by (λ west. weight question (length west)) (choices_of (missing question))
 total_le_all question =
     omega (
       arith,
       total_of_choices question,
-      sum_by-le-sum_by (λ (west : List ℕ). weight_in_range question (length west)) (λ (west : List ℕ). weight question (length west)) (choices_of (missing question))
+      sum_by-le-sum_by (λ (west : List ℕ). weight_in_range question (length west))
+          (λ (west : List ℕ). weight question (length west)) (choices_of (missing question))
           (λ west. in_range (is_west_length question (length west)) (weight question (length west))),
     )
 
 -- a length is within the range, or more than are missing
-term_within : (question : Question) (count : ℕ) → question.west_least ≡ 0 → length (missing question) ≤ question.west_most
-    → binomial (length (missing question)) count * weight_in_range question count ≡ binomial (length (missing question)) count * weight question count
+term_within : (question : Question) (count : ℕ) → question.west_least ≡ 0
+    → length (missing question) ≤ question.west_most
+    → binomial (length (missing question)) count * weight_in_range question count
+    ≡ binomial (length (missing question)) count * weight question count
 term_within question count least most = elim (cases_lt (length (missing question)) count) [
-  | inl past ↦ let none : binomial (length (missing question)) count ≡ 0 = binomial_past (length (missing question)) count past in rw none (omega arith)
+  | inl past ↦ let none : binomial (length (missing question)) count ≡ 0 =
+      binomial_past (length (missing question)) count past in
+      rw none (omega arith)
   | inr few ↦
       let low : nat_le question.west_least count ≡ true = le-leb question.west_least count (omega arith) in
       let high : nat_le count question.west_most ≡ true = le-leb count question.west_most (omega arith) in
@@ -120,7 +135,8 @@ pub total_of_all : (question : Question) → length (missing question) ≤ quest
 total_of_all question fits least most =
     let m = length (missing question) in
     total_by_length question
-    ∙ sum_by_same (λ (count : ℕ). binomial m count * weight_in_range question count) (λ (count : ℕ). binomial m count * weight question count)
+    ∙ sum_by_same (λ (count : ℕ). binomial m count * weight_in_range question count)
+    (λ (count : ℕ). binomial m count * weight question count)
     (range_with_len 0 (m + 1)) (λ count. term_within question count least most)
     ∙ sym (choices_summed (weight question) (missing question))
     ∙ all_weights question fits
@@ -160,7 +176,12 @@ places_le a b few_w few_e =
 
 pub total_at_most : (question : Question) → IsValid question → total question ≤ 10400600
 total_at_most question valid =
-    omega (arith, total_le_all question, all_weights question valid.places, places_le question.vacant_w question.vacant_e valid.vacant_w valid.vacant_e)
+    omega (
+      arith,
+      total_le_all question,
+      all_weights question valid.places,
+      places_le question.vacant_w question.vacant_e valid.vacant_w valid.vacant_e,
+    )
 
 -- what the total is computed with: the places are few enough for 64 bits
 pub weight-small : (question : Question) (count : ℕ) → HasPlaces question → weight_in_range question count ≤ 2 ^ 26
@@ -189,7 +210,8 @@ term-small question cards count ways deals few places is_ways is_deals =
 pub total_more : (question : Question) (cards count sum ways deals : ℕ)
     → sum ≡ sum_by (λ length. binomial cards length * weight_in_range question length) (range_with_len 0 count)
     → ways ≡ binomial cards count → deals ≡ weight_in_range question count
-    → sum + ways * deals ≡ sum_by (λ length. binomial cards length * weight_in_range question length) (range_with_len 0 (count + 1))
+    → sum + ways * deals ≡ sum_by (λ length. binomial cards length * weight_in_range question length)
+    (range_with_len 0 (count + 1))
 total_more question cards count sum ways deals so_far is_ways is_deals =
     let next : count + 1 ≡ suc count = omega arith in
     let place : 0 + count ≡ count = omega arith in

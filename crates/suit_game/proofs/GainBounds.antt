@@ -29,10 +29,16 @@ payoff-grows (AtLeast least) fewer more order =
 -- what holds of the pay under each layout holds of each item of the gain
 each_pay : (Good : Fraction → Type 0) (question : Question) (declarer : Way) (defence : DefenceWay)
     → ((west : List ℕ) → IsPart 15 (missing question) west → Good (pay question declarer defence west []))
-    → AllByRecursion (λ (item : ℕ × Fraction). Good item.1) (map (λ (west : List ℕ). (weight question (length west), pay question declarer defence west [])) (layouts question))
+    → AllByRecursion (λ (item : ℕ × Fraction). Good item.1)
+    (map (λ (west : List ℕ). (weight question (length west), pay question declarer defence west []))
+    (layouts question))
 each_pay Good question declarer defence each =
-    each_map (λ (item : ℕ × Fraction). Good item.1) (λ (west : List ℕ). (weight question (length west), pay question declarer defence west [])) (layouts question)
-    (each_gives (IsPart 15 (missing question)) (λ (west : List ℕ). Good (pay question declarer defence west [])) (layouts question)
+    each_map (λ (item : ℕ × Fraction). Good item.1) (λ (west : List ℕ). (
+      weight question (length west),
+      pay question declarer defence west [],
+    )) (layouts question)
+    (each_gives (IsPart 15 (missing question)) (λ (west : List ℕ). Good (pay question declarer defence west []))
+    (layouts question)
     each (layouts-parts question))
 
 -- a bound for the pays under all layouts is one for the gain

@@ -8,7 +8,8 @@ use Rattle.suit_game.specs.declared.moves.Move.TheVariants.{Lead, Follow, ShowOu
 use Rattle.std.proofs.lemmas.List.Sums.{fold_push}
 use Rattle.suit_game.specs.declared.question.Question.{Question}
 use Rattle.suit_game.specs.declared.moves.Move.{Move}
-use Rattle.suit_game.specs.Positions.{Position, without, may_lead_n, may_lead_s, leads_at, follows_of, start_place, step, after, legal, LegalFrom, IsLegal, declarer_hand}
+use Rattle.suit_game.specs.Positions.{Position, without, may_lead_n, may_lead_s, leads_at, follows_of, start_place}
+use Rattle.suit_game.specs.Positions.{step, after, legal, LegalFrom, IsLegal, declarer_hand}
 use Rattle.suit_game.proofs.EachElement.{Contains-cons_cases, Contains-map_from, Contains-nil}
 use Rattle.suit_game.specs.Histories.{History}
 

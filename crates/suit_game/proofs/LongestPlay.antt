@@ -1,5 +1,6 @@
 -- How many moves a history can have.
-use Rattle.std.proofs.Common.{◌≡◌, ℕ, suc, ◌+◌, ◌*◌, ◌≤◌, Bool, true, false, cond, List, [], ◌∷◌, length, refl, ap, subst, arith, IsTrue}
+use Rattle.std.proofs.Common.{◌≡◌, ℕ, suc, ◌+◌, ◌*◌, ◌≤◌, Bool, true, false, cond, List, [], ◌∷◌, length, refl, ap}
+use Rattle.std.proofs.Common.{subst, arith, IsTrue}
 use Rattle.std.specs.Prelude.{not, filter, fold}
 use Rattle.std.specs.List.{list_any}
 use Rattle.suit_cards.specs.Holdings.{IsHolding, holds, suit}
@@ -13,19 +14,30 @@ use Rattle.suit_game.proofs.HeldCards.{without-none}
 use Rattle.suit_game.proofs.Room.{room_falls}
 
 -- play on from a position uses up room, a move each
-uses_room : (question : Question) (west : List ℕ) (place : Position) (moves : List Move) → LegalFrom question west place moves
+uses_room : (question : Question) (west : List ℕ) (place : Position) (moves : List Move)
+    → LegalFrom question west place moves
     → length moves + room question (fold (step question) place moves) ≤ room question place
 unfolding LegalFrom
 uses_room question west place [] legal = omega arith
 uses_room question west place (move ∷ moves) legal =
-    omega (arith, room_falls question west place move legal.0, uses_room question west (step question place move) moves legal.1)
+    omega (
+      arith,
+      room_falls question west place move legal.0,
+      uses_room question west (step question place move) moves legal.1,
+    )
 
 pub histories_use_room : (question : Question) (west : List ℕ) (history : List Move) → IsLegal question west history
     → length history + room question (after question history) ≤ 4 * (length question.north + length question.south)
 histories_use_room question west history legal =
-    omega (arith, uses_room question west (start_place question) history legal, ap length (without-none question.north), ap length (without-none question.south))
+    omega (
+      arith,
+      uses_room question west (start_place question) history legal,
+      ap length (without-none question.north),
+      ap length (without-none question.south),
+    )
 
-count_apart : (p q : Bool) (m n k : ℕ) → (p ≡ true → q ≡ true → ⊥) → m + n ≤ k → cond p (suc m) m + cond q (suc n) n ≤ suc k
+count_apart : (p q : Bool) (m n k : ℕ) → (p ≡ true → q ≡ true → ⊥) → m + n ≤ k
+    → cond p (suc m) m + cond q (suc n) n ≤ suc k
 count_apart true true m n k apart fits = absurd (apart refl refl)
 count_apart true false m n k apart fits = omega arith
 count_apart false true m n k apart fits = omega arith
@@ -44,24 +56,28 @@ apart_fit here there (card ∷ cards) apart =
       arith,
       length_if (here card) card (filter here cards),
       length_if (there card) card (filter there cards),
-      count_apart (here card) (there card) (length (filter here cards)) (length (filter there cards)) (length cards) (apart card) (apart_fit here there cards apart),
+      count_apart (here card) (there card) (length (filter here cards)) (length (filter there cards)) (length cards)
+          (apart card) (apart_fit here there cards apart),
     )
 
 -- a card of both hands is shared
-shared_card : (here there : List ℕ) (card : ℕ) → holds here card ≡ true → holds there card ≡ true → list_any (holds there) here ≡ true
+shared_card : (here there : List ℕ) (card : ℕ) → holds here card ≡ true → holds there card ≡ true
+    → list_any (holds there) here ≡ true
 shared_card here there card in_here in_there =
     let stands = (holds_tells here card).0 in_here in
     (shares_tells here there).1 (stands.0, card, stands.1, stands.2, (holds_tells there card).0 in_there)
 
 -- no card of one hand is in the other
-pub none_shared : (here there : List ℕ) → IsTrue (not (list_any (holds there) here)) → (card : ℕ) → holds here card ≡ true → holds there card ≡ true → ⊥
+pub none_shared : (here there : List ℕ) → IsTrue (not (list_any (holds there) here)) → (card : ℕ)
+    → holds here card ≡ true → holds there card ≡ true → ⊥
 none_shared here there apart card in_here in_there =
     let shared = shared_card here there card in_here in_there in
     let contrary : IsTrue (not true) = subst (λ (b : Bool). IsTrue (not b)) shared apart in
     cc
 
 -- two hands that share no card have thirteen at most
-pub holdings_fit : (north south : List ℕ) → IsHolding north → IsHolding south → IsTrue (not (list_any (holds south) north))
+pub holdings_fit : (north south : List ℕ) → IsHolding north → IsHolding south
+    → IsTrue (not (list_any (holds south) north))
     → length north + length south ≤ 13
 unfolding suit
 holdings_fit north south is_north is_south apart =
@@ -73,7 +89,12 @@ holdings_fit north south is_north is_south apart =
     )
 
 pub histories_are_short : (question : Question) (west : List ℕ) (history : List Move)
-    → IsHolding question.north → IsHolding question.south → IsTrue (not (list_any (holds question.south) question.north))
+    → IsHolding question.north → IsHolding question.south
+    → IsTrue (not (list_any (holds question.south) question.north))
     → IsLegal question west history → length history ≤ 52
 histories_are_short question west history north south apart legal =
-    omega (arith, histories_use_room question west history legal, holdings_fit question.north question.south north south apart)
+    omega (
+      arith,
+      histories_use_room question west history legal,
+      holdings_fit question.north question.south north south apart,
+    )

@@ -1,6 +1,7 @@
 -- With one card at most in each hand of declarer, the value is the payoff of the sure trick: declarer earns it, and the
 -- defenders hold to it.
-use Rattle.std.proofs.Common.{◌≡◌, ℕ, ◌<◌, ◌≤◌, Bool, true, false, cond, not, ◌&&◌, ◌||◌, List, [], ◌∷◌, length, refl, sym, ◌∙◌, ◌⊎◌, inl, inr, arith}
+use Rattle.std.proofs.Common.{◌≡◌, ℕ, ◌<◌, ◌≤◌, Bool, true, false, cond, not, ◌&&◌, ◌||◌, List, [], ◌∷◌, length, refl}
+use Rattle.std.proofs.Common.{sym, ◌∙◌, ◌⊎◌, inl, inr, arith}
 use Rattle.std.proofs.lemmas.Bool.{true≢false, cases_Bool, or_cases, or_parts, cases_eq, false_from_ne_true}
 use Rattle.suit_cards.specs.declared.seats.Seat.{Seat}
 use Rattle.suit_cards.specs.declared.seats.Seat.TheVariants.{N, E, S, W}
@@ -63,7 +64,8 @@ ace_stands : (firsts : Bool) (Fine : ℕ → Type 0) (question : Question) (west
     → holds (dealt question west other) 14 ≡ false)
     → comes leader 3 across ≡ true
     → Stand firsts Fine question west leader 3 (card ∷ []) leader card
-ace_stands firsts Fine question west leader across card fine_leader fine_across one_leader one_across low held ace others later =
+ace_stands firsts Fine question west leader across card fine_leader fine_across one_leader one_across low held ace
+    others later =
     elim (cases_eq card 14) [
       | inl same ↦ Taken fine_leader (omega arith)
       | inr differs ↦

@@ -17,7 +17,8 @@ use Rattle.suit_game.proofs.LongestPlay.{none_shared}
 -- a hand has played a card that it had, or had none and has shown out
 abbrev pub PlaysOwn : (cards gone later : List ℕ) → Type 0
 PlaysOwn cards gone later =
-    ((card : ℕ) × Contains (without cards gone) card × (later ≡ card ∷ gone)) ⊎ ((without cards gone ≡ []) × (later ≡ gone))
+    ((card : ℕ) × Contains (without cards gone) card × (later ≡ card ∷ gone))
+    ⊎ ((without cards gone ≡ []) × (later ≡ gone))
 
 -- the hand that plays has one card fewer, or still none
 one_fewer : (cards gone later : List ℕ) → IsHolding cards → PlaysOwn cards gone later
@@ -29,7 +30,8 @@ one_fewer cards gone later holding plays = elim plays [
   | inr none ↦ omega (arith, ap length none.0, ap (λ (l : List ℕ). length (without cards l)) none.1)
 ]
 
-kept_cards : (cards other gone later : List ℕ) → ((card : ℕ) → holds other card ≡ true → holds cards card ≡ true → ⊥) → PlaysOwn other gone later
+kept_cards : (cards other gone later : List ℕ) → ((card : ℕ) → holds other card ≡ true → holds cards card ≡ true → ⊥)
+    → PlaysOwn other gone later
     → length (without cards later) ≡ length (without cards gone)
 kept_cards cards other gone later apart plays = elim plays [
   | inl card ↦
@@ -40,7 +42,8 @@ kept_cards cards other gone later apart plays = elim plays [
 ]
 
 -- a hand that shares no card with the one that plays keeps its cards
-none_fewer : (cards other gone later : List ℕ) → ((card : ℕ) → holds other card ≡ true → holds cards card ≡ true → ⊥) → PlaysOwn other gone later
+none_fewer : (cards other gone later : List ℕ) → ((card : ℕ) → holds other card ≡ true → holds cards card ≡ true → ⊥)
+    → PlaysOwn other gone later
     → length (without cards later) ≡ length (without cards gone) - 0
 none_fewer cards other gone later apart plays = omega (arith, kept_cards cards other gone later apart plays)
 
@@ -58,7 +61,8 @@ taken_s S = 1
 taken_s W = 0
 
 -- as a seat plays, North has a card fewer where it was North
-pub left_n : (question : Question) (west gone later : List ℕ) (seat : Seat) → IsDeal question west → PlaysOwn (dealt question west seat) gone later
+pub left_n : (question : Question) (west gone later : List ℕ) (seat : Seat) → IsDeal question west
+    → PlaysOwn (dealt question west seat) gone later
     → length (without question.north later) ≡ length (without question.north gone) - taken_n seat
 left_n question west gone later N deal plays = one_fewer question.north gone later deal.north plays
 left_n question west gone later E deal plays =
@@ -68,10 +72,12 @@ left_n question west gone later S deal plays =
     none_fewer question.north question.south gone later
     (λ card in_south in_north. none_shared question.north question.south deal.apart card in_north in_south) plays
 left_n question west gone later W deal plays =
-    none_fewer question.north west gone later (λ card held. (missing-apart question card (deal.defenders card held)).0) plays
+    none_fewer question.north west gone later (λ card held. (missing-apart question card (deal.defenders card held)).0)
+    plays
 
 -- as a seat plays, South has a card fewer where it was South
-pub left_s : (question : Question) (west gone later : List ℕ) (seat : Seat) → IsDeal question west → PlaysOwn (dealt question west seat) gone later
+pub left_s : (question : Question) (west gone later : List ℕ) (seat : Seat) → IsDeal question west
+    → PlaysOwn (dealt question west seat) gone later
     → length (without question.south later) ≡ length (without question.south gone) - taken_s seat
 left_s question west gone later N deal plays =
     none_fewer question.south question.north gone later (none_shared question.north question.south deal.apart) plays
@@ -80,4 +86,5 @@ left_s question west gone later E deal plays =
     (λ card held. (missing-apart question card (east-missing question west card held)).1) plays
 left_s question west gone later S deal plays = one_fewer question.south gone later deal.south plays
 left_s question west gone later W deal plays =
-    none_fewer question.south west gone later (λ card held. (missing-apart question card (deal.defenders card held)).1) plays
+    none_fewer question.south west gone later (λ card held. (missing-apart question card (deal.defenders card held)).1)
+    plays

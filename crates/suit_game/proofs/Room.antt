@@ -1,11 +1,13 @@
 -- Each legal move leaves less room for further ones.
-use Rattle.std.proofs.Common.{◌≡◌, ℕ, zero, suc, ◌+◌, ◌*◌, ◌<◌, ◌≤◌, Bool, true, false, List, ◌∷◌, refl, subst, inl, inr, arith}
+use Rattle.std.proofs.Common.{◌≡◌, ℕ, zero, suc, ◌+◌, ◌*◌, ◌<◌, ◌≤◌, Bool, true, false, List, ◌∷◌, refl, subst, inl}
+use Rattle.std.proofs.Common.{inr, arith}
 use Rattle.std.specs.Prelude.{Contains, nat_lt, if◌then◌else◌}
 use Rattle.suit_cards.specs.declared.seats.Seat.{Seat}
 use Rattle.suit_cards.specs.declared.seats.Seat.TheVariants.{N, E, S, W}
 use Rattle.suit_game.specs.declared.question.Question.{Question}
 use Rattle.suit_game.specs.declared.moves.Move.{Move}
-use Rattle.suit_game.specs.Positions.{Position, Trick, Closed, Open, legal_in, legal_at, step_in, step, led, followed, turn_passed, declarer_hand}
+use Rattle.suit_game.specs.Positions.{Position, Trick, Closed, Open, legal_in, legal_at, step_in, step, led, followed}
+use Rattle.suit_game.specs.Positions.{turn_passed, declarer_hand}
 use Rattle.suit_game.specs.Lengths.{cards_left, seats_left, room}
 use Rattle.suit_game.proofs.LegalPlays.{lead_cases, follow_or_show}
 use Rattle.suit_game.proofs.HeldCards.{length-without_more, length-without_less}
@@ -31,7 +33,11 @@ room_either question place turn after winner highest card false = room_passed qu
 cards_left_more : (question : Question) (place : Position) (card : ℕ)
     → cards_left question (record place { gone = card ∷ place.gone }) ≤ cards_left question place
 cards_left_more question place card =
-    omega (arith, length-without_more question.north place.gone card, length-without_more question.south place.gone card)
+    omega (
+      arith,
+      length-without_more question.north place.gone card,
+      length-without_more question.south place.gone card,
+    )
 
 room_follows : (question : Question) (place : Position) (turn : Seat) (after : ℕ) (winner : Seat) (highest card : ℕ)
     → room question (followed question place turn after winner highest card) < 4 * cards_left question place + suc after
@@ -46,12 +52,20 @@ room_follows question place turn after winner highest card =
 room_leads_n : (question : Question) (place : Position) (card : ℕ) → Contains (declarer_hand question place N) card
     → room question (led place N card) < 4 * cards_left question place + 0
 room_leads_n question place card held =
-    omega (arith, length-without_less question.north place.gone card held, length-without_more question.south place.gone card)
+    omega (
+      arith,
+      length-without_less question.north place.gone card held,
+      length-without_more question.south place.gone card,
+    )
 
 room_leads_s : (question : Question) (place : Position) (card : ℕ) → Contains (declarer_hand question place S) card
     → room question (led place S card) < 4 * cards_left question place + 0
 room_leads_s question place card held =
-    omega (arith, length-without_more question.north place.gone card, length-without_less question.south place.gone card held)
+    omega (
+      arith,
+      length-without_more question.north place.gone card,
+      length-without_less question.south place.gone card held,
+    )
 
 -- a legal move leaves less room, whatever the trick in progress is
 room_in : (question : Question) (west : List ℕ) (place : Position) (trick : Trick) (move : Move)

@@ -1,16 +1,20 @@
 -- What a place is seen as after each kind of move.
-use Rattle.std.proofs.Common.{◌≡◌, ℕ, suc, ◌<◌, ◌≤◌, Bool, true, false, cond, not, ◌||◌, nat_eq, List, [], ◌∷◌, ◌++◌, length, refl, sym, ap, ◌∙◌, subst, inl, inr, arith}
+use Rattle.std.proofs.Common.{◌≡◌, ℕ, suc, ◌<◌, ◌≤◌, Bool, true, false, cond, not, ◌||◌, nat_eq, List, [], ◌∷◌, ◌++◌}
+use Rattle.std.proofs.Common.{length, refl, sym, ap, ◌∙◌, subst, inl, inr, arith}
 use Rattle.std.specs.Prelude.{◌&&◌, Contains}
 use Rattle.std.specs.List.{filter}
 use Rattle.std.proofs.lemmas.Bool.{cases_eq, eq-eqb, ne_eqb}
 use Rattle.suit_cards.specs.declared.seats.Seat.{Seat}
 use Rattle.suit_cards.specs.Holdings.{IsHolding, holds, without_rank, others_of}
-use Rattle.suit_cards.proofs.HeldSuits.{same_holding, IsHolding-filter, IsHolding-others_of, holds-filter, holds-others_of}
+use Rattle.suit_cards.proofs.HeldSuits.{same_holding, IsHolding-filter, IsHolding-others_of, holds-filter}
+use Rattle.suit_cards.proofs.HeldSuits.{holds-others_of}
 use Rattle.suit_cards.proofs.SuitRuns.{filter-filter}
 use Rattle.suit_game.specs.declared.question.Question.{Question}
 use Rattle.suit_game.specs.declared.moves.Move.{Move}
 use Rattle.suit_game.specs.declared.moves.Move.TheVariants.{Lead, Follow, ShowOut}
-use Rattle.suit_game.specs.Positions.{Position, Trick, Closed, Open, without, hand, is_empty, leads_at, follows_of, legal, legal_in, LegalFrom, after, step, step_in, led, followed, turn_passed, start_place}
+use Rattle.suit_game.specs.Positions.{Position, Trick, Closed, Open, without, hand, is_empty, leads_at, follows_of}
+use Rattle.suit_game.specs.Positions.{legal, legal_in, LegalFrom, after, step, step_in, led, followed, turn_passed}
+use Rattle.suit_game.specs.Positions.{start_place}
 use Rattle.suit_game.specs.PlaceViews.{PlaceView, seen, with_gone, IsPlay, IsToFollow}
 use Rattle.suit_game.specs.Question.{missing}
 use Rattle.suit_game.specs.Layouts.{layouts}

@@ -1,5 +1,6 @@
 -- The trick in progress makes sense at each position that legal play comes to.
-use Rattle.std.proofs.Common.{◌≡◌, ℕ, zero, suc, ◌≤◌, Bool, true, false, List, [], ◌∷◌, refl, sym, subst, inl, inr, arith}
+use Rattle.std.proofs.Common.{◌≡◌, ℕ, zero, suc, ◌≤◌, Bool, true, false, List, [], ◌∷◌, refl, sym, subst, inl, inr}
+use Rattle.std.proofs.Common.{arith}
 use Rattle.std.specs.Prelude.{◌==◌, Contains, nat_lt, if◌then◌else◌}
 use Rattle.std.specs.List.{IsDistinct, AllByRecursion}
 use Rattle.std.proofs.lemmas.Bool.{or_parts}
@@ -12,7 +13,8 @@ use Rattle.suit_cards.proofs.HeldRanks.{holds_tells}
 use Rattle.suit_game.specs.declared.question.Question.{Question}
 use Rattle.suit_game.specs.declared.moves.Move.{Move}
 use Rattle.suit_game.specs.Gains.{is_declarer}
-use Rattle.suit_game.specs.Positions.{Position, Trick, Closed, Open, without, dealt, hand, legal_in, legal_at, step_in, step, turn_passed, ended_trick}
+use Rattle.suit_game.specs.Positions.{Position, Trick, Closed, Open, without, dealt, hand, legal_in, legal_at, step_in}
+use Rattle.suit_game.specs.Positions.{step, turn_passed, ended_trick}
 use Rattle.suit_game.specs.Reached.{is_to_play, IsOpen, IsTrickAt}
 use Rattle.suit_game.specs.Strategies.{same_seat}
 use Rattle.suit_game.proofs.EachElement.{Contains-cons_cases, Contains-first, Contains-later}
@@ -191,7 +193,8 @@ trick_in question west place (Open turn after winner highest) move is found =
       | inr none ↦ subst (λ (m : Move). IsTrickAt question west
           (step_in question place (Open turn after winner highest) m).gone
           (step_in question place (Open turn after winner highest) m).trick) none.1
-          (trick_passed question west place turn after winner highest is.after_most is.sides is.highest_gone is.highest_dealt
+          (trick_passed question west place turn after winner highest is.after_most is.sides is.highest_gone
+          is.highest_dealt
           (done_before turn after winner is.winner_played))
     ]
 

@@ -1,12 +1,14 @@
 -- What each legal move does to the trick in progress and to the hand that makes it.
-use Rattle.std.proofs.Common.{◌≡◌, ℕ, zero, suc, ◌+◌, ◌≤◌, ◌⊎◌, Bool, true, false, List, ◌∷◌, refl, sym, subst, inl, inr, arith}
+use Rattle.std.proofs.Common.{◌≡◌, ℕ, zero, suc, ◌+◌, ◌≤◌, ◌⊎◌, Bool, true, false, List, ◌∷◌, refl, sym, subst, inl}
+use Rattle.std.proofs.Common.{inr, arith}
 use Rattle.std.specs.Prelude.{Contains, nat_lt, if◌then◌else◌}
 use Rattle.suit_cards.specs.declared.seats.Seat.{Seat}
 use Rattle.suit_cards.specs.declared.seats.Seat.TheVariants.{N, E, S, W}
 use Rattle.suit_cards.specs.Seats.{clockwise}
 use Rattle.suit_game.specs.declared.question.Question.{Question}
 use Rattle.suit_game.specs.declared.moves.Move.{Move}
-use Rattle.suit_game.specs.Positions.{Position, Trick, Closed, Open, dealt, hand, legal_in, legal_at, step_in, step, followed, turn_passed, ended_trick}
+use Rattle.suit_game.specs.Positions.{Position, Trick, Closed, Open, dealt, hand, legal_in, legal_at, step_in, step}
+use Rattle.suit_game.specs.Positions.{followed, turn_passed, ended_trick}
 use Rattle.suit_game.proofs.OwnCards.{PlaysOwn}
 use Rattle.suit_game.proofs.LegalPlays.{lead_cases, follow_or_show}
 
@@ -106,10 +108,12 @@ over_in : (question : Question) (west : List ℕ) (place : Position) (turn winne
 unfolding legal_in step_in
 over_in question west place turn winner highest move found =
     elim (follow_or_show (hand question west place turn) move found) [
-      | inl card ↦ subst (λ (m : Move). IsTrickOver place (step_in question place (Open turn zero winner highest) m)) card.2
+      | inl card ↦ subst (λ (m : Move). IsTrickOver place (step_in question place (Open turn zero winner highest) m))
+          card.2
           (over_either question (record place { gone = card.0 ∷ place.gone }) turn winner highest card.0
           (nat_lt highest card.0))
-      | inr none ↦ subst (λ (m : Move). IsTrickOver place (step_in question place (Open turn zero winner highest) m)) none.1
+      | inr none ↦ subst (λ (m : Move). IsTrickOver place (step_in question place (Open turn zero winner highest) m))
+          none.1
           (over_ended question place winner)
     ]
 

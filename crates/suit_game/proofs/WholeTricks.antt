@@ -71,7 +71,8 @@ whole_trick question west place first second third fourth deal is legal_1 legal_
     elim (lead_opens question west place first is legal_1) [
       | inl north ↦
           let follows =
-          three_follow question west (step question place first) E second third fourth deal north.1.0 legal_2 legal_3 legal_4 in
+          three_follow question west (step question place first) E second third fourth deal north.1.0 legal_2 legal_3
+          legal_4 in
           let led_n = left_n question west place.gone (step question place first).gone N deal north.0 in
           let led_s = left_s question west place.gone (step question place first).gone N deal north.0 in
           record {
@@ -83,7 +84,8 @@ whole_trick question west place first second third fourth deal is legal_1 legal_
           }
       | inr south ↦
           let follows =
-          three_follow question west (step question place first) W second third fourth deal south.1.0 legal_2 legal_3 legal_4 in
+          three_follow question west (step question place first) W second third fourth deal south.1.0 legal_2 legal_3
+          legal_4 in
           let led_n = left_n question west place.gone (step question place first).gone S deal south.0 in
           let led_s = left_s question west place.gone (step question place first).gone S deal south.0 in
           record {

@@ -1,5 +1,6 @@
 -- How the missing cards may lie, and how much each way weighs.
-use Rattle.std.specs.Prelude.{ℕ, ◌+◌, ◌-◌, ◌&&◌, nat_le, Bool, List, [], ◌∷◌, ◌++◌, length, map, filter, sum_by, if◌then◌else◌}
+use Rattle.std.specs.Prelude.{ℕ, ◌+◌, ◌-◌, ◌&&◌, nat_le, Bool, List, [], ◌∷◌, ◌++◌, length, map, filter, sum_by}
+use Rattle.std.specs.Prelude.{if◌then◌else◌}
 use Rattle.suit_game.specs.declared.question.Question.{Question}
 use Rattle.suit_game.specs.Question.{missing}
 use Rattle.suit_num.specs.Binomials.{binomial}

@@ -14,7 +14,8 @@ pub record IsOneTrick (question : Question) : Type 0 where
 -- the tricks that declarer is sure of: the only one, where a lead is legal and a declarer hand has the ace
 abbrev pub sure_tricks : Question → ℕ
 sure_tricks question =
-    if (holds question.north 14 || holds question.south 14) && not (has_ended question (start_place question)) then 1 else 0
+    if (holds question.north 14 || holds question.south 14) && not (has_ended question (start_place question)) then 1
+    else 0
 
 -- what they are worth
 abbrev pub one_trick_value : Question → ℕ

@@ -1,5 +1,6 @@
 -- Laws of play.
-use Rattle.std.specs.Prelude.{◌≡◌, ℕ, ◌+◌, ◌*◌, ◌/◌, ◌<◌, ◌≤◌, max, not, true, false, List, [], ◌∷◌, ◌++◌, length, map, fold, Contains, IsTrue}
+use Rattle.std.specs.Prelude.{◌≡◌, ℕ, ◌+◌, ◌*◌, ◌/◌, ◌<◌, ◌≤◌, max, not, true, false, List, [], ◌∷◌, ◌++◌, length, map}
+use Rattle.std.specs.Prelude.{fold, Contains, IsTrue}
 use Rattle.std.specs.List.{list_any}
 use Rattle.suit_cards.specs.declared.seats.Seat.TheVariants.{N, S}
 use Rattle.suit_cards.specs.Holdings.{IsHolding, holds}
@@ -11,7 +12,8 @@ use Rattle.suit_game.specs.Fractions.{whole, mean}
 use Rattle.suit_game.specs.Gains.{played, pay_within, pay}
 use Rattle.suit_game.specs.Layouts.{layouts}
 use Rattle.suit_game.specs.Lengths.{room}
-use Rattle.suit_game.specs.Positions.{Position, Closed, after, legal, legal_at, step, LegalFrom, IsLegal, has_ended, payoff}
+use Rattle.suit_game.specs.Positions.{Position, Closed, after, legal, legal_at, step, LegalFrom, IsLegal, has_ended}
+use Rattle.suit_game.specs.Positions.{payoff}
 use Rattle.suit_game.specs.Reached.{IsReached, IsWithin, held_at_trick}
 use Rattle.suit_game.specs.Strategies.{Way, DefenceWay, Weighed}
 use Rattle.suit_game.specs.Histories.{History}

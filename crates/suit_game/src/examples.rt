@@ -1,5 +1,8 @@
 //! What the definitions of the game come to on examples that were worked out apart from them.
-ghost use Rattle.suit_game.specs.Examples.{LayoutsOfTwo, WeightsOfTwo, Totals, LegalWithOneEntry, LegalInAFinesse, LegalAfterALoss, AceGains, KingGains, TenaceGains, FinesseGains, MixedFinesseGains, MixedFinesseTricks, TenCardsGain, HoldUpGains, FinesseOverTenGains, KnownWestGains};
+ghost use Rattle.suit_game.specs.Examples.{LayoutsOfTwo, WeightsOfTwo, Totals, LegalWithOneEntry, LegalInAFinesse};
+ghost use Rattle.suit_game.specs.Examples.{LegalAfterALoss, AceGains, KingGains, TenaceGains, FinesseGains};
+ghost use Rattle.suit_game.specs.Examples.{MixedFinesseGains, MixedFinesseTricks, TenCardsGain, HoldUpGains};
+ghost use Rattle.suit_game.specs.Examples.{FinesseOverTenGains, KnownWestGains};
 
 /// The king and the queen lie in four ways.
 pub fn layouts_of_two()

@@ -1,6 +1,10 @@
 //! Laws of the game: each is the contract of an empty function.
-ghost use Rattle.suit_game.specs.GainLaws.{GainsAreFractions, MeanLaw, OneTrickIsSettled, PaysAreBetween, PaysAreFractions};
-ghost use Rattle.suit_game.specs.PlayLaws.{EnoughMoves, HistoriesAreShort, HistoriesUseRoom, LayoutsAreDeals, LegalMovesExtend, PayWhereEnded, PayWhereOn, PlacesAreReached, PlayedIsLegal, RoomFalls, ThirteenTricks, TricksTakeOneCardEach, TricksUseUpHands, WonStaysWithin, WonTricksFit};
+ghost use Rattle.suit_game.specs.GainLaws.{GainsAreFractions, MeanLaw, OneTrickIsSettled, PaysAreBetween};
+ghost use Rattle.suit_game.specs.GainLaws.{PaysAreFractions};
+ghost use Rattle.suit_game.specs.PlayLaws.{EnoughMoves, HistoriesAreShort, HistoriesUseRoom, LayoutsAreDeals};
+ghost use Rattle.suit_game.specs.PlayLaws.{LegalMovesExtend, PayWhereEnded, PayWhereOn, PlacesAreReached};
+ghost use Rattle.suit_game.specs.PlayLaws.{PlayedIsLegal, RoomFalls, ThirteenTricks, TricksTakeOneCardEach};
+ghost use Rattle.suit_game.specs.PlayLaws.{TricksUseUpHands, WonStaysWithin, WonTricksFit};
 
 /// Each legal move leaves less room for further ones.
 pub fn room_falls()
@@ -97,7 +101,8 @@ pub fn gains_are_fractions()
     ensures { GainsAreFractions }
 {}
 
-/// Where no declarer hand has two cards and some layout has a weight, a plan and a defence with no rows settle the question.
+/// Where no declarer hand has two cards and some layout has a weight, a plan and a defence with no rows settle the
+/// question.
 pub fn one_trick_is_settled()
     ensures { OneTrickIsSettled }
 {}

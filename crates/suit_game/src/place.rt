@@ -1,5 +1,6 @@
 //! Places: public positions of the game of single cards.
-ghost use Rattle.std.specs.Prelude.{◌≡◌, ℕ, ◌+◌, ◌<◌, ◌≤◌, ◌||◌, ◌↔◌, ◌++◌, ◌∷◌, [], List, length, map, not, true, false};
+ghost use Rattle.std.specs.Prelude.{◌≡◌, ℕ, ◌+◌, ◌<◌, ◌≤◌, ◌||◌, ◌↔◌, ◌++◌, ◌∷◌, [], List, length, map, not, true};
+ghost use Rattle.std.specs.Prelude.{false};
 ghost use Rattle.suit_cards.specs.Cards.{Cards};
 ghost use Rattle.suit_cards.specs.declared.seats.Seat.{Seat};
 ghost use Rattle.suit_game.specs.declared.moves.Move.{Move};
@@ -7,7 +8,9 @@ ghost use Rattle.suit_game.specs.declared.moves.Move.TheVariants.{Lead};
 ghost use Rattle.suit_game.specs.declared.question.Question.{Question};
 ghost use Rattle.suit_game.specs.Gains.{is_declarer};
 ghost use Rattle.suit_game.specs.Histories.{History};
-ghost use Rattle.suit_game.specs.Positions.{Position, Closed, after, ended_trick, followed, follows_of, hand, has_ended, has_entry, is_empty, leads_at, led, legal, turn_passed, payoff, stands_at};
+ghost use Rattle.suit_game.specs.Positions.{Position, Closed, after, ended_trick, followed, follows_of, hand};
+ghost use Rattle.suit_game.specs.Positions.{has_ended, has_entry, is_empty, leads_at, led, legal, turn_passed, payoff};
+ghost use Rattle.suit_game.specs.Positions.{stands_at};
 ghost use Rattle.suit_game.specs.PlaceViews.{IsAt, IsPlay, IsToFollow, IsTurnAt, seen, turn_at, with_gone};
 ghost use Rattle.suit_game.specs.declared.turn.Turn.TheVariants.{Over};
 ghost use Rattle.suit_game.specs.Validity.{IsValid};

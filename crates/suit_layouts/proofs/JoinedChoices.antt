@@ -12,7 +12,8 @@ use Rattle.suit_game.proofs.ListSums.{sum_by_map}
 
 -- to choose among two lists is to choose among the first and then among the second
 pub choices_joined : (f : List ℕ → ℕ) (xs ys : List ℕ)
-    → sum_by f (choices_of (xs ++ ys)) ≡ sum_by (λ taken. sum_by (λ more. f (taken ++ more)) (choices_of ys)) (choices_of xs)
+    → sum_by f (choices_of (xs ++ ys))
+    ≡ sum_by (λ taken. sum_by (λ more. f (taken ++ more)) (choices_of ys)) (choices_of xs)
 unfolding choices_of
 choices_joined f [] ys = omega arith
 choices_joined f (x ∷ xs) ys =
@@ -46,18 +47,24 @@ choices_held (first ∷ cards) =
     each_append (AreHeld (first ∷ cards)) (map (λ taken. first ∷ taken) (choices_of cards)) (choices_of cards)
     (each_map (AreHeld (first ∷ cards)) (λ taken. first ∷ taken) (choices_of cards)
     (each_gives (AreHeld cards) (λ taken. AreHeld (first ∷ cards) (first ∷ taken)) (choices_of cards)
-    (λ taken held. (or_left (nat_eq first first) (holds cards first) (eq-eqb first first refl), held_more first cards taken held)) (choices_held cards)))
-    (each_gives (AreHeld cards) (AreHeld (first ∷ cards)) (choices_of cards) (held_more first cards) (choices_held cards))
+    (λ taken held. (
+      or_left (nat_eq first first) (holds cards first) (eq-eqb first first refl),
+      held_more first cards taken held,
+    )) (choices_held cards)))
+    (each_gives (AreHeld cards) (AreHeld (first ∷ cards)) (choices_of cards) (held_more first cards)
+    (choices_held cards))
 
 -- a count of what all pass
-pub count_all : {X : Type 0} (test : X → Bool) (xs : List X) → AllByRecursion (λ x. test x ≡ true) xs → count_by test xs ≡ length xs
+pub count_all : {X : Type 0} (test : X → Bool) (xs : List X) → AllByRecursion (λ x. test x ≡ true) xs
+    → count_by test xs ≡ length xs
 count_all test [] each = refl
 count_all {X} test (x ∷ xs) each =
     let counted : X → ℕ = λ y. cond (test y) 1 0 in
     omega (arith, sum_by-cons counted x xs, ap {B = ℕ} (λ (b : Bool). cond b 1 0) each.0, count_all test xs each.1)
 
 -- a count of what none passes
-pub count_none : {X : Type 0} (test : X → Bool) (xs : List X) → AllByRecursion (λ x. test x ≡ false) xs → count_by test xs ≡ 0
+pub count_none : {X : Type 0} (test : X → Bool) (xs : List X) → AllByRecursion (λ x. test x ≡ false) xs
+    → count_by test xs ≡ 0
 count_none test [] each = refl
 count_none {X} test (x ∷ xs) each =
     let counted : X → ℕ = λ y. cond (test y) 1 0 in

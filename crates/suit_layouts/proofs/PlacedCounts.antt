@@ -1,7 +1,9 @@
 -- The counts at an index among all, as they are counted off block by block.
-use Rattle.std.proofs.Common.{◌≡◌, ℕ, zero, suc, ◌+◌, ◌*◌, ◌/◌, ◌%◌, ◌≤◌, ◌<◌, List, [], ◌∷◌, ◌++◌, map, length, drop, get_or, sym, ap, ◌∙◌, arith}
+use Rattle.std.proofs.Common.{◌≡◌, ℕ, zero, suc, ◌+◌, ◌*◌, ◌/◌, ◌%◌, ◌≤◌, ◌<◌, List, [], ◌∷◌, ◌++◌, map, length, drop}
+use Rattle.std.proofs.Common.{get_or, sym, ap, ◌∙◌, arith}
 use Rattle.std.specs.List.{flat_map, range_with_len}
-use Rattle.std.proofs.lemmas.List.{append-nil, append_assoc, drop_more, length-append, get_or_append_left, get_or-append-add, get_or-map, length-map}
+use Rattle.std.proofs.lemmas.List.{append-nil, append_assoc, drop_more, length-append, get_or_append_left}
+use Rattle.std.proofs.lemmas.List.{get_or-append-add, get_or-map, length-map}
 use Rattle.std.proofs.lemmas.Nat.{div-add-mod'}
 use Rattle.std.proofs.Math.ListN.{drop_of_length-le}
 use Rattle.std.proofs.Math.Nat.{div-lt_iff_lt-mul, mod-lt, mul-div_cancel_left, mul-le-mul_left}
@@ -11,7 +13,8 @@ use Rattle.suit_layouts.proofs.FewCounts.{length-up_to}
 
 -- each count of a first block goes with all others in turn
 pieces_at : (all : List (List ℕ)) (a n count rest : ℕ) → count < n → rest < length all
-    → get_or (flat_map (λ first. map (λ counts. first ∷ counts) all) (range_with_len a n)) (count * length all + rest) [] ≡ (a + count) ∷ get_or all rest []
+    → get_or (flat_map (λ first. map (λ counts. first ∷ counts) all) (range_with_len a n)) (count * length all + rest)
+    [] ≡ (a + count) ∷ get_or all rest []
 pieces_at all a zero count rest below within = absurd (omega arith)
 pieces_at all a (suc n) zero rest below within =
     let with_first : List ℕ → List ℕ = λ counts. a ∷ counts in
@@ -19,14 +22,17 @@ pieces_at all a (suc n) zero rest below within =
     let long : length (map with_first all) ≡ length all = length-map all with_first in
     let index : 0 * length all + rest ≡ rest = omega arith in
     let none : a + 0 ≡ a = omega arith in
-    rw (index, none) (get_or_append_left (map with_first all) later [] rest (omega arith) ∙ get_or-map with_first all rest [] [] within)
+    rw (index, none) (get_or_append_left (map with_first all) later [] rest (omega arith)
+    ∙ get_or-map with_first all rest [] [] within)
 pieces_at all a (suc n) (suc count) rest below within =
     let with_first : List ℕ → List ℕ = λ counts. a ∷ counts in
     let later = flat_map (λ first. map (λ counts. first ∷ counts) all) (range_with_len (a + 1) n) in
     let long : length (map with_first all) ≡ length all = length-map all with_first in
-    let index : suc count * length all + rest ≡ length (map with_first all) + (count * length all + rest) = omega arith in
+    let index : suc count * length all + rest ≡ length (map with_first all) + (count * length all + rest) =
+    omega arith in
     let next : a + suc count ≡ a + 1 + count = omega arith in
-    rw (index, next) (get_or-append-add (map with_first all) later (count * length all + rest) [] ∙ pieces_at all (a + 1) n count rest (omega arith) within)
+    rw (index, next) (get_or-append-add (map with_first all) later (count * length all + rest) []
+    ∙ pieces_at all (a + 1) n count rest (omega arith) within)
 
 -- no block stops the counting
 pub up_to-some : (sizes : Sizes) → 0 < length (counts_up_to sizes)
@@ -44,7 +50,8 @@ up_to-at size sizes index left is below =
     let some : 0 < left = omega (arith, up_to-some sizes) in
     let first : index / left < size + 1 = (div-lt_iff_lt-mul some).1 below in
     let rest : index % left < length (counts_up_to sizes) = omega (arith, mod-lt index some) in
-    let whole : index ≡ index / left * length (counts_up_to sizes) + index % left = rw (← is) (sym (div-add-mod' index left)) in
+    let whole : index ≡ index / left * length (counts_up_to sizes) + index % left =
+    rw (← is) (sym (div-add-mod' index left)) in
     let start : 0 + index / left ≡ index / left = omega arith in
     ap (λ (n : ℕ). get_or (counts_up_to (size ∷ sizes)) n []) whole
     ∙ rw start at (pieces_at (counts_up_to sizes) 0 (size + 1) (index / left) (index % left) first rest)
@@ -61,12 +68,15 @@ pub left_at : (sizes : Sizes) (block all : ℕ) → block < length sizes → all
     → all / (get_or sizes block 0 + 1) ≡ length (counts_up_to (drop (block + 1) sizes))
 left_at sizes block all within is =
     let split = drop_more sizes block 0 within in
-    let product : all ≡ (get_or sizes block 0 + 1) * length (counts_up_to (drop (block + 1) sizes)) = is ∙ rw split (length-up_to (get_or sizes block 0) (drop (block + 1) sizes)) in
+    let product : all ≡ (get_or sizes block 0 + 1) * length (counts_up_to (drop (block + 1) sizes)) = is
+    ∙ rw split (length-up_to (get_or sizes block 0) (drop (block + 1) sizes)) in
     rw product (mul-div_cancel_left (length (counts_up_to (drop (block + 1) sizes))) (omega arith))
 
 -- one block more
-pub counted_more : (sizes : Sizes) (counts : Counts) (block index all wanted left : ℕ) → block < length sizes → CountedOff sizes counts block index all wanted
-    → left ≡ all / (get_or sizes block 0 + 1) → CountedOff sizes (counts ++ (index / left) ∷ []) (block + 1) (index % left) left wanted
+pub counted_more : (sizes : Sizes) (counts : Counts) (block index all wanted left : ℕ) → block < length sizes
+    → CountedOff sizes counts block index all wanted
+    → left ≡ all / (get_or sizes block 0 + 1)
+    → CountedOff sizes (counts ++ (index / left) ∷ []) (block + 1) (index % left) left wanted
 counted_more sizes counts block index all wanted left within so_far is =
     let split = drop_more sizes block 0 within in
     let size = get_or sizes block 0 in
@@ -86,7 +96,8 @@ counted_more sizes counts block index all wanted left within so_far is =
     }
 
 -- with no block left, the counts are those at the index
-pub counted_all : (sizes : Sizes) (counts : Counts) (block index all wanted : ℕ) → length sizes ≤ block → CountedOff sizes counts block index all wanted
+pub counted_all : (sizes : Sizes) (counts : Counts) (block index all wanted : ℕ) → length sizes ≤ block
+    → CountedOff sizes counts block index all wanted
     → counts ≡ get_or (counts_up_to sizes) wanted []
 unfolding counts_up_to
 counted_all sizes counts block index all wanted over done =
@@ -96,7 +107,8 @@ counted_all sizes counts block index all wanted over done =
     sym (append-nil counts) ∙ rw (none, first) at done.placed
 
 -- a block has fewer cards than there are counts from it on
-pub size_small : (sizes : Sizes) (block : ℕ) → block < length sizes → get_or sizes block 0 + 1 ≤ length (counts_up_to (drop block sizes))
+pub size_small : (sizes : Sizes) (block : ℕ) → block < length sizes
+    → get_or sizes block 0 + 1 ≤ length (counts_up_to (drop block sizes))
 size_small sizes block within =
     let split = drop_more sizes block 0 within in
     let some = up_to-some (drop (block + 1) sizes) in
@@ -104,23 +116,27 @@ size_small sizes block within =
     rw split (omega (arith, length-up_to (get_or sizes block 0) (drop (block + 1) sizes), product))
 
 -- the number of counts, one block more taken into the product
-pub product_more : (sizes : Sizes) (block all : ℕ) → block < length sizes → all * length (counts_up_to (drop block sizes)) ≡ length (counts_up_to sizes)
+pub product_more : (sizes : Sizes) (block all : ℕ) → block < length sizes
+    → all * length (counts_up_to (drop block sizes)) ≡ length (counts_up_to sizes)
     → all * (get_or sizes block 0 + 1) * length (counts_up_to (drop (block + 1) sizes)) ≡ length (counts_up_to sizes)
 product_more sizes block all within so_far =
     let split = drop_more sizes block 0 within in
     let more = length-up_to (get_or sizes block 0) (drop (block + 1) sizes) in
-    let product : all * ((get_or sizes block 0 + 1) * length (counts_up_to (drop (block + 1) sizes))) ≡ length (counts_up_to sizes) = rw (split, more) at so_far in
+    let product : all * ((get_or sizes block 0 + 1) * length (counts_up_to (drop (block + 1) sizes)))
+    ≡ length (counts_up_to sizes) = rw (split, more) at so_far in
     omega (arith, product)
 
 -- a factor of a number is at most it
-pub factor_small : (sizes : Sizes) (block all number : ℕ) → all * length (counts_up_to (drop block sizes)) ≡ number → all ≤ number
+pub factor_small : (sizes : Sizes) (block all number : ℕ) → all * length (counts_up_to (drop block sizes)) ≡ number
+    → all ≤ number
 factor_small sizes block all number is =
     let some = up_to-some (drop block sizes) in
     let product = mul-le-mul_left all some in
     omega (arith, product)
 
 -- the whole product
-pub product_all : (sizes : Sizes) (block all : ℕ) → length sizes ≤ block → all * length (counts_up_to (drop block sizes)) ≡ length (counts_up_to sizes)
+pub product_all : (sizes : Sizes) (block all : ℕ) → length sizes ≤ block
+    → all * length (counts_up_to (drop block sizes)) ≡ length (counts_up_to sizes)
     → all ≡ length (counts_up_to sizes)
 unfolding counts_up_to
 product_all sizes block all over so_far =
@@ -131,10 +147,12 @@ product_all sizes block all over so_far =
 -- what is left after a block is not nothing
 pub left_some : (sizes : Sizes) (block all : ℕ) → block < length sizes → all ≡ length (counts_up_to (drop block sizes))
     → 0 < all / (get_or sizes block 0 + 1)
-left_some sizes block all within is = omega (arith, left_at sizes block all within is, up_to-some (drop (block + 1) sizes))
+left_some sizes block all within is =
+    omega (arith, left_at sizes block all within is, up_to-some (drop (block + 1) sizes))
 
 -- a block of the product has no more cards than there are counts
-pub block_small : (sizes : Sizes) (block all number : ℕ) → block < length sizes → all * length (counts_up_to (drop block sizes)) ≡ number → 0 < number
+pub block_small : (sizes : Sizes) (block all number : ℕ) → block < length sizes
+    → all * length (counts_up_to (drop block sizes)) ≡ number → 0 < number
     → get_or sizes block 0 + 1 ≤ number
 block_small sizes block zero number within is some = absurd (omega arith)
 block_small sizes block (suc all) number within is some =

@@ -1,5 +1,6 @@
 -- The counts stand in strictly rising lexicographic order.
-use Rattle.std.proofs.Common.{◌≡◌, ℕ, zero, suc, ◌+◌, ◌≤◌, ◌<◌, nat_eq, nat_lt, true, false, List, [], ◌∷◌, ◌++◌, map, refl, ap, ◌∙◌, arith}
+use Rattle.std.proofs.Common.{◌≡◌, ℕ, zero, suc, ◌+◌, ◌≤◌, ◌<◌, nat_eq, nat_lt, true, false, List, [], ◌∷◌, ◌++◌, map}
+use Rattle.std.proofs.Common.{refl, ap, ◌∙◌, arith}
 use Rattle.std.specs.Prelude.{AllPairs}
 use Rattle.std.specs.List.{AllByRecursion, flat_map, range_with_len}
 use Rattle.std.specs.Ordering.{nat_cmp}
@@ -29,7 +30,8 @@ before_by_first first other counts later less =
     rw below refl
 
 -- after an equal first number the others decide
-before_by_others : (first : ℕ) (counts later : List ℕ) → IsBefore counts later → IsBefore (first ∷ counts) (first ∷ later)
+before_by_others : (first : ℕ) (counts later : List ℕ) → IsBefore counts later
+    → IsBefore (first ∷ counts) (first ∷ later)
 before_by_others first counts later before =
     let not_below : nat_lt first first ≡ false = le-ltb first first (omega arith) in
     let same : nat_eq first first ≡ true = eq-eqb first first refl in
@@ -47,7 +49,8 @@ rising_with_first : (first : ℕ) (all : List (List ℕ)) → AreRising all → 
 rising_with_first first [] rise = tt
 rising_with_first first (counts ∷ all) rise = (
   each_map (IsBefore (first ∷ counts)) (λ later. first ∷ later) all
-      (each_gives (IsBefore counts) (λ later. IsBefore (first ∷ counts) (first ∷ later)) all (before_by_others first counts) rise.0),
+      (each_gives (IsBefore counts) (λ later. IsBefore (first ∷ counts) (first ∷ later)) all
+      (before_by_others first counts) rise.0),
   rising_with_first first all rise.1,
 )
 
@@ -59,14 +62,27 @@ record StartsFrom (least : ℕ) (counts : Counts) : Type 0 where
   above : least ≤ first
 
 -- the pieces from a first count on start from it
-pieces_start : (all : List (List ℕ)) (a n : ℕ) → AllByRecursion (StartsFrom a) (flat_map (λ count. map (λ counts. count ∷ counts) all) (range_with_len a n))
+pieces_start : (all : List (List ℕ)) (a n : ℕ)
+    → AllByRecursion (StartsFrom a) (flat_map (λ count. map (λ counts. count ∷ counts) all) (range_with_len a n))
 pieces_start all a zero = tt
 pieces_start all a (suc n) =
-    each_append (StartsFrom a) (map (λ counts. a ∷ counts) all) (flat_map (λ count. map (λ counts. count ∷ counts) all) (range_with_len (a + 1) n))
+    each_append (StartsFrom a) (map (λ counts. a ∷ counts) all)
+    (flat_map (λ count. map (λ counts. count ∷ counts) all) (range_with_len (a + 1) n))
     (each_map (StartsFrom a) (λ counts. a ∷ counts) all
-    (each_of (λ counts. StartsFrom a (a ∷ counts)) all (λ counts. record { first = a; others = counts; is = refl; above = omega arith })))
-    (each_gives (StartsFrom (a + 1)) (StartsFrom a) (flat_map (λ count. map (λ counts. count ∷ counts) all) (range_with_len (a + 1) n))
-    (λ counts starts. record { first = starts.first; others = starts.others; is = starts.is; above = omega (arith, starts.above) }) (pieces_start all (a + 1) n))
+    (each_of (λ counts. StartsFrom a (a ∷ counts)) all (λ counts. record {
+      first = a;
+      others = counts;
+      is = refl;
+      above = omega arith;
+    })))
+    (each_gives (StartsFrom (a + 1)) (StartsFrom a)
+    (flat_map (λ count. map (λ counts. count ∷ counts) all) (range_with_len (a + 1) n))
+    (λ counts starts. record {
+      first = starts.first;
+      others = starts.others;
+      is = starts.is;
+      above = omega (arith, starts.above);
+    }) (pieces_start all (a + 1) n))
 
 -- a first number stands before all that start above it
 before_starting : (first : ℕ) (counts later : List ℕ) → StartsFrom (first + 1) later → IsBefore (first ∷ counts) later
@@ -75,14 +91,16 @@ before_starting first counts later starts =
     ∙ before_by_first first starts.first counts starts.others (omega (arith, starts.above))
 
 -- the pieces rise together
-pieces_rise : (all : List (List ℕ)) (a n : ℕ) → AreRising all → AreRising (flat_map (λ count. map (λ counts. count ∷ counts) all) (range_with_len a n))
+pieces_rise : (all : List (List ℕ)) (a n : ℕ) → AreRising all
+    → AreRising (flat_map (λ count. map (λ counts. count ∷ counts) all) (range_with_len a n))
 pieces_rise all a zero rise = tt
 pieces_rise all a (suc n) rise =
     let later = flat_map (λ count. map (λ counts. count ∷ counts) all) (range_with_len (a + 1) n) in
     rising_append (map (λ counts. a ∷ counts) all) later (rising_with_first a all rise) (pieces_rise all (a + 1) n rise)
     (each_map (λ counts. AllByRecursion (IsBefore counts) later) (λ counts. a ∷ counts) all
     (each_of (λ counts. AllByRecursion (IsBefore (a ∷ counts)) later) all
-    (λ counts. each_gives (StartsFrom (a + 1)) (IsBefore (a ∷ counts)) later (before_starting a counts) (pieces_start all (a + 1) n))))
+    (λ counts. each_gives (StartsFrom (a + 1)) (IsBefore (a ∷ counts)) later (before_starting a counts)
+    (pieces_start all (a + 1) n))))
 
 -- all counts rise
 up_to-rise : (sizes : Sizes) → AreRising (counts_up_to sizes)
@@ -92,7 +110,8 @@ up_to-rise (size ∷ sizes) = pieces_rise (counts_up_to sizes) 0 (size + 1) (up_
 
 -- and so they do with their weights
 weighed-pairs : (question : Question) (sizes : Sizes) (all : List (List ℕ)) → AreRising all
-    → AllPairs (λ (before later : List ℕ × ℕ). IsBefore before.0 later.0) (map (λ counts. (counts, class_weight question sizes counts)) all)
+    → AllPairs (λ (before later : List ℕ × ℕ). IsBefore before.0 later.0)
+    (map (λ counts. (counts, class_weight question sizes counts)) all)
 weighed-pairs question sizes [] rise = λ i j d less within. absurd (omega arith)
 weighed-pairs question sizes (counts ∷ all) rise =
     let with_weight : List ℕ → List ℕ × ℕ = λ other. (other, class_weight question sizes other) in

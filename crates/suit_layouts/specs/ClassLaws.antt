@@ -28,11 +28,13 @@ ClassLayoutsRise =
 abbrev pub ClassLayoutsExact : Type 0
 ClassLayoutsExact =
     (question : Question) (sizes : Sizes) (counts : Counts) (deals : ℕ) → sum sizes ≡ length (missing question)
-    → Contains (class_layouts question sizes) (counts, deals) ↔ ((deals ≡ class_weight question sizes counts) × (0 < deals))
+    → Contains (class_layouts question sizes) (counts, deals)
+    ↔ ((deals ≡ class_weight question sizes counts) × (0 < deals))
 
 -- there are at most 162 of them
 abbrev pub ClassLayoutsFew : Type 0
-ClassLayoutsFew = (question : Question) (sizes : Sizes) → AreSizes question sizes → length (class_layouts question sizes) ≤ MOST_CLASS_LAYOUTS
+ClassLayoutsFew = (question : Question) (sizes : Sizes) → AreSizes question sizes
+    → length (class_layouts question sizes) ≤ MOST_CLASS_LAYOUTS
 
 -- what depends on West's counts alone is summed over the layouts, each with its weight, by class layouts
 abbrev pub LayoutsGrouped : Type 0
@@ -44,26 +46,31 @@ LayoutsGrouped =
 -- as many layouts have given counts as the ways of the blocks, where West may have so many cards
 abbrev pub LayoutsCounted : Type 0
 LayoutsCounted =
-    (question : Question) (sizes : Sizes) (counts : Counts) → sum sizes ≡ length (missing question) → IsTrue (is_west_length question (sum counts))
-    → length (filter (λ west. same_counts (counts_of question sizes west) counts) (layouts question)) ≡ ways_of sizes counts
+    (question : Question) (sizes : Sizes) (counts : Counts) → sum sizes ≡ length (missing question)
+    → IsTrue (is_west_length question (sum counts))
+    → length (filter (λ west. same_counts (counts_of question sizes west) counts) (layouts question))
+    ≡ ways_of sizes counts
 
 -- West's counts in a layout add up to the number of West's cards
 abbrev pub CountsAddUp : Type 0
 CountsAddUp =
-    (question : Question) (sizes : Sizes) (west : Cards) → sum sizes ≡ length (missing question) → Contains (layouts question) west
+    (question : Question) (sizes : Sizes) (west : Cards) → sum sizes ≡ length (missing question)
+    → Contains (layouts question) west
     → sum (counts_of question sizes west) ≡ length west
 
 -- the counts of a layout that has a weight are a class layout that has one
 abbrev pub LayoutsListed : Type 0
 LayoutsListed =
-    (question : Question) (sizes : Sizes) (west : Cards) → Contains (layouts question) west → 0 < weight question (length west)
+    (question : Question) (sizes : Sizes) (west : Cards) → Contains (layouts question) west
+    → 0 < weight question (length west)
     → 0 < class_weight question sizes (counts_of question sizes west)
 
 -- a class layout that has a weight is the counts of some layout that has one
 abbrev pub ClassLayoutsHeld : Type 0
 ClassLayoutsHeld =
     (question : Question) (sizes : Sizes) (counts : Counts) → 0 < class_weight question sizes counts
-    → (west : Cards) × Contains (layouts question) west × (counts_of question sizes west ≡ counts) × (0 < weight question (length west))
+    → (west : Cards) × Contains (layouts question) west × (counts_of question sizes west ≡ counts)
+    × (0 < weight question (length west))
 
 -- the weights of the class layouts add up to the total
 abbrev pub ClassWeightsAddUp : Type 0

@@ -11,20 +11,24 @@ use Rattle.suit_game.specs.Blocks.{counts_of}
 abbrev pub same_counts : Counts → Counts → Bool
 same_counts counts other = bytes_eq counts other
 
--- the weight of counts: by definition the sum of the weights of all layouts in which West has so many cards of each block;
+-- the weight of counts: by definition the sum of the weights of all layouts in which West has so many cards of each
+-- block;
 -- that it is a product, as it is computed, is a law
 unfoldable pub class_weight : Question → Sizes → Counts → ℕ
 class_weight question sizes counts =
-    sum_by (λ west. weight question (length west)) (filter (λ west. same_counts (counts_of question sizes west) counts) (layouts question))
+    sum_by (λ west. weight question (length west))
+    (filter (λ west. same_counts (counts_of question sizes west) counts) (layouts question))
 
 -- all ways to count from none to all of each block, in rising lexicographic order
 unfoldable pub counts_up_to : Sizes → List Counts
 counts_up_to [] = [] ∷ []
-counts_up_to (size ∷ sizes) = flat_map (λ count. map (λ counts. count ∷ counts) (counts_up_to sizes)) (range_with_len 0 (size + 1))
+counts_up_to (size ∷ sizes) =
+    flat_map (λ count. map (λ counts. count ∷ counts) (counts_up_to sizes)) (range_with_len 0 (size + 1))
 
 -- those of some counts that have a weight, each with it
 unfoldable pub weighed : Question → Sizes → List Counts → List (Counts × ℕ)
-weighed question sizes all = filter (λ layout. nat_lt 0 layout.1) (map (λ counts. (counts, class_weight question sizes counts)) all)
+weighed question sizes all = filter (λ layout. nat_lt 0 layout.1)
+    (map (λ counts. (counts, class_weight question sizes counts)) all)
 
 -- the class layouts of positive weight in rising lexicographic order, each with its weight
 unfoldable pub class_layouts : Question → Sizes → List (Counts × ℕ)

@@ -1,5 +1,7 @@
 //! Laws of the class layouts: each is the contract of an empty function.
-ghost use Rattle.suit_layouts.specs.ClassLaws.{ClassWeightsCounted, ClassLayoutsRise, ClassLayoutsExact, ClassLayoutsFew, LayoutsGrouped, LayoutsCounted, CountsAddUp, LayoutsListed, ClassLayoutsHeld, ClassWeightsAddUp};
+ghost use Rattle.suit_layouts.specs.ClassLaws.{ClassWeightsCounted, ClassLayoutsRise, ClassLayoutsExact};
+ghost use Rattle.suit_layouts.specs.ClassLaws.{ClassLayoutsFew, LayoutsGrouped, LayoutsCounted, CountsAddUp};
+ghost use Rattle.suit_layouts.specs.ClassLaws.{LayoutsListed, ClassLayoutsHeld, ClassWeightsAddUp};
 
 /// A class layout weighs as much as one of its layouts, times the ways to choose West's cards.
 pub fn class_weights_counted()

@@ -77,7 +77,8 @@ impl<'a> Iterator for ClassWalk<'a> {
 pub fn class_index(question: &Question, sizes: &[u8], counts: &[u8]) -> Option<usize>
     requires valid { IsValid question.now }
     requires blocks { AreSizes question.now sizes.now }
-    ensures index { result ≡ position (λ layout. same_counts layout.0 counts.now) (class_layouts question.now sizes.now) }
+    ensures index { result ≡ position (λ layout. same_counts layout.0 counts.now)
+        (class_layouts question.now sizes.now) }
     ensures few { IfSome result (λ index. index < MOST_CLASS_LAYOUTS) }
 {
     ClassWalk::new(question, sizes).position(|(layout, _)| layout.counts() == counts)

@@ -1,6 +1,7 @@
 -- How many layouts have West's counts and are alike on the cards gone (alike_counted), and how that number changes as
 -- a defender's card goes (alike_step).
-use Rattle.std.proofs.Common.{◌≡◌, ℕ, suc, ◌+◌, ◌*◌, ◌<◌, Bool, true, false, cond, not, nat_eq, List, [], ◌∷◌, length, map, refl, sym, ap, ◌∙◌, inl, inr, arith}
+use Rattle.std.proofs.Common.{◌≡◌, ℕ, suc, ◌+◌, ◌*◌, ◌<◌, Bool, true, false, cond, not, nat_eq, List, [], ◌∷◌, length}
+use Rattle.std.proofs.Common.{map, refl, sym, ap, ◌∙◌, inl, inr, arith}
 use Rattle.std.specs.Prelude.{Contains, bytes_eq, ◌&&◌, ◌||◌, ◌-◌, if◌then◌else◌}
 use Rattle.std.specs.List.{AllByRecursion, filter, sum_by}
 use Rattle.std.proofs.lemmas.Bool.{cases_eq, eq-eqb, ne_eqb, false≢true}
@@ -27,7 +28,8 @@ use Rattle.suit_classes.proofs.DealtClasses.{IsDealt, IsHolding-without, cards_i
 use Rattle.suit_layouts.specs.ClassLayouts.{ways_of}
 use Rattle.suit_lift.proofs.ClassChoices.{counted_choices, east_step, map_at, told_alike, west_step}
 use Rattle.suit_lift.proofs.FreeChoices.{free_choices, worth_at}
-use Rattle.suit_lift.proofs.HandParts.{cards_in-same, cards_in-other, gone_of, group_sum, holds-gone_of, holds-left_of, missing_class, once_defence, parts_by_class}
+use Rattle.suit_lift.proofs.HandParts.{cards_in-same, cards_in-other, gone_of, group_sum, holds-gone_of, holds-left_of}
+use Rattle.suit_lift.proofs.HandParts.{missing_class, once_defence, parts_by_class}
 
 -- whether a layout has West's counts, and the same of the cards gone
 abbrev pub is_alike : Question → Cards → Cards → Cards → Bool

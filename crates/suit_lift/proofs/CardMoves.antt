@@ -1,5 +1,6 @@
 -- All moves that a defender may make, and which of them are legal (legal_listed).
-use Rattle.std.proofs.Common.{◌≡◌, ℕ, zero, suc, ◌*◌, ◌≤◌, ◌<◌, Bool, true, false, cond, List, [], ◌∷◌, ◌++◌, length, map, refl, sym, ap, ◌∙◌, subst, arith}
+use Rattle.std.proofs.Common.{◌≡◌, ℕ, zero, suc, ◌*◌, ◌≤◌, ◌<◌, Bool, true, false, cond, List, [], ◌∷◌, ◌++◌, length}
+use Rattle.std.proofs.Common.{map, refl, sym, ap, ◌∙◌, subst, arith}
 use Rattle.std.specs.Prelude.{Contains, ◌==◌, ◌||◌}
 use Rattle.std.specs.List.{filter}
 use Rattle.std.proofs.Math.Nat.{mul-pos}
@@ -16,7 +17,8 @@ use Rattle.suit_game.specs.declared.moves.Move.TheVariants.{Lead, Follow, ShowOu
 use Rattle.suit_game.specs.Gains.{is_declarer, is_declarer_turn}
 use Rattle.suit_game.specs.Histories.{History}
 use Rattle.suit_game.specs.PlaceViews.{IsPlay}
-use Rattle.suit_game.specs.Positions.{Position, Trick, Closed, Open, after, dealt, follows_of, hand, legal, legal_in, without}
+use Rattle.suit_game.specs.Positions.{Position, Trick, Closed, Open, after, dealt, follows_of, hand, legal, legal_in}
+use Rattle.suit_game.specs.Positions.{without}
 use Rattle.suit_game.specs.Question.{missing}
 use Rattle.suit_game.proofs.HeldCards.{holds-from_without, holds-without}
 use Rattle.suit_classes.specs.Classes.{hands_of, class_of}

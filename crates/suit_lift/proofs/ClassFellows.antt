@@ -1,5 +1,6 @@
 -- How many of the legal moves merge to each class move, and what they weigh together (weights_total).
-use Rattle.std.proofs.Common.{◌≡◌, ℕ, ◌+◌, ◌*◌, ◌/◌, Bool, true, false, cond, List, [], ◌∷◌, length, map, refl, sym, ap, ◌∙◌, subst, inl, inr, arith}
+use Rattle.std.proofs.Common.{◌≡◌, ℕ, ◌+◌, ◌*◌, ◌/◌, Bool, true, false, cond, List, [], ◌∷◌, length, map, refl, sym, ap}
+use Rattle.std.proofs.Common.{◌∙◌, subst, inl, inr, arith}
 use Rattle.std.specs.Prelude.{Contains, ◌==◌}
 use Rattle.std.specs.List.{AllByRecursion, filter, sum_by}
 use Rattle.std.proofs.lemmas.Bool.{cases_Bool}
@@ -14,7 +15,8 @@ use Rattle.suit_game.specs.Gains.{is_declarer_turn}
 use Rattle.suit_game.specs.Histories.{History}
 use Rattle.suit_game.specs.PlaceViews.{IsPlay}
 use Rattle.suit_game.specs.Positions.{after, follows_of, legal}
-use Rattle.suit_game.proofs.EachElement.{Contains-cons_cases, Contains-map, Contains-map_from, Contains-nil, each_gives, each_in}
+use Rattle.suit_game.proofs.EachElement.{Contains-cons_cases, Contains-map, Contains-map_from, Contains-nil, each_gives}
+use Rattle.suit_game.proofs.EachElement.{each_in}
 use Rattle.suit_game.proofs.ListSums.{sum_by-mul, sum_by_alike, sum_by_none, sum_by_same}
 use Rattle.suit_classes.specs.declared.class_moves.ClassMove.{ClassMove}
 use Rattle.suit_classes.specs.Classes.{Hands, hands_of, class_of}

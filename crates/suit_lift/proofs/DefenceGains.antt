@@ -1,5 +1,6 @@
 -- The lift of a proper defence holds declarer to at most the defence's most (defences_hold).
-use Rattle.std.proofs.Common.{◌≡◌, ℕ, zero, suc, ◌+◌, ◌*◌, ◌<◌, Bool, true, false, List, [], ◌∷◌, length, map, refl, sym, ap, ◌∙◌, arith}
+use Rattle.std.proofs.Common.{◌≡◌, ℕ, zero, suc, ◌+◌, ◌*◌, ◌<◌, Bool, true, false, List, [], ◌∷◌, length, map, refl}
+use Rattle.std.proofs.Common.{sym, ap, ◌∙◌, arith}
 use Rattle.std.specs.Prelude.{Contains, bytes_eq, nat_lt, ◌&&◌, pos, ◌≤ℤ◌, if◌then◌else◌}
 use Rattle.std.specs.List.{AllByRecursion, filter, sum_by}
 use Rattle.std.proofs.Math.Nat.{mul-le-mul_left, mul-pos}
@@ -31,7 +32,8 @@ use Rattle.suit_lift.specs.LiftLaws.{DefencesHold}
 use Rattle.suit_lift.specs.Lifts.{defence_way}
 use Rattle.suit_lift.specs.Naming.{is_legal_from}
 use Rattle.suit_lift.proofs.AlikeLayouts.{alike_layouts, equal_lengths, from_filter, is_alike}
-use Rattle.suit_lift.proofs.FractionSums.{IsNoMore, kept_sum, no_more_itself, no_more_same, no_more_then, parts_of, plus, plus_no_more, sum_no_more, sum_of}
+use Rattle.suit_lift.proofs.FractionSums.{IsNoMore, kept_sum, no_more_itself, no_more_same, no_more_then, parts_of}
+use Rattle.suit_lift.proofs.FractionSums.{plus, plus_no_more, sum_no_more, sum_of}
 use Rattle.suit_lift.proofs.HandParts.{gone_of}
 use Rattle.suit_lift.proofs.HeldPays.{all_at, defences_spread, most_at, term, term_some}
 use Rattle.suit_lift.proofs.LiveLayouts.{filter_same, is_live, live_layouts}

@@ -1,5 +1,6 @@
 -- A hand in two parts, the cards gone and the cards left, and how many of each class they have (parts_by_class).
-use Rattle.std.proofs.Common.{◌≡◌, ℕ, zero, suc, ◌+◌, ◌*◌, Bool, true, false, cond, not, nat_eq, List, [], ◌∷◌, length, refl, sym, ap, ◌∙◌, subst, inl, inr, arith}
+use Rattle.std.proofs.Common.{◌≡◌, ℕ, zero, suc, ◌+◌, ◌*◌, Bool, true, false, cond, not, nat_eq, List, [], ◌∷◌, length}
+use Rattle.std.proofs.Common.{refl, sym, ap, ◌∙◌, subst, inl, inr, arith}
 use Rattle.std.specs.Prelude.{Contains, ◌==◌, ◌&&◌, if◌then◌else◌}
 use Rattle.std.specs.List.{AllByRecursion, filter, range_with_len, sum_by}
 use Rattle.std.proofs.lemmas.Bool.{cases_eq, eq-eqb, ne_eqb}
@@ -12,7 +13,8 @@ use Rattle.suit_game.specs.Positions.{without}
 use Rattle.suit_game.specs.Question.{missing}
 use Rattle.suit_game.proofs.EachElement.{Contains-filter, Contains-range, each_gives, each_in}
 use Rattle.suit_game.proofs.ListSums.{sum_by_alike, sum_by_none}
-use Rattle.suit_classes.specs.Classes.{Hands, hands_of, class_count, class_of, class_owner, defence_classes, holder, same_owner}
+use Rattle.suit_classes.specs.Classes.{Hands, hands_of, class_count, class_of, class_owner, defence_classes, holder}
+use Rattle.suit_classes.specs.Classes.{same_owner}
 use Rattle.suit_classes.specs.ClassGame.{cards_in}
 use Rattle.suit_classes.specs.declared.classes.Owner.TheVariants as owners
 use Rattle.suit_classes.proofs.ClassNumbers.{class_of-below}

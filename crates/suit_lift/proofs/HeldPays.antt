@@ -1,6 +1,7 @@
 -- Masses spread evenly over the layouts that are alike: what they pay together is no more than the most
 -- (defences_spread).
-use Rattle.std.proofs.Common.{◌≡◌, ℕ, zero, suc, ◌*◌, ◌/◌, ◌≤◌, ◌<◌, Bool, true, false, not, List, [], ◌∷◌, ◌++◌, length, map, refl, sym, ap, ◌∙◌, subst, inl, inr, arith}
+use Rattle.std.proofs.Common.{◌≡◌, ℕ, zero, suc, ◌*◌, ◌/◌, ◌≤◌, ◌<◌, Bool, true, false, not, List, [], ◌∷◌, ◌++◌}
+use Rattle.std.proofs.Common.{length, map, refl, sym, ap, ◌∙◌, subst, inl, inr, arith}
 use Rattle.std.specs.Prelude.{Contains, bytes_eq, ℤ, pos, ◌*ℤ◌, ◌≤ℤ◌, if◌then◌else◌}
 use Rattle.std.specs.Int.{int_max}
 use Rattle.std.specs.List.{AllByRecursion, filter, sum_by}
@@ -50,11 +51,14 @@ use Rattle.suit_lift.proofs.AlikeLayouts.{alike_layouts, from_filter}
 use Rattle.suit_lift.proofs.CardMoves.{every_card_move, legal_listed, their_left, unplayed_fits}
 use Rattle.suit_lift.proofs.DecidedPays.{decided_pay}
 use Rattle.suit_lift.proofs.DefenceSteps.{weight_step, weights_some}
-use Rattle.suit_lift.proofs.FractionSums.{IsNoMore, kept_sum, no_more_same, no_more_then, parts_of, sum_kept, sum_no_more, sum_of, sum_parts, sum_swapped, sum_times, term_no_more, times, times_no_more, times_sum}
+use Rattle.suit_lift.proofs.FractionSums.{IsNoMore, kept_sum, no_more_same, no_more_then, parts_of, sum_kept}
+use Rattle.suit_lift.proofs.FractionSums.{sum_no_more, sum_of, sum_parts, sum_swapped, sum_times, term_no_more, times}
+use Rattle.suit_lift.proofs.FractionSums.{times_no_more, times_sum}
 use Rattle.suit_lift.proofs.LegalMoves.{declarers_legal}
 use Rattle.suit_lift.proofs.LegalTests.{one_of_tells}
 use Rattle.suit_lift.proofs.LinkedWeights.{common_divided}
-use Rattle.suit_lift.proofs.LiveLayouts.{IsLive, alike_kept, alike_live, alike_some, counts_allow, counts_listed, live_is, every_has, live_kept, live_later, live_layouts, some_allow}
+use Rattle.suit_lift.proofs.LiveLayouts.{IsLive, alike_kept, alike_live, alike_some, counts_allow, counts_listed}
+use Rattle.suit_lift.proofs.LiveLayouts.{live_is, every_has, live_kept, live_later, live_layouts, some_allow}
 use Rattle.suit_lift.proofs.MeanSums.{picked_mean, picked_weight, shares_mean}
 use Rattle.suit_lift.proofs.PlanPays.{common_some, merged_push}
 use Rattle.suit_lift.proofs.PlanWorths.{layout_positive, most_positive}
@@ -289,7 +293,10 @@ module _ (question : Question) (declarer : Way) (defence : Defence) (valid : IsV
     reply_has west move live found =
         let hands : Hands = hands_of question in
         let later : IsLive question west
-        (history ++ move ∷ []) = record { play = play_more question west history move live.play found; weighs = live.weighs } in
+        (history ++ move ∷ []) = record {
+          play = play_more question west history move live.play found;
+          weighs = live.weighs;
+        } in
         let there : Contains (class_moves (view_after question history) (counts_of hands west)) (merge hands move) =
         subst (λ (l : List ClassMove). Contains l (merge hands move)) (sym (on_at west live).moves)
         (each_once-Contains (map (merge hands) (legal question west history)) (merge hands move) (Contains-map
@@ -447,7 +454,11 @@ module _ (question : Question) (declarer : Way) (defence : Defence) (valid : IsV
           let share : Fraction = parts_of choice.0 picks_weight in
           let legal_start : Contains (legal question start history) choice.1 = subst (λ
           (l : List Move). Contains l choice.1) (sym (same_legal start)) (pick_legal choice found) in
-          let alive : IsLive question start next = record { play = play_more question start history choice.1 live.play legal_start; weighs = live.weighs } in
+          let alive : IsLive question start next =
+          record {
+            play = play_more question start history choice.1 live.play legal_start;
+            weighs = live.weighs;
+          } in
           let same : live_layouts question history
           ≡ live_layouts question next = live_kept question history choice.1 own (pick_legal choice found) in
           let held : IsNoMore (all_at next) (whole (most_at here_line)) =
@@ -654,7 +665,8 @@ module _ (question : Question) (declarer : Way) (defence : Defence) (valid : IsV
 
       bound_left : (card : ℕ) (list : List Cards) → live_layouts question (history ++ Follow card ∷ []) ≡ list
           → bound_if list (Follow card) ≤ (if holds
-          (left question gone_now replies_at next_worth) card then card_share question gone_now replies_at next_worth card else 0)
+          (left question gone_now replies_at next_worth) card
+          then card_share question gone_now replies_at next_worth card else 0)
       bound_left card [] is = omega arith
       bound_left card (west ∷ wests) is =
           let found : Contains (live_layouts question (history ++ Follow card ∷ [])) west = subst (λ

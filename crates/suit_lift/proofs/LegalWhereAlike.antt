@@ -1,6 +1,7 @@
 -- A history that is legal under one layout is legal under another of the same length just where they are alike on the
 -- cards gone (legal_where_alike).
-use Rattle.std.proofs.Common.{◌≡◌, ℕ, Bool, true, false, not, nat_eq, List, [], ◌∷◌, length, refl, sym, ap, ◌∙◌, subst, inl, inr, arith}
+use Rattle.std.proofs.Common.{◌≡◌, ℕ, Bool, true, false, not, nat_eq, List, [], ◌∷◌, length, refl, sym, ap, ◌∙◌, subst}
+use Rattle.std.proofs.Common.{inl, inr, arith}
 use Rattle.std.specs.Prelude.{Contains, ◌&&◌, ◌↔◌, fold}
 use Rattle.std.proofs.lemmas.Bool.{eqb-true, false≢true, false_from_ne_true, or_cases, or_right}
 use Rattle.std.proofs.lemmas.List.{nil_from_length}
@@ -14,7 +15,8 @@ use Rattle.suit_game.specs.declared.question.Question.{Question}
 use Rattle.suit_game.specs.declared.moves.Move.{Move}
 use Rattle.suit_game.specs.declared.moves.Move.TheVariants.{Lead, Follow, ShowOut}
 use Rattle.suit_game.specs.Gains.{is_declarer}
-use Rattle.suit_game.specs.Positions.{IsLegal, LegalFrom, Position, Trick, after, dealt, follows_of, hand, legal_in, start_place, step, step_in, without}
+use Rattle.suit_game.specs.Positions.{IsLegal, LegalFrom, Position, Trick, after, dealt, follows_of, hand, legal_in}
+use Rattle.suit_game.specs.Positions.{start_place, step, step_in, without}
 use Rattle.suit_game.specs.Histories.{History}
 use Rattle.suit_game.specs.Question.{missing}
 use Rattle.suit_game.proofs.EachElement.{Contains-first, Contains-map}

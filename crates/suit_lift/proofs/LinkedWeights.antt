@@ -1,5 +1,6 @@
 -- Weights over the common multiple stand as shares (defence_weights_are_shares).
-use Rattle.std.proofs.Common.{◌≡◌, ℕ, zero, suc, ◌*◌, ◌/◌, ◌≤◌, ◌<◌, Bool, true, false, List, [], ◌∷◌, length, cond, refl, ap, arith}
+use Rattle.std.proofs.Common.{◌≡◌, ℕ, zero, suc, ◌*◌, ◌/◌, ◌≤◌, ◌<◌, Bool, true, false, List, [], ◌∷◌, length, cond}
+use Rattle.std.proofs.Common.{refl, ap, arith}
 use Rattle.std.specs.Prelude.{Contains, ◌==◌}
 use Rattle.std.specs.List.{filter}
 use Rattle.std.proofs.lemmas.Bool.{agree_below_at, eqb-true, true≢false}

@@ -1,9 +1,12 @@
 -- The layouts of positive weight under which a history is legal (IsLive), and what their moves do to them.
-use Rattle.std.proofs.Common.{◌≡◌, ℕ, ◌<◌, Bool, true, false, cond, List, [], ◌∷◌, ◌++◌, length, map, refl, sym, ap, ◌∙◌, subst, inl, inr, arith}
+use Rattle.std.proofs.Common.{◌≡◌, ℕ, ◌<◌, Bool, true, false, cond, List, [], ◌∷◌, ◌++◌, length, map, refl, sym, ap}
+use Rattle.std.proofs.Common.{◌∙◌, subst, inl, inr, arith}
 use Rattle.std.specs.Prelude.{Contains, bytes_eq, nat_lt, slice_index, ◌&&◌, ◌||◌, if◌then◌else◌}
 use Rattle.std.specs.List.{filter, list_any}
-use Rattle.std.proofs.lemmas.Bool.{and_from, and_parts, false≢true, false_from_ne_true, lt-ltb, ltb-true, ne_eqb, or_left, or_right}
-use Rattle.std.proofs.lemmas.List.Elements.{Contains-append_cases, Contains-append_left, Contains-append_right, filter_agree}
+use Rattle.std.proofs.lemmas.Bool.{and_from, and_parts, false≢true, false_from_ne_true, lt-ltb, ltb-true, ne_eqb}
+use Rattle.std.proofs.lemmas.Bool.{or_left, or_right}
+use Rattle.std.proofs.lemmas.List.Elements.{Contains-append_cases, Contains-append_left, Contains-append_right}
+use Rattle.std.proofs.lemmas.List.Elements.{filter_agree}
 use Rattle.std.proofs.lemmas.Slice.Eq.{bytes_eq-Decides}
 use Rattle.suit_cards.specs.Cards.{Cards, Counts}
 use Rattle.suit_cards.specs.declared.seats.Seat.TheVariants.{N, S}
@@ -17,7 +20,8 @@ use Rattle.suit_game.specs.Layouts.{layouts, weight}
 use Rattle.suit_game.specs.PlaceViews.{IsPlay}
 use Rattle.suit_game.specs.Positions.{Position, Trick, after, legal, start_place, step_in}
 use Rattle.suit_game.specs.Validity.{IsValid}
-use Rattle.suit_game.proofs.EachElement.{Contains-cons_cases, Contains-filter, Contains-first, Contains-later, Contains-map, Contains-map_from, Contains-nil}
+use Rattle.suit_game.proofs.EachElement.{Contains-cons_cases, Contains-filter, Contains-first, Contains-later}
+use Rattle.suit_game.proofs.EachElement.{Contains-map, Contains-map_from, Contains-nil}
 use Rattle.suit_game.proofs.LayoutCards.{layouts_are_deals}
 use Rattle.suit_game.proofs.LegalPlays.{after_move}
 use Rattle.suit_classes.specs.declared.class_moves.ClassMove.{ClassMove}
@@ -29,7 +33,8 @@ use Rattle.suit_classes.specs.ClassMoves.{merged}
 use Rattle.suit_classes.specs.declared.class_view.ClassView.{ClassView}
 use Rattle.suit_classes.specs.declared.class_trick.ClassTrick.{ClassTrick}
 use Rattle.suit_classes.specs.declared.class_trick.ClassTrick.TheVariants.{Closed, Open}
-use Rattle.suit_classes.specs.ClassPlaces.{class_moves_in, class_numbers, classes_left, counted_classes, left, may_lead, or_show_out}
+use Rattle.suit_classes.specs.ClassPlaces.{class_moves_in, class_numbers, classes_left, counted_classes, left, may_lead}
+use Rattle.suit_classes.specs.ClassPlaces.{or_show_out}
 use Rattle.suit_classes.proofs.AllowedHistories.{layouts_allow_none}
 use Rattle.suit_classes.proofs.AllowedLayouts.{allows_tells, counts_alike}
 use Rattle.suit_classes.proofs.DefenceSizes.{sum-defence_sizes}
@@ -245,7 +250,8 @@ pub counts_listed : (question : Question) (west : Cards) (history : History) →
     )
 counts_listed question west history live =
     let sizes = sizes_of question in
-    let holding = (layouts_are_deals question west live.play.valid.north live.play.valid.south live.play.valid.apart live.play.layout).1 in
+    let holding = (layouts_are_deals question west live.play.valid.north live.play.valid.south live.play.valid.apart
+    live.play.layout).1 in
     let some : 0 < class_weight question sizes (counts_of (hands_of question) west) =
     subst (λ (counts : Counts). 0 < class_weight question sizes counts) (counts_alike question west holding)
     (layouts_listed question sizes west live.play.layout live.weighs) in

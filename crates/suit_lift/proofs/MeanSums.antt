@@ -8,7 +8,8 @@ use Rattle.suit_game.specs.Fractions.{Fraction, mean, total_weight, weighted_sum
 use Rattle.suit_game.specs.Strategies.{Weighed, chosen, kept, weighed}
 use Rattle.suit_game.proofs.WeightedMeans.{weighted_sum-den}
 use Rattle.suit_game.proofs.EachElement.{each_map}
-use Rattle.suit_lift.proofs.FractionSums.{IsNoMore, no_more_itself, no_more_same, no_more_then, parts_of, plus, plus_no_more, plus_nothing, sum_of, times}
+use Rattle.suit_lift.proofs.FractionSums.{IsNoMore, no_more_itself, no_more_same, no_more_then, parts_of, plus}
+use Rattle.suit_lift.proofs.FractionSums.{plus_no_more, plus_nothing, sum_of, times}
 use Rattle.suit_lift.proofs.SharedMeans.{chosen_weighed, valued, weighed_weight}
 
 -- what is chosen weighs the sum of its weights

@@ -11,7 +11,8 @@ use Rattle.suit_game.specs.declared.question.Question.{Question}
 use Rattle.suit_game.specs.declared.moves.Move.{Move}
 use Rattle.suit_game.specs.declared.moves.Move.TheVariants.{Follow, ShowOut}
 use Rattle.suit_game.specs.Gains.{is_declarer, is_declarer_turn}
-use Rattle.suit_game.specs.Positions.{Position, Trick, Closed, Open, dealt, follows_of, hand, legal_in, step_in, without}
+use Rattle.suit_game.specs.Positions.{Position, Trick, Closed, Open, dealt, follows_of, hand, legal_in, step_in}
+use Rattle.suit_game.specs.Positions.{without}
 use Rattle.suit_game.specs.Question.{missing}
 use Rattle.suit_game.proofs.HeldCards.{holds-from_without}
 use Rattle.suit_game.proofs.LayoutCards.{missing-apart}

@@ -1,5 +1,6 @@
 -- A defence names the layouts of a class layout by its masses (naming_law).
-use Rattle.std.proofs.Common.{◌≡◌, ℕ, suc, ◌+◌, ◌*◌, ◌<◌, Bool, true, false, not, List, [], ◌∷◌, ◌++◌, length, map, refl, sym, ap, ◌∙◌, subst, arith}
+use Rattle.std.proofs.Common.{◌≡◌, ℕ, suc, ◌+◌, ◌*◌, ◌<◌, Bool, true, false, not, List, [], ◌∷◌, ◌++◌, length, map}
+use Rattle.std.proofs.Common.{refl, sym, ap, ◌∙◌, subst, arith}
 use Rattle.std.specs.Prelude.{Contains, bytes_eq, ◌&&◌, if◌then◌else◌}
 use Rattle.std.specs.List.{AllByRecursion, filter, sum_by}
 use Rattle.std.proofs.Math.Nat.{eq_of_mul-eq-mul_right, mul-pos}
@@ -29,7 +30,8 @@ use Rattle.suit_plans.specs.Properness.{IsProperDefence}
 use Rattle.suit_plans.proofs.MassSteps.{mass_kept}
 use Rattle.suit_plans.proofs.ProperDefences.{proper_defence}
 use Rattle.suit_lift.specs.Lifts.{defence_way}
-use Rattle.suit_lift.specs.Naming.{LayoutShare, LayoutsNamed, NamingLaw, StaysUndecided, held, is_legal, layouts_naming, product_from, shares_made, unplayed, unplayed_product}
+use Rattle.suit_lift.specs.Naming.{LayoutShare, LayoutsNamed, NamingLaw, StaysUndecided, held, is_legal, layouts_naming}
+use Rattle.suit_lift.specs.Naming.{product_from, shares_made, unplayed, unplayed_product}
 use Rattle.suit_lift.proofs.AlikeLayouts.{alike_layouts, from_filter}
 use Rattle.suit_lift.proofs.CardMoves.{unplayed_fits}
 use Rattle.suit_lift.proofs.DefenceGains.{mass_starts}

@@ -70,23 +70,24 @@ met_most gn gd num den value whole some met bound =
     le_of_mul-le-mul_left both some
 
 pub met_is_certified : MetIsCertified
-met_is_certified question num den plan defence valid plan_proper defence_proper reduced some least_met most_met = record {
-  reduced = reduced;
-  plan_proper = plan_proper;
-  defence_proper = defence_proper;
-  settles = record {
-    earns = λ other.
-        let low = plans_earn question plan other valid plan_proper in
-        let gained : Fraction = gain question (plan_way question plan) other in
-        met_least gained.num gained.den num den (counted (least question plan)) (counted plan.den
-        * total question) low.weighs least_met low.bound;
-    holds = λ other.
-        let high = defences_hold question other defence valid defence_proper in
-        let gained : Fraction = gain question other (defence_way question defence) in
-        met_most gained.num gained.den num den (counted (most question defence)) (counted defence.den
-        * total question) high.weighs most_met high.bound;
-    positive = some;
-    weighs = valid.has_weight;
-    dens = λ way other. gain-den question way other valid.has_weight;
-  };
-}
+met_is_certified question num den plan defence valid plan_proper defence_proper reduced some least_met most_met =
+    record {
+      reduced = reduced;
+      plan_proper = plan_proper;
+      defence_proper = defence_proper;
+      settles = record {
+        earns = λ other.
+            let low = plans_earn question plan other valid plan_proper in
+            let gained : Fraction = gain question (plan_way question plan) other in
+            met_least gained.num gained.den num den (counted (least question plan)) (counted plan.den
+            * total question) low.weighs least_met low.bound;
+        holds = λ other.
+            let high = defences_hold question other defence valid defence_proper in
+            let gained : Fraction = gain question other (defence_way question defence) in
+            met_most gained.num gained.den num den (counted (most question defence)) (counted defence.den
+            * total question) high.weighs most_met high.bound;
+        positive = some;
+        weighs = valid.has_weight;
+        dens = λ way other. gain-den question way other valid.has_weight;
+      };
+    }

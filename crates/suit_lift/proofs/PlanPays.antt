@@ -1,5 +1,6 @@
 -- After each legal history the lift of a plan pays at least what its class history is worth (plans_pay).
-use Rattle.std.proofs.Common.{◌≡◌, ℕ, zero, suc, ◌*◌, ◌≤◌, ◌<◌, Bool, true, false, not, List, [], ◌∷◌, ◌++◌, map, refl, sym, ap, ◌∙◌, subst, inl, inr, arith}
+use Rattle.std.proofs.Common.{◌≡◌, ℕ, zero, suc, ◌*◌, ◌≤◌, ◌<◌, Bool, true, false, not, List, [], ◌∷◌, ◌++◌, map, refl}
+use Rattle.std.proofs.Common.{sym, ap, ◌∙◌, subst, inl, inr, arith}
 use Rattle.std.specs.Prelude.{Contains, ℤ, pos, ◌≤ℤ◌, if◌then◌else◌}
 use Rattle.std.specs.Int.{int_min}
 use Rattle.std.specs.List.{AllByRecursion, sum_by}
@@ -139,7 +140,8 @@ module _ (question : Question) (plan : Plan) (defence : DefenceWay) (west : Card
           (chosen (if b then plan_way question plan history else defence west history) (legal question west history)))
       pay_is b turn =
           pay_where_on question
-          (plan_way question plan) defence west history play.valid.north play.valid.south play.valid.apart play.legal on.goes
+          (plan_way question plan) defence west history play.valid.north play.valid.south play.valid.apart play.legal
+          on.goes
           ∙ ap (λ (own : Bool). mean (valued (λ move. pay question (plan_way question plan) defence west
           (history ++ move ∷ []))
           (chosen (if own then plan_way question plan history else defence west history)

@@ -1,5 +1,6 @@
 -- The shares of the class moves at a turn stand as their masses (side_shares).
-use Rattle.std.proofs.Common.{◌≡◌, ℕ, zero, suc, ◌+◌, ◌*◌, ◌≤◌, ◌<◌, Bool, true, false, cond, not, List, [], ◌∷◌, ◌++◌, Some, None, map, refl, sym, ap, ◌∙◌, subst, inl, inr, arith}
+use Rattle.std.proofs.Common.{◌≡◌, ℕ, zero, suc, ◌+◌, ◌*◌, ◌≤◌, ◌<◌, Bool, true, false, cond, not, List, [], ◌∷◌, ◌++◌}
+use Rattle.std.proofs.Common.{Some, None, map, refl, sym, ap, ◌∙◌, subst, inl, inr, arith}
 use Rattle.std.specs.Prelude.{Contains, ◌==◌, ℤ, pos, negsuc, ◌+ℤ◌, ◌*ℤ◌, ◌≤ℤ◌, if◌then◌else◌}
 use Rattle.std.specs.List.{AllByRecursion, list_all, sum_by, filter}
 use Rattle.std.proofs.lemmas.Bool.{and_parts, cases_eq, eq-eqb, eqb-true, false≢true, true≢false}
@@ -12,7 +13,8 @@ use Rattle.suit_game.specs.Histories.{History}
 use Rattle.suit_game.specs.Positions.{legal}
 use Rattle.suit_game.specs.PlaceViews.{IsPlay}
 use Rattle.suit_game.specs.Strategies.{counted}
-use Rattle.suit_game.proofs.EachElement.{Contains-first, Contains-later, Contains-nil, Contains-cons_cases, each_gives, each_in}
+use Rattle.suit_game.proofs.EachElement.{Contains-first, Contains-later, Contains-nil, Contains-cons_cases, each_gives}
+use Rattle.suit_game.proofs.EachElement.{each_in}
 use Rattle.suit_game.proofs.ListSums.{sum_by_alike, sum_by_none, term_small}
 use Rattle.suit_classes.specs.declared.class_moves.ClassMove.{ClassMove}
 use Rattle.suit_classes.specs.Classes.{hands_of}

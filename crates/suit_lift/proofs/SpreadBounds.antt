@@ -1,6 +1,7 @@
 -- Bounds of class moves, each divided among the unplayed cards of its class, add up to no more than the bounds
 -- (spread_sum).
-use Rattle.std.proofs.Common.{◌≡◌, ℕ, zero, suc, ◌+◌, ◌*◌, ◌/◌, ◌≤◌, Bool, true, false, cond, List, [], ◌∷◌, map, refl, sym, ap, ◌∙◌, subst, inl, inr, arith}
+use Rattle.std.proofs.Common.{◌≡◌, ℕ, zero, suc, ◌+◌, ◌*◌, ◌/◌, ◌≤◌, Bool, true, false, cond, List, [], ◌∷◌, map, refl}
+use Rattle.std.proofs.Common.{sym, ap, ◌∙◌, subst, inl, inr, arith}
 use Rattle.std.specs.Prelude.{◌||◌, ◌==◌, if◌then◌else◌}
 use Rattle.std.specs.List.{AllByRecursion, sum_by}
 use Rattle.std.proofs.Math.Nat.{mul-le-mul_left}
@@ -81,7 +82,13 @@ part_sum (first ∷ moves) those worth once =
     let here : ClassMove → ℕ = λ other. if same_class_move other first then worth other else 0 in
     let split : sum_by (worth_among (first ∷ moves) worth) those ≤ sum_by here those + sum_by
     (worth_among moves worth) those = both those in
-    omega (arith, split, named_once first worth those once, part_sum moves those worth once, sum_by-cons worth first moves)
+    omega (
+      arith,
+      split,
+      named_once first worth those once,
+      part_sum moves those worth once,
+      sum_by-cons worth first moves,
+    )
   where
     either : (a b : Bool) (n : ℕ) → cond {A = ℕ} (a || b) n 0 ≤ cond {A = ℕ} a n 0 + cond {A = ℕ} b n 0
     either true b n = elim b as (λ c. n ≤ n + cond {A = ℕ} c n 0) [ true ↦ omega arith | false ↦ omega arith ]

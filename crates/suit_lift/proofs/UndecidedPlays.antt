@@ -10,7 +10,8 @@ use Rattle.suit_game.specs.declared.moves.Move.{Move}
 use Rattle.suit_game.specs.declared.turn.Turn.TheVariants as games
 use Rattle.suit_game.specs.Gains.{is_declarer_turn}
 use Rattle.suit_game.specs.Histories.{History}
-use Rattle.suit_game.specs.Positions.{Position, Trick, Closed, Open, after, ended_in, has_ended, is_empty, leads_at, legal}
+use Rattle.suit_game.specs.Positions.{Position, Trick, Closed, Open, after, ended_in, has_ended, is_empty, leads_at}
+use Rattle.suit_game.specs.Positions.{legal}
 use Rattle.suit_game.specs.PlaceViews.{IsPlay, turn_on}
 use Rattle.suit_game.proofs.EachElement.{Contains-first}
 use Rattle.suit_game.proofs.LegalPlays.{legal_moves_extend}

@@ -1,5 +1,6 @@
 -- With what weights a defence names layouts by its play.
-use Rattle.std.specs.Prelude.{◌≡◌, ℕ, ◌*◌, ◌<◌, ◌&&◌, Bool, true, false, List, [], ◌∷◌, ◌++◌, length, map, filter, sum_by, bytes_eq, if◌then◌else◌}
+use Rattle.std.specs.Prelude.{◌≡◌, ℕ, ◌*◌, ◌<◌, ◌&&◌, Bool, true, false, List, [], ◌∷◌, ◌++◌, length, map, filter}
+use Rattle.std.specs.Prelude.{sum_by, bytes_eq, if◌then◌else◌}
 use Rattle.std.specs.List.{list_any}
 use Rattle.suit_cards.specs.Cards.{Cards}
 use Rattle.suit_game.specs.declared.question.Question.{Question}
@@ -108,7 +109,8 @@ LayoutShare =
 abbrev pub named_together : Question → Defence → Cards → History → Fraction
 named_together question defence west history =
     weighted_sum
-    (map (λ other. (weight question (length other), shares_made question defence other history)) (layouts_naming question west history))
+    (map (λ other. (weight question (length other), shares_made question defence other history))
+    (layouts_naming question west history))
 
 -- so the layouts of a class layout that allow a history are named together by its mass, over the denominator and the
 -- unplayed numbers; no denominator is 0

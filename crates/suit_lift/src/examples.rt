@@ -1,5 +1,6 @@
 //! What the lifts give on examples that were worked out by hand.
-ghost use Rattle.suit_lift.specs.Examples.{AllCountsZero, KingFirst, LeadsFromBoth, PastDecided, QueenOrJack, ShowingOut, TwoClassesOfTwo};
+ghost use Rattle.suit_lift.specs.Examples.{AllCountsZero, KingFirst, LeadsFromBoth, PastDecided, QueenOrJack};
+ghost use Rattle.suit_lift.specs.Examples.{ShowingOut, TwoClassesOfTwo};
 
 /// With no rows North plays the lower of his first class, the ace and the king.
 pub fn king_first()

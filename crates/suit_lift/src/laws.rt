@@ -1,9 +1,11 @@
 //! Laws of the lifts: each is the contract of an empty function.
 ghost use Rattle.suit_lift.specs.Certified.{MetIsCertified, OneCertifiedValue, OneValue};
 ghost use Rattle.suit_lift.specs.Naming.{LayoutShare, LayoutsNamed, NamingLaw};
-ghost use Rattle.suit_lift.specs.LiftLaws.{DefenceWeightsAreShares, DefencesHold, PlanWeightsAreShares, PlansEarn, PlansPay};
+ghost use Rattle.suit_lift.specs.LiftLaws.{DefenceWeightsAreShares, DefencesHold, PlanWeightsAreShares, PlansEarn};
+ghost use Rattle.suit_lift.specs.LiftLaws.{PlansPay};
 
-/// The weight of a move in the lift of a plan stands to the common multiple as its count to the cards among which it is divided.
+/// The weight of a move in the lift of a plan stands to the common multiple as its count to the cards among which it is
+/// divided.
 pub fn plan_weights_are_shares()
     ensures { PlanWeightsAreShares }
 {}

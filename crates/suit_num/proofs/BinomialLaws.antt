@@ -1,5 +1,6 @@
 -- Laws of binomials.
-use Rattle.std.proofs.Common.{◌≡◌, ℕ, zero, suc, ◌+◌, ◌*◌, ◌^◌, ◌≤◌, ◌<◌, List, [], ◌∷◌, get_or, refl, arith, sym, ap, ◌∙◌, ◌/◌}
+use Rattle.std.proofs.Common.{◌≡◌, ℕ, zero, suc, ◌+◌, ◌*◌, ◌^◌, ◌≤◌, ◌<◌, List, [], ◌∷◌, get_or, refl, arith, sym, ap}
+use Rattle.std.proofs.Common.{◌∙◌, ◌/◌}
 use Rattle.std.proofs.Math.Nat.{pow-le-pow_right, mul-div_cancel, mul-le-mul}
 use Rattle.suit_num.specs.Binomials.{next_row, binomial_row, binomial}
 
@@ -30,7 +31,8 @@ unfolding binomial binomial_row
 binomial_past zero zero h = absurd (omega arith)
 binomial_past zero (suc k) h = refl
 binomial_past (suc n) zero h = absurd (omega arith)
-binomial_past (suc n) (suc k) h = row_later 0 (binomial_row n) k ∙ omega (arith, binomial_past n k (omega arith), binomial_past n (suc k) (omega arith))
+binomial_past (suc n) (suc k) h = row_later 0 (binomial_row n) k
+    ∙ omega (arith, binomial_past n k (omega arith), binomial_past n (suc k) (omega arith))
 
 pub binomial_all : (n : ℕ) → binomial n n ≡ 1
 binomial_all zero = binomial-none 0
@@ -40,7 +42,8 @@ mirrored : (n m k : ℕ) → m + k ≡ n → binomial n k ≡ binomial n m
 mirrored n zero k e = let all : k ≡ n = omega arith in rw all (binomial_all n ∙ sym (binomial-none n))
 mirrored n (suc m) zero e = let all : suc m ≡ n = omega arith in rw all (binomial-none n ∙ sym (binomial_all n))
 mirrored zero (suc m) (suc k) e = absurd (omega arith)
-mirrored (suc n) (suc m) (suc k) e = omega (arith, pascal n k, pascal n m, mirrored n (suc m) k (omega arith), mirrored n m (suc k) (omega arith))
+mirrored (suc n) (suc m) (suc k) e =
+    omega (arith, pascal n k, pascal n m, mirrored n (suc m) k (omega arith), mirrored n m (suc k) (omega arith))
 
 -- to choose k is to leave the m others
 pub binomial_rest : (m k : ℕ) → binomial (m + k) k ≡ binomial (m + k) m
@@ -63,10 +66,12 @@ binomial_step (suc n) zero =
     let first : binomial n 1 ≡ n = omega (arith, rw one at (binomial_step n zero)) in
     rw (binomial-none (suc n)) (omega (arith, pascal n 0, one, first))
 binomial_step (suc n) (suc k) =
-    step (binomial (suc n) (suc k)) (binomial (suc n) (suc (suc k))) (binomial n k) (binomial n (suc k)) (binomial n (suc (suc k))) n k
+    step (binomial (suc n) (suc k)) (binomial (suc n) (suc (suc k))) (binomial n k) (binomial n (suc k))
+    (binomial n (suc (suc k))) n k
     (pascal n k) (pascal n (suc k)) (binomial_step n k) (binomial_step n (suc k))
   where
-    step : (p q x y z n k : ℕ) → p ≡ x + y → q ≡ y + z → y * suc k + k * x ≡ n * x → z * suc (suc k) + suc k * y ≡ n * y → q * suc (suc k) + suc k * p ≡ suc n * p
+    step : (p q x y z n k : ℕ) → p ≡ x + y → q ≡ y + z → y * suc k + k * x ≡ n * x → z * suc (suc k) + suc k * y ≡ n * y
+        → q * suc (suc k) + suc k * p ≡ suc n * p
     step p q x y z n k e f g h = rw (e, f) (omega arith)
 
 pub binomial-absorbed : (n k : ℕ) → suc k * binomial (suc n) (suc k) ≡ suc n * binomial n k

@@ -3,8 +3,11 @@ use Rattle.std.proofs.Common.{◌≡◌, ℕ, zero, suc, ◌+◌, ◌*◌, ◌/�
 use Rattle.std.specs.Prelude.{◌↔◌}
 use Rattle.std.specs.Int.{IsGcd, ◌∣◌}
 use Rattle.std.proofs.lemmas.Nat.{mod-mul-add}
-use Rattle.std.proofs.lemmas.Nat.Gcd.{dvd_refl, dvd_trans, dvd_antisymm, IsGcd-from_zero, IsGcd-from_mod, same_from_IsGcd}
-use Rattle.std.proofs.Math.Nat.{mul_comm, mul-one, one-mul, div-mul_cancel, mul-dvd-mul_right, dvd_of_mul-dvd-mul_right, dvd-mul_right, dvd-mul_left, dvd-mul_right_of_dvd, eq-one_of_dvd-one, one-dvd, mul-lt-mul_of_pos_right, div-add-mod', mul-zero, mul-div_cancel, pos_of_dvd_of_pos}
+use Rattle.std.proofs.lemmas.Nat.Gcd.{dvd_refl, dvd_trans, dvd_antisymm, IsGcd-from_zero, IsGcd-from_mod}
+use Rattle.std.proofs.lemmas.Nat.Gcd.{same_from_IsGcd}
+use Rattle.std.proofs.Math.Nat.{mul_comm, mul-one, one-mul, div-mul_cancel, mul-dvd-mul_right, dvd_of_mul-dvd-mul_right}
+use Rattle.std.proofs.Math.Nat.{dvd-mul_right, dvd-mul_left, dvd-mul_right_of_dvd, eq-one_of_dvd-one, one-dvd}
+use Rattle.std.proofs.Math.Nat.{mul-lt-mul_of_pos_right, div-add-mod', mul-zero, mul-div_cancel, pos_of_dvd_of_pos}
 use Rattle.suit_num.specs.Divisors.{IsCoprime, IsLcm, gcd_within, gcd_of, lcm_of}
 
 mod-scaled : (a b k : ℕ) → 0 < b → (a * k) % (b * k) ≡ (a % b) * k
@@ -111,4 +114,7 @@ pub IsGcd-iff : (a b g : ℕ) → IsGcd a b g ↔ (g ≡ gcd_of a b)
 IsGcd-iff a b g = (λ h. same_from_IsGcd a b g (gcd_of a b) h (IsGcd-gcd_of a b), λ e. rw e (IsGcd-gcd_of a b))
 
 pub IsLcm-iff : (a b m : ℕ) → 0 < a → IsLcm a b m ↔ (m ≡ lcm_of a b)
-IsLcm-iff a b m some = (λ h. same_from_IsLcm a b m (lcm_of a b) h (IsLcm-lcm_of a b some), λ e. rw e (IsLcm-lcm_of a b some))
+IsLcm-iff a b m some = (
+  λ h. same_from_IsLcm a b m (lcm_of a b) h (IsLcm-lcm_of a b some),
+  λ e. rw e (IsLcm-lcm_of a b some),
+)

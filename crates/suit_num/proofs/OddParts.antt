@@ -1,11 +1,13 @@
 -- A number as an odd part times a power of 2, and the greatest common divisor by odd parts.
-use Rattle.std.proofs.Common.{◌≡◌, ◌≢◌, ℕ, zero, suc, ◌+◌, ◌-◌, ◌*◌, ◌/◌, ◌%◌, ◌^◌, ◌<◌, ◌≤◌, min, max, refl, sym, ap, ◌∙◌, subst, arith, inl, inr}
+use Rattle.std.proofs.Common.{◌≡◌, ◌≢◌, ℕ, zero, suc, ◌+◌, ◌-◌, ◌*◌, ◌/◌, ◌%◌, ◌^◌, ◌<◌, ◌≤◌, min, max, refl, sym, ap}
+use Rattle.std.proofs.Common.{◌∙◌, subst, arith, inl, inr}
 use Rattle.std.specs.Int.{IsGcd, ◌∣◌, Width, bit_at, trailing_zeros}
 use mir.Val.{bits}
 use Rattle.std.proofs.lemmas.Bool.{cases_lt}
 use Rattle.std.proofs.lemmas.Nat.{mod-pow-add, shr_split, pow-add}
 use Rattle.std.proofs.lemmas.Nat.Bits.{bit_at-trailing_zeros}
-use Rattle.std.proofs.lemmas.Nat.Gcd.{dvd_refl, dvd_trans, le_of_dvd, mod-eq-zero_of_dvd, IsGcd-swap, IsGcd-from_sub, IsGcd-from_mod, IsGcd-from_zero}
+use Rattle.std.proofs.lemmas.Nat.Gcd.{dvd_refl, dvd_trans, le_of_dvd, mod-eq-zero_of_dvd, IsGcd-swap, IsGcd-from_sub}
+use Rattle.std.proofs.lemmas.Nat.Gcd.{IsGcd-from_mod, IsGcd-from_zero}
 use Rattle.std.proofs.Math.Nat.{mul_assoc, mod-one, eq-one_of_dvd-one, mod-eq_of_lt}
 use Rattle.suit_num.specs.Divisors.{IsCoprime}
 use Rattle.suit_num.proofs.DivisorLaws.{IsGcd-scaled, IsGcd-times_coprime, dvd_of_coprime}
@@ -20,7 +22,8 @@ low_zero n (suc t) h =
     rw (← e) (split ∙ rw (top, low) (omega arith))
 
 -- what is left after the shift by the trailing zeros is odd, and shifting back gives the number
-pub odd_part : (w : Width) (n : ℕ) → 0 < n → n < 2 ^ bits w → (trailing_zeros w n < bits w) × (n / 2 ^ trailing_zeros w n % 2 ≡ 1) × (n / 2 ^ trailing_zeros w n * 2 ^ trailing_zeros w n ≡ n)
+pub odd_part : (w : Width) (n : ℕ) → 0 < n → n < 2 ^ bits w → (trailing_zeros w n < bits w)
+    × (n / 2 ^ trailing_zeros w n % 2 ≡ 1) × (n / 2 ^ trailing_zeros w n * 2 ^ trailing_zeros w n ≡ n)
 odd_part w n some fits =
     let bits_are = bit_at-trailing_zeros w n some fits in
     let low : n % 2 ^ trailing_zeros w n ≡ 0 = low_zero n (trailing_zeros w n) bits_are.2 in
@@ -43,15 +46,20 @@ power_coprime (suc t) y odd = λ d p q.
 shifted : (x y i j g : ℕ) → x % 2 ≡ 1 → i ≤ j → IsGcd x y g → IsGcd (x * 2 ^ i) (y * 2 ^ j) (g * 2 ^ i)
 shifted x y i j g odd le is =
     let e : y * 2 ^ (j - i) * 2 ^ i ≡ y * 2 ^ j =
-    mul_assoc y (2 ^ (j - i)) (2 ^ i) ∙ ap (λ (n : ℕ). y * n) (sym (pow-add 2 (j - i) i)) ∙ ap (λ (n : ℕ). y * 2 ^ n) (omega arith) in
-    let more : IsGcd x (y * 2 ^ (j - i)) g = IsGcd-swap _ _ _ (IsGcd-times_coprime y x g (2 ^ (j - i)) (power_coprime (j - i) x odd) (IsGcd-swap x y g is)) in
+    mul_assoc y (2 ^ (j - i)) (2 ^ i) ∙ ap (λ (n : ℕ). y * n) (sym (pow-add 2 (j - i) i))
+    ∙ ap (λ (n : ℕ). y * 2 ^ n) (omega arith) in
+    let more : IsGcd x (y * 2 ^ (j - i)) g =
+    IsGcd-swap _ _ _ (IsGcd-times_coprime y x g (2 ^ (j - i)) (power_coprime (j - i) x odd)
+    (IsGcd-swap x y g is)) in
     subst (λ (n : ℕ). IsGcd (x * 2 ^ i) n (g * 2 ^ i)) e (IsGcd-scaled x (y * 2 ^ (j - i)) g (2 ^ i) more)
 
-pub both_shifted : (x y i j g : ℕ) → x % 2 ≡ 1 → y % 2 ≡ 1 → IsGcd x y g → IsGcd (x * 2 ^ i) (y * 2 ^ j) (g * 2 ^ min i j)
+pub both_shifted : (x y i j g : ℕ) → x % 2 ≡ 1 → y % 2 ≡ 1 → IsGcd x y g
+    → IsGcd (x * 2 ^ i) (y * 2 ^ j) (g * 2 ^ min i j)
 both_shifted x y i j g odd_x odd_y is =
     elim (cases_lt i j) as (λ _. IsGcd (x * 2 ^ i) (y * 2 ^ j) (g * 2 ^ min i j)) [
       | inl h ↦ let e : min i j ≡ i = omega arith in rw e (shifted x y i j g odd_x (omega arith) is)
-      | inr h ↦ let e : min i j ≡ j = omega arith in rw e (IsGcd-swap _ _ _ (shifted y x j i g odd_y h (IsGcd-swap x y g is)))
+      | inr h ↦ let e : min i j ≡ j = omega arith in
+          rw e (IsGcd-swap _ _ _ (shifted y x j i g odd_y h (IsGcd-swap x y g is)))
     ]
 
 -- x and y are odd, and their greatest common divisor, shifted, is that of a and b
@@ -60,14 +68,18 @@ pub record Halves (a b x y twos : ℕ) : Type 0 where
   pub odd_y : y % 2 ≡ 1
   pub same : (g : ℕ) → IsGcd x y g → IsGcd a b (g * 2 ^ twos)
 
-pub halves_first : (w : Width) (a b : ℕ) → 0 < a → a < 2 ^ bits w → 0 < b → b < 2 ^ bits w → Halves a b (a / 2 ^ trailing_zeros w a) (b / 2 ^ trailing_zeros w b) (min (trailing_zeros w a) (trailing_zeros w b))
+pub halves_first : (w : Width) (a b : ℕ) → 0 < a → a < 2 ^ bits w → 0 < b → b < 2 ^ bits w
+    → Halves a b (a / 2 ^ trailing_zeros w a) (b / 2 ^ trailing_zeros w b)
+    (min (trailing_zeros w a) (trailing_zeros w b))
 halves_first w a b some_a fits_a some_b fits_b =
     let p = odd_part w a some_a fits_a in
     let q = odd_part w b some_b fits_b in
     record {
       odd_x = p.1;
       odd_y = q.1;
-      same = λ g is. rw p.2 at (rw q.2 at (both_shifted (a / 2 ^ trailing_zeros w a) (b / 2 ^ trailing_zeros w b) (trailing_zeros w a) (trailing_zeros w b) g p.1 q.1 is));
+      same = λ g is. rw p.2 at (rw q.2 at
+          (both_shifted (a / 2 ^ trailing_zeros w a) (b / 2 ^ trailing_zeros w b) (trailing_zeros w a)
+          (trailing_zeros w b) g p.1 q.1 is));
     }
 
 -- the difference of two odd numbers, with its powers of 2 left out, in place of the greater of them
@@ -91,7 +103,8 @@ min_odd x y p q =
       | inr h ↦ let f : min x y ≡ y = omega arith in rw f q
     ]
 
-pub halves_next : (w : Width) (a b x y twos gap : ℕ) → Halves a b x y twos → x ≢ y → gap ≡ (x - y) + (y - x) → gap < 2 ^ bits w → Halves a b (gap / 2 ^ trailing_zeros w gap) (min x y) twos
+pub halves_next : (w : Width) (a b x y twos gap : ℕ) → Halves a b x y twos → x ≢ y → gap ≡ (x - y) + (y - x)
+    → gap < 2 ^ bits w → Halves a b (gap / 2 ^ trailing_zeros w gap) (min x y) twos
 halves_next w a b x y twos gap h apart is fits =
     let p = odd_part w gap (omega arith) fits in
     let low : min x y % 2 ≡ 1 = min_odd x y h.odd_x h.odd_y in
@@ -99,7 +112,8 @@ halves_next w a b x y twos gap h apart is fits =
       odd_x = p.1;
       odd_y = low;
       same = λ g d.
-          let more : IsGcd (gap / 2 ^ trailing_zeros w gap * 2 ^ trailing_zeros w gap) (min x y) g = IsGcd-times_coprime _ _ g _ (power_coprime (trailing_zeros w gap) (min x y) low) d in
+          let more : IsGcd (gap / 2 ^ trailing_zeros w gap * 2 ^ trailing_zeros w gap) (min x y) g =
+          IsGcd-times_coprime _ _ g _ (power_coprime (trailing_zeros w gap) (min x y) low) d in
           h.same g (gap_gcd x y g (rw is at (rw p.2 at more)));
     }
 
@@ -122,7 +136,8 @@ gcd_of_zero a b small large e f none =
       | inr h ↦ let is : large ≡ a = omega arith in rw is (IsGcd-from_zero a b (omega arith))
     ]
 
-pub gcd_of_rest : (a b small large g : ℕ) → small ≡ min a b → large ≡ max a b → IsGcd small (large % small) g → IsGcd a b g
+pub gcd_of_rest : (a b small large g : ℕ) → small ≡ min a b → large ≡ max a b → IsGcd small (large % small) g
+    → IsGcd a b g
 gcd_of_rest a b small large g e f is =
     elim (cases_lt a b) as (λ _. IsGcd a b g) [
       | inl h ↦
@@ -136,7 +151,8 @@ gcd_of_rest a b small large g e f is =
     ]
 
 pub gcd_of_multiple : (a b small large : ℕ) → small ≡ min a b → large ≡ max a b → large % small ≡ 0 → IsGcd a b small
-gcd_of_multiple a b small large e f none = gcd_of_rest a b small large small e f (IsGcd-from_zero small (large % small) none)
+gcd_of_multiple a b small large e f none =
+    gcd_of_rest a b small large small e f (IsGcd-from_zero small (large % small) none)
 
 -- the same fact of equal numbers
 pub gcd_same : (a b g x y k : ℕ) → x ≡ a → y ≡ b → g ≡ k → IsGcd x y k → IsGcd a b g

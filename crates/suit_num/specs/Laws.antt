@@ -1,4 +1,5 @@
-use Rattle.std.specs.Prelude.{◌≡◌, ℕ, suc, ◌+◌, ◌*◌, ◌<◌, ◌↔◌, ℤ, pos, ◌+ℤ◌, ◌-ℤ◌, ◌*ℤ◌, ◌<ℤ◌, ◌≤ℤ◌, unsigned_abs, int_div}
+use Rattle.std.specs.Prelude.{◌≡◌, ℕ, suc, ◌+◌, ◌*◌, ◌<◌, ◌↔◌, ℤ, pos, ◌+ℤ◌, ◌-ℤ◌, ◌*ℤ◌, ◌<ℤ◌, ◌≤ℤ◌, unsigned_abs}
+use Rattle.std.specs.Prelude.{int_div}
 use Rattle.std.specs.Int.{IsGcd, ◌∣◌}
 use Rattle.suit_num.specs.Binomials.{binomial}
 use Rattle.suit_num.specs.Divisors.{IsCoprime, IsLcm, gcd_of, lcm_of}
@@ -51,7 +52,8 @@ FractionOrderLaw =
 -- products of integers may be regrouped, and a product of a sum or a difference is taken term by term
 abbrev pub IntegerProductsLaw : Type 0
 IntegerProductsLaw =
-    (a b c : ℤ) → ((a *ℤ b) *ℤ c ≡ a *ℤ (b *ℤ c)) × (a *ℤ (b +ℤ c) ≡ a *ℤ b +ℤ a *ℤ c) × (a *ℤ (b -ℤ c) ≡ a *ℤ b -ℤ a *ℤ c)
+    (a b c : ℤ) → ((a *ℤ b) *ℤ c ≡ a *ℤ (b *ℤ c)) × (a *ℤ (b +ℤ c) ≡ a *ℤ b +ℤ a *ℤ c)
+    × (a *ℤ (b -ℤ c) ≡ a *ℤ b -ℤ a *ℤ c)
 
 -- a quotient by a divisor is exact
 abbrev pub ExactDivisionLaw : Type 0
@@ -60,4 +62,5 @@ ExactDivisionLaw = (a d : ℤ) → unsigned_abs d ∣ unsigned_abs a → int_div
 -- a divisor of two numbers divides each combination of them
 abbrev pub CombinationLaw : Type 0
 CombinationLaw =
-    (d a b x y : ℤ) → unsigned_abs d ∣ unsigned_abs a → unsigned_abs d ∣ unsigned_abs b → unsigned_abs d ∣ unsigned_abs (a *ℤ x -ℤ b *ℤ y)
+    (d a b x y : ℤ) → unsigned_abs d ∣ unsigned_abs a → unsigned_abs d ∣ unsigned_abs b
+    → unsigned_abs d ∣ unsigned_abs (a *ℤ x -ℤ b *ℤ y)

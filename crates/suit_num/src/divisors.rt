@@ -59,7 +59,8 @@ fn short_gcd(a: u64, b: u64) -> u64
 pub fn lcm(a: i128, b: i128) -> Option<i128>
     requires positive_a { pos 0 <ℤ a }
     requires positive_b { pos 0 <ℤ b }
-    ensures value { let least = pos (lcm_of (unsigned_abs a) (unsigned_abs b)) in SomeIff result (IsNarrow least) least }
+    ensures value { let least = pos (lcm_of (unsigned_abs a) (unsigned_abs b)) in
+        SomeIff result (IsNarrow least) least }
     ensures least { IfSome result (λ m. IsLcm (unsigned_abs a) (unsigned_abs b) (unsigned_abs m)) }
 {
     mul(exact(a, gcd(a, b)), b)

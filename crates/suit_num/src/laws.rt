@@ -1,6 +1,8 @@
 //! What holds of the definitions that the contracts cite. Each function does nothing: its contract
 //! is the law, and `proofs/` has the same facts as lemmas.
-ghost use Rattle.suit_num.specs.Laws.{PascalLaw, NoneChosenLaw, AllChosenLaw, TooManyChosenLaw, RestChosenLaw, AbsorptionLaw, GcdLaw, LcmLaw, LowestTermsLaw, FractionOrderLaw, IntegerProductsLaw, ExactDivisionLaw, CombinationLaw};
+ghost use Rattle.suit_num.specs.Laws.{PascalLaw, NoneChosenLaw, AllChosenLaw, TooManyChosenLaw, RestChosenLaw};
+ghost use Rattle.suit_num.specs.Laws.{AbsorptionLaw, GcdLaw, LcmLaw, LowestTermsLaw, FractionOrderLaw};
+ghost use Rattle.suit_num.specs.Laws.{IntegerProductsLaw, ExactDivisionLaw, CombinationLaw};
 
 /// Each number of Pascal's triangle is the sum of the two above it.
 pub fn pascal()

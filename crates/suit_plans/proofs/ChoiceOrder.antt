@@ -1,5 +1,7 @@
--- The choices of a best reply stand in the order of their class histories (`plan_choices_rise`, `defence_choices_rise`).
-use Rattle.std.proofs.Common.{◌≡◌, ℕ, zero, suc, ◌<◌, Bool, true, false, List, [], ◌∷◌, ◌++◌, length, refl, sym, ap, ◌∙◌, subst, arith, append-nil, append_assoc}
+-- The choices of a best reply stand in the order of their class histories (`plan_choices_rise`,
+-- `defence_choices_rise`).
+use Rattle.std.proofs.Common.{◌≡◌, ℕ, zero, suc, ◌<◌, Bool, true, false, List, [], ◌∷◌, ◌++◌, length, refl, sym, ap}
+use Rattle.std.proofs.Common.{◌∙◌, subst, arith, append-nil, append_assoc}
 use Rattle.std.specs.Prelude.{AllPairs, Contains, ◌&&◌, ◌||◌, filter, if◌then◌else◌}
 use Rattle.std.specs.List.{AllByRecursion, flat_map}
 use Rattle.std.proofs.lemmas.Bool.{and_from, or_left, or_right}
@@ -13,11 +15,13 @@ use Rattle.suit_classes.specs.ClassMoves.{ClassHistory, same_class_move}
 use Rattle.suit_classes.specs.MoveOrder.{stands_before}
 use Rattle.suit_classes.specs.ClassPlaces.{class_after, class_decided, class_moves}
 use Rattle.suit_classes.proofs.DistinctMoves.{each_flat_map}
-use Rattle.suit_classes.proofs.RisingMoves.{Chained, chained_append, chained_filter, chained_pairs, class_moves_rise, every_move_rises}
+use Rattle.suit_classes.proofs.RisingMoves.{Chained, chained_append, chained_filter, chained_pairs, class_moves_rise}
+use Rattle.suit_classes.proofs.RisingMoves.{every_move_rises}
 use Rattle.suit_classes.proofs.SameMoves.{same_move-itself}
 use Rattle.suit_plans.specs.declared.plan.Plan.{Plan}
 use Rattle.suit_plans.specs.declared.defence.Defence.{Defence}
-use Rattle.suit_plans.specs.BestReplies.{Reply, choices, has_choice, histories_within, is_reached, reply_to_defence, reply_to_plan}
+use Rattle.suit_plans.specs.BestReplies.{Reply, choices, has_choice, histories_within, is_reached, reply_to_defence}
+use Rattle.suit_plans.specs.BestReplies.{reply_to_plan}
 use Rattle.suit_plans.specs.Orders.{InOrder, history_before, is_earlier}
 use Rattle.suit_plans.specs.Properness.{some_allows}
 use Rattle.suit_plans.specs.ReplyLaws.{DefenceChoicesRise, PlanChoicesRise}
@@ -43,10 +47,13 @@ parted : (start : ClassHistory) (move other : ClassMove) (rest later : ClassHist
     → IsEarlier (start ++ move ∷ rest) (start ++ other ∷ later)
 unfolding is_earlier
 parted [] move other rest later before =
-    or_left (stands_before move other) (same_class_move move other && is_earlier stands_before same_class_move rest later) before
+    or_left (stands_before move other) (same_class_move move other
+    && is_earlier stands_before same_class_move rest later) before
 parted (first ∷ start) move other rest later before =
-    or_right (stands_before first first) (same_class_move first first && is_earlier stands_before same_class_move (start ++ move ∷ rest) (start ++ other ∷ later))
-    (and_from (same_class_move first first) (is_earlier stands_before same_class_move (start ++ move ∷ rest) (start ++ other ∷ later))
+    or_right (stands_before first first) (same_class_move first first
+    && is_earlier stands_before same_class_move (start ++ move ∷ rest) (start ++ other ∷ later))
+    (and_from (same_class_move first first) (is_earlier stands_before same_class_move (start ++ move ∷ rest) (start
+    ++ other ∷ later))
     (same_move-itself first) (parted start move other rest later before))
 
 -- a class history begins with another
@@ -54,19 +61,24 @@ abbrev BeginsWith : ClassHistory → ClassHistory → Type 0
 BeginsWith start history = (rest : ClassHistory) × (history ≡ start ++ rest)
 
 -- one that begins with a history and a move goes on from the history with the move
-gone_on : (start : ClassHistory) (move : ClassMove) (history : ClassHistory) (begins : BeginsWith (start ++ move ∷ []) history) → history ≡ start ++ move ∷ begins.0
+gone_on : (start : ClassHistory) (move : ClassMove) (history : ClassHistory)
+    (begins : BeginsWith (start ++ move ∷ []) history) → history ≡ start ++ move ∷ begins.0
 gone_on start move history begins = begins.1 ∙ append_assoc start (move ∷ []) begins.0
 
 module _ (reply : Reply) (rises : (history : ClassHistory) → Chained IsBefore (reply.moves history)) where
   -- the class histories from one on begin with it
-  each_begins : (more : ℕ) (history : ClassHistory) → AllByRecursion (BeginsWith history) (histories_within more reply history)
+  each_begins : (more : ℕ) (history : ClassHistory)
+      → AllByRecursion (BeginsWith history) (histories_within more reply history)
   unfolding histories_within
   each_begins zero history = (([], sym (append-nil history)), tt)
   each_begins (suc more) history = (
     ([], sym (append-nil history)),
-    each_flat_map (BeginsWith history) (λ move. histories_within more reply (history ++ move ∷ [])) (reply.moves history)
-        (λ move found. each_gives (BeginsWith (history ++ move ∷ [])) (BeginsWith history) (histories_within more reply (history ++ move ∷ []))
-        (λ later begins. (move ∷ begins.0, gone_on history move later begins)) (each_begins more (history ++ move ∷ []))),
+    each_flat_map (BeginsWith history) (λ move. histories_within more reply (history ++ move ∷ []))
+        (reply.moves history)
+        (λ move found. each_gives (BeginsWith (history ++ move ∷ [])) (BeginsWith history)
+        (histories_within more reply (history ++ move ∷ []))
+        (λ later begins. (move ∷ begins.0, gone_on history move later begins))
+        (each_begins more (history ++ move ∷ []))),
   )
 
   -- those with one move stand before those with a later one
@@ -77,8 +89,10 @@ module _ (reply : Reply) (rises : (history : ClassHistory) → Chained IsBefore 
   pieces_chained more history [] chain each = tt
   pieces_chained more history (move ∷ moves) chain each =
       let piece : ClassMove → List ClassHistory = λ other. histories_within more reply (history ++ other ∷ []) in
-      chained_append IsEarlier (piece move) (flat_map piece moves) (each move) (pieces_chained more history moves chain.1 each)
-      (each_gives (BeginsWith (history ++ move ∷ [])) (λ here. AllByRecursion (IsEarlier here) (flat_map piece moves)) (piece move)
+      chained_append IsEarlier (piece move) (flat_map piece moves) (each move)
+      (pieces_chained more history moves chain.1 each)
+      (each_gives (BeginsWith (history ++ move ∷ [])) (λ here. AllByRecursion (IsEarlier here) (flat_map piece moves))
+      (piece move)
       (λ here begins. each_flat_map (IsEarlier here) piece moves
       (λ other found. each_gives (BeginsWith (history ++ other ∷ [])) (IsEarlier here) (piece other)
       (λ there later.
@@ -94,11 +108,13 @@ module _ (reply : Reply) (rises : (history : ClassHistory) → Chained IsBefore 
   chained_within zero history = (tt, tt)
   chained_within (suc more) history = (
     each_flat_map (IsEarlier history) (λ move. histories_within more reply (history ++ move ∷ [])) (reply.moves history)
-        (λ move found. each_gives (BeginsWith (history ++ move ∷ [])) (IsEarlier history) (histories_within more reply (history ++ move ∷ []))
+        (λ move found. each_gives (BeginsWith (history ++ move ∷ [])) (IsEarlier history)
+        (histories_within more reply (history ++ move ∷ []))
         (λ later begins. subst (λ (h : ClassHistory). IsEarlier history h) (sym (gone_on history move later begins))
         (earlier-start stands_before same_class_move history move begins.0 IsStrict-moves))
         (each_begins more (history ++ move ∷ []))),
-    pieces_chained more history (reply.moves history) (rises history) (λ move. chained_within more (history ++ move ∷ [])),
+    pieces_chained more history (reply.moves history) (rises history) (λ move. chained_within more (history ++ move
+        ∷ [])),
   )
 
   -- and the choices among them
@@ -106,7 +122,8 @@ module _ (reply : Reply) (rises : (history : ClassHistory) → Chained IsBefore 
   unfolding choices
   choices_rise =
       let chosen : ClassHistory → Bool = λ history. has_choice reply history && is_reached reply history in
-      chained_pairs IsEarlier (filter chosen (histories_within 52 reply [])) (chained_filter IsEarlier chosen (histories_within 52 reply []) (chained_within 52 []))
+      chained_pairs IsEarlier (filter chosen (histories_within 52 reply []))
+      (chained_filter IsEarlier chosen (histories_within 52 reply []) (chained_within 52 []))
 
 unless : (b : Bool) (moves : List ClassMove) → Chained IsBefore moves → Chained IsBefore (if b then [] else moves)
 unfolding Chained
@@ -116,11 +133,15 @@ unless false moves chain = chain
 pub plan_choices_rise : PlanChoicesRise
 plan_choices_rise question plan counts =
     choices_rise (reply_to_plan question plan counts)
-    (λ history. unless (class_decided (class_after question history)) (class_moves (class_after question history) counts)
-    (pairs_chained IsBefore (class_moves (class_after question history) counts) (class_moves_rise (class_after question history) counts)))
+    (λ history. unless (class_decided (class_after question history))
+    (class_moves (class_after question history) counts)
+    (pairs_chained IsBefore (class_moves (class_after question history) counts)
+    (class_moves_rise (class_after question history) counts)))
 
 pub defence_choices_rise : DefenceChoicesRise
 defence_choices_rise question defence =
     choices_rise (reply_to_defence question defence)
-    (λ history. unless (class_decided (class_after question history)) (filter (λ move. some_allows question (history ++ move ∷ [])) every_move)
-    (chained_filter IsBefore (λ move. some_allows question (history ++ move ∷ [])) every_move (pairs_chained IsBefore every_move every_move_rises)))
+    (λ history. unless (class_decided (class_after question history))
+    (filter (λ move. some_allows question (history ++ move ∷ [])) every_move)
+    (chained_filter IsBefore (λ move. some_allows question (history ++ move ∷ [])) every_move
+    (pairs_chained IsBefore every_move every_move_rises)))

@@ -22,24 +22,33 @@ pub record StillToCome (question : Question) (history : List ClassMove) (layouts
   pub left : any_allows question history layouts ≡ some_allows question history
   pub weigh : AllByRecursion (λ (layout : Counts × ℕ). 0 < weight_of question layout.0) layouts
 
-pub all_to_come : (question : Question) (history : List ClassMove) → StillToCome question history (class_layouts question (sizes_of question))
+pub all_to_come : (question : Question) (history : List ClassMove)
+    → StillToCome question history (class_layouts question (sizes_of question))
 unfolding some_allows
 all_to_come question history =
     let sizes = defence_sizes (hands_of question) in
     record {
       left = refl;
-      weigh = each_in (λ (layout : Counts × ℕ). 0 < weight_of question layout.0) (class_layouts question (sizes_of question))
-          (λ layout found. let exact = (class_layouts_exact question sizes layout.0 layout.1 (sum-defence_sizes (hands_of question))).0 found in omega (arith, exact.0, exact.1));
+      weigh = each_in (λ (layout : Counts × ℕ). 0
+          < weight_of question layout.0) (class_layouts question (sizes_of question))
+          (λ layout found.
+          let whole = sum-defence_sizes (hands_of question) in
+          let exact = (class_layouts_exact question sizes layout.0 layout.1 whole).0 found in
+          omega (arith, exact.0, exact.1));
     }
 
-pub found_to_come : (question : Question) (history : List ClassMove) (layout : Counts × ℕ) (rest : List (Counts × ℕ)) → StillToCome question history (layout ∷ rest)
+pub found_to_come : (question : Question) (history : List ClassMove) (layout : Counts × ℕ) (rest : List (Counts × ℕ))
+    → StillToCome question history (layout ∷ rest)
     → true ≡ allows question layout.0 history → true ≡ some_allows question history
-found_to_come question history layout rest come found = ap (λ (b : Bool). b || any_allows question history rest) found ∙ come.left
+found_to_come question history layout rest come found = ap (λ (b : Bool). b || any_allows question history rest) found
+    ∙ come.left
 
-pub next_to_come : (question : Question) (history : List ClassMove) (layout : Counts × ℕ) (rest : List (Counts × ℕ)) → StillToCome question history (layout ∷ rest)
+pub next_to_come : (question : Question) (history : List ClassMove) (layout : Counts × ℕ) (rest : List (Counts × ℕ))
+    → StillToCome question history (layout ∷ rest)
     → false ≡ allows question layout.0 history → StillToCome question history rest
 next_to_come question history layout rest come missed =
     record { left = ap (λ (b : Bool). b || any_allows question history rest) missed ∙ come.left; weigh = come.weigh.1 }
 
-pub none_to_come : (question : Question) (history : List ClassMove) → StillToCome question history [] → false ≡ some_allows question history
+pub none_to_come : (question : Question) (history : List ClassMove) → StillToCome question history []
+    → false ≡ some_allows question history
 none_to_come question history come = come.left

@@ -1,5 +1,6 @@
 -- What a walk over a list has still to look at.
-use Rattle.std.proofs.Common.{◌≡◌, ℕ, ◌+◌, ◌-◌, ◌<◌, ◌≤◌, Bool, true, ◌&&◌, List, [], ◌∷◌, length, length-drop, get_or, drop, map, refl, sym, ap, ◌∙◌, arith}
+use Rattle.std.proofs.Common.{◌≡◌, ℕ, ◌+◌, ◌-◌, ◌<◌, ◌≤◌, Bool, true, ◌&&◌, List, [], ◌∷◌, length, length-drop, get_or}
+use Rattle.std.proofs.Common.{drop, map, refl, sym, ap, ◌∙◌, arith}
 use Rattle.std.specs.List.{list_all}
 use Rattle.std.proofs.lemmas.List.{at_drop_more, drop_all, drop_more}
 use Rattle.suit_classes.specs.declared.class_moves.ClassMove.{ClassMove}
@@ -7,26 +8,31 @@ use Rattle.suit_classes.specs.MoveOrder.{stands_before}
 use Rattle.suit_plans.specs.Properness.{are_rising}
 
 -- all pass from a place on where the one there does and all after it do
-pub all_from : {X : Type 0} (p : X → Bool) (xs : List X) (place : ℕ) (d : X) (b : Bool) → place < length xs → b ≡ p (get_or xs place d)
+pub all_from : {X : Type 0} (p : X → Bool) (xs : List X) (place : ℕ) (d : X) (b : Bool) → place < length xs
+    → b ≡ p (get_or xs place d)
     → list_all p (drop place xs) ≡ (b && list_all p (drop (place + 1) xs))
 all_from p xs place d b below is =
     at_drop_more (list_all p) xs place d below ∙ ap (λ (t : Bool). t && list_all p (drop (place + 1) xs)) (sym is)
 
 -- past the last all pass
-pub all_past : {X : Type 0} (p : X → Bool) (xs : List X) (place : ℕ) → length xs ≤ place → list_all p (drop place xs) ≡ true
+pub all_past : {X : Type 0} (p : X → Bool) (xs : List X) (place : ℕ) → length xs ≤ place
+    → list_all p (drop place xs) ≡ true
 all_past p xs place past = ap (list_all p) (drop_all place xs past)
 
 -- a test of what a map gives
-pub all_mapped : {X Y : Type 0} (p : Y → Bool) (f : X → Y) (xs : List X) → list_all p (map f xs) ≡ list_all (λ x. p (f x)) xs
+pub all_mapped : {X Y : Type 0} (p : Y → Bool) (f : X → Y) (xs : List X)
+    → list_all p (map f xs) ≡ list_all (λ x. p (f x)) xs
 all_mapped p f [] = refl
 all_mapped p f (x ∷ xs) = ap (λ (b : Bool). p (f x) && b) (all_mapped p f xs)
 
-rises_on : (move next : ClassMove) (moves : List ClassMove) → are_rising (move ∷ next ∷ moves) ≡ (stands_before move next && are_rising (next ∷ moves))
+rises_on : (move next : ClassMove) (moves : List ClassMove)
+    → are_rising (move ∷ next ∷ moves) ≡ (stands_before move next && are_rising (next ∷ moves))
 unfolding are_rising
 rises_on move next moves = refl
 
 -- moves rise from a place on where the one there stands before the next and all from that on rise
-pub rising_from : (moves : List ClassMove) (place : ℕ) (d : ClassMove) (b : Bool) → place + 1 < length moves → b ≡ stands_before (get_or moves place d) (get_or moves (place + 1) d)
+pub rising_from : (moves : List ClassMove) (place : ℕ) (d : ClassMove) (b : Bool) → place + 1 < length moves
+    → b ≡ stands_before (get_or moves place d) (get_or moves (place + 1) d)
     → are_rising (drop place moves) ≡ (b && are_rising (drop (place + 1) moves))
 rising_from moves place d b below is =
     let rest : List ClassMove = drop (place + 1 + 1) moves in
@@ -55,20 +61,28 @@ pub record HasRisen (moves : List ClassMove) (place : ℕ) : Type 0 where
 pub risen_first : (moves : List ClassMove) → HasRisen moves 1
 risen_first moves = record { from = omega arith; rises = refl }
 
-pub risen_on : (moves : List ClassMove) (place : ℕ) (d : ClassMove) (b : Bool) → place < length moves → HasRisen moves place
-    → b ≡ stands_before (get_or moves (place - 1) d) (get_or moves place d) → are_rising moves ≡ (b && are_rising (drop place moves))
+pub risen_on : (moves : List ClassMove) (place : ℕ) (d : ClassMove) (b : Bool) → place < length moves
+    → HasRisen moves place
+    → b ≡ stands_before (get_or moves (place - 1) d) (get_or moves place d)
+    → are_rising moves ≡ (b && are_rising (drop place moves))
 risen_on moves place d b below risen is =
     let before : ℕ = place - 1 in
     let next : before + 1 ≡ place = omega (arith, risen.from) in
     sym risen.rises
-    ∙ rising_from moves before d b (omega (arith, risen.from, below)) (is ∙ ap (λ (p : ℕ). stands_before (get_or moves before d) (get_or moves p d)) (sym next))
+    ∙ rising_from moves before d b (omega (arith, risen.from, below)) (is
+    ∙ ap (λ (p : ℕ). stands_before (get_or moves before d) (get_or moves p d)) (sym next))
     ∙ ap (λ (p : ℕ). b && are_rising (drop p moves)) next
 
 pub risen_next : (moves : List ClassMove) (place : ℕ) (d : ClassMove) → place < length moves → HasRisen moves place
     → true ≡ stands_before (get_or moves (place - 1) d) (get_or moves place d) → HasRisen moves (place + 1)
 risen_next moves place d below risen is =
     let back : place + 1 - 1 ≡ place = omega arith in
-    record { from = omega arith; rises = ap (λ (p : ℕ). are_rising (drop p moves)) back ∙ sym (risen_on moves place d true below risen is) }
+    record {
+      from = omega arith;
+      rises = ap (λ (p : ℕ). are_rising (drop p moves)) back
+          ∙ sym (risen_on moves place d true below risen is);
+    }
 
-pub risen_last : (moves : List ClassMove) (place : ℕ) → length moves ≤ place → HasRisen moves place → true ≡ are_rising moves
+pub risen_last : (moves : List ClassMove) (place : ℕ) → length moves ≤ place → HasRisen moves place
+    → true ≡ are_rising moves
 risen_last moves place past risen = sym (rising_past moves (place - 1) (omega (arith, past, risen.from))) ∙ risen.rises

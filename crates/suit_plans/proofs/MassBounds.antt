@@ -14,12 +14,18 @@ use Rattle.suit_plans.specs.PlanLaws.{AreRealised}
 use Rattle.suit_plans.proofs.SharedSums.{within_sum}
 
 -- a legal move goes on with no more than what came to its turn
-pub mass_falls : (question : Question) (side : Side) (counts : Counts) (history : List ClassMove) (move : ClassMove) → AreRealised question side counts → Allows question counts history
-    → Contains (class_moves (class_after question history) counts) move → mass_of question side (history ++ move ∷ []) ≤ℤ mass_of question side history
-mass_falls question side counts history move realised allows found = elim (cases_Bool (side.plays (class_turn (class_after question history)))) [
-  | inl plays ↦
-      subst (λ (z : ℤ). mass_of question side (history ++ move ∷ []) ≤ℤ z) (realised.shared history allows plays)
-      (within_sum (λ other. mass_of question side (history ++ other ∷ [])) (class_moves (class_after question history) counts) move
-      (λ other there. realised.positive (history ++ other ∷ []) ((allowed_moves question counts history other).1 (allows, there))) found)
-  | inr waits ↦ subst (λ (z : ℤ). z ≤ℤ mass_of question side history) (sym (realised.kept history move waits)) (≤ℤ_refl (mass_of question side history))
-]
+pub mass_falls : (question : Question) (side : Side) (counts : Counts) (history : List ClassMove) (move : ClassMove)
+    → AreRealised question side counts → Allows question counts history
+    → Contains (class_moves (class_after question history) counts) move
+    → mass_of question side (history ++ move ∷ []) ≤ℤ mass_of question side history
+mass_falls question side counts history move realised allows found =
+    elim (cases_Bool (side.plays (class_turn (class_after question history)))) [
+      | inl plays ↦
+          subst (λ (z : ℤ). mass_of question side (history ++ move ∷ []) ≤ℤ z) (realised.shared history allows plays)
+          (within_sum (λ other. mass_of question side (history ++ other ∷ []))
+          (class_moves (class_after question history) counts) move
+          (λ other there. realised.positive (history ++ other
+          ∷ []) ((allowed_moves question counts history other).1 (allows, there))) found)
+      | inr waits ↦ subst (λ (z : ℤ). z ≤ℤ mass_of question side history) (sym (realised.kept history move waits))
+          (≤ℤ_refl (mass_of question side history))
+    ]

@@ -15,17 +15,24 @@ begins_with (Declarer rows) counts whole = refl
 begins_with (Defence rows) counts whole = refl
 
 -- one move more of a history hands on what it gets
-pub mass_walked : (question : Question) (side : Side) (history : List ClassMove) (place : ℕ) (d : ClassMove) (mass next : ℤ) → place < length history
+pub mass_walked : (question : Question) (side : Side) (history : List ClassMove) (place : ℕ) (d : ClassMove)
+    (mass next : ℤ) → place < length history
     → next ≡ let_through question side (take place history) mass (get_or history place d)
-    → mass_from question side (take (place + 1) history) next (drop (place + 1) history) ≡ mass_from question side (take place history) mass (drop place history)
+    → mass_from question side (take (place + 1) history) next (drop (place + 1) history)
+    ≡ mass_from question side (take place history) mass (drop place history)
 unfolding mass_from
 mass_walked question side history place d mass next below handed =
     ap (λ (m : ℤ). mass_from question side (take (place + 1) history) m (drop (place + 1) history)) handed
-    ∙ ap (λ (h : List ClassMove). mass_from question side h (let_through question side (take place history) mass (get_or history place d)) (drop (place + 1) history)) (take_more history place d below)
-    ∙ sym (ap (λ (l : List ClassMove). mass_from question side (take place history) mass l) (drop_more history place d below))
+    ∙ ap (λ (h : List ClassMove). mass_from question side h
+    (let_through question side (take place history) mass (get_or history place d)) (drop (place + 1) history))
+    (take_more history place d below)
+    ∙ sym (ap (λ (l : List ClassMove). mass_from question side (take place history) mass l)
+    (drop_more history place d below))
 
 -- at its end nothing is left to hand on
-pub mass_ended : (question : Question) (side : Side) (history : List ClassMove) (place : ℕ) (mass : ℤ) → length history ≤ place
+pub mass_ended : (question : Question) (side : Side) (history : List ClassMove) (place : ℕ) (mass : ℤ)
+    → length history ≤ place
     → mass_from question side (take place history) mass (drop place history) ≡ mass
 unfolding mass_from
-mass_ended question side history place mass past = ap (λ (l : List ClassMove). mass_from question side (take place history) mass l) (drop_all place history past)
+mass_ended question side history place mass past =
+    ap (λ (l : List ClassMove). mass_from question side (take place history) mass l) (drop_all place history past)

@@ -31,7 +31,8 @@ pub paid_most : (question : Question) (counts : Counts) (history : List ClassMov
     → class_payoff (class_after question history) ≤ 13
 paid_most question counts history allows =
     let deal = (play_dealt question allows.west allows.cards allows.play).deal in
-    let won : (after question allows.cards).won ≤ 13 = thirteen_tricks question allows.west allows.cards deal allows.play.legal in
+    let won : (after question allows.cards).won ≤ 13 =
+    thirteen_tricks question allows.west allows.cards deal allows.play.legal in
     subst (λ (n : ℕ). n ≤ 13)
     (sym (class_game_agrees question allows.west allows.cards allows.play).payoff
     ∙ ap (λ (h : List ClassMove). class_payoff (class_after question h)) allows.merges)
@@ -42,13 +43,17 @@ pub product_paid : (payoff : ℕ) (mass : ℤ) → payoff ≤ 13 → pos 0 ≤�
 product_paid payoff mass few positive =
     let some : pos 0 ≤ℤ pos payoff = omega (arith, ints) in
     let most : pos payoff ≤ℤ pos 13 = omega (arith, ints) in
-    record { some = mul_not_negative (pos payoff) mass some positive; few = le-mul_right (pos payoff) (pos 13) mass most positive }
+    record {
+      some = mul_not_negative (pos payoff) mass some positive;
+      few = le-mul_right (pos payoff) (pos 13) mass most positive;
+    }
 
 summed : (a b c d : ℤ) → a ≤ℤ c → b ≤ℤ d → (a +ℤ b) ≤ℤ (c +ℤ d)
 summed a b c d p q = omega (arith, ints)
 
 -- where each number lies within its bounds so does their sum
-pub sum_paid : {X : Type 0} (worths masses : X → ℤ) (xs : List X) → ((x : X) → Contains xs x → IsPaid (masses x) (worths x))
+pub sum_paid : {X : Type 0} (worths masses : X → ℤ) (xs : List X)
+    → ((x : X) → Contains xs x → IsPaid (masses x) (worths x))
     → IsPaid (sum_of (map masses xs)) (sum_of (map worths xs))
 unfolding sum_of
 sum_paid worths masses [] paid = record { some = omega (arith, ints); few = omega (arith, ints) }
@@ -60,11 +65,13 @@ sum_paid {X} worths masses (x ∷ xs) paid =
     record {
       some = omega (arith, ints, first.some, later.some);
       few = subst (λ (z : ℤ). (worths x +ℤ sum_of (map worths xs)) ≤ℤ z) (sym all)
-          (summed (worths x) (sum_of (map worths xs)) (pos 13 *ℤ masses x) (pos 13 *ℤ sum_of (map masses xs)) first.few later.few);
+          (summed (worths x) (sum_of (map worths xs)) (pos 13 *ℤ masses x) (pos 13 *ℤ sum_of (map masses xs)) first.few
+          later.few);
     }
 
 -- a number that is one of some within the bounds is within them
-pub one_paid : (mass : ℤ) (worths : ClassMove → ℤ) (moves : List ClassMove) (number : ℤ) → Contains (map worths moves) number
+pub one_paid : (mass : ℤ) (worths : ClassMove → ℤ) (moves : List ClassMove) (number : ℤ)
+    → Contains (map worths moves) number
     → ((move : ClassMove) → Contains moves move → IsPaid mass (worths move)) → IsPaid mass number
 one_paid mass worths moves number found paid =
     let from = Contains-map_from worths moves number found in

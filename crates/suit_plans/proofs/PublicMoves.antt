@@ -1,5 +1,7 @@
--- The moves with which a class history goes on for declarer, against the class moves in a class layout that allows it (`held_moves`, `own_moves_on`).
-use Rattle.std.proofs.Common.{◌≡◌, ℕ, ◌<◌, ◌≤◌, Bool, true, false, cond, List, [], ◌∷◌, ◌++◌, length, refl, sym, ap, ◌∙◌, subst, inl, inr, arith}
+-- The moves with which a class history goes on for declarer, against the class moves in a class layout that allows it
+-- (`held_moves`, `own_moves_on`).
+use Rattle.std.proofs.Common.{◌≡◌, ℕ, ◌<◌, ◌≤◌, Bool, true, false, cond, List, [], ◌∷◌, ◌++◌, length, refl, sym, ap}
+use Rattle.std.proofs.Common.{◌∙◌, subst, inl, inr, arith}
 use Rattle.std.specs.Prelude.{◌&&◌, Contains, filter, if◌then◌else◌}
 use Rattle.std.specs.Bool.{Decides}
 use Rattle.std.specs.List.{list_any}
@@ -9,7 +11,8 @@ use Rattle.std.proofs.lemmas.List.Elements.{All-contains, All-contains_itself, A
 use Rattle.suit_cards.specs.Cards.{Counts}
 use Rattle.suit_game.specs.declared.question.Question.{Question}
 use Rattle.suit_game.specs.Validity.{IsValid}
-use Rattle.suit_game.proofs.EachElement.{Contains-cons_cases, Contains-filter, Contains-first, Contains-later, Contains-nil}
+use Rattle.suit_game.proofs.EachElement.{Contains-cons_cases, Contains-filter, Contains-first, Contains-later}
+use Rattle.suit_game.proofs.EachElement.{Contains-nil}
 use Rattle.suit_classes.specs.declared.class_moves.ClassMove.{ClassMove}
 use Rattle.suit_classes.specs.AllowedHistories.{allows, every_move, is_among}
 use Rattle.suit_classes.specs.Classes.{defence_sizes, hands_of, sizes_of}
@@ -34,14 +37,16 @@ use Rattle.suit_plans.proofs.TurnMoves.{HasFirst, declarers_moves, some_move}
 -- ---- lists
 
 -- where an element passes a test, one that does is in the list
-pub some_passing : {X : Type 0} (test : X → Bool) (xs : List X) → list_any test xs ≡ true → (x : X) × Contains xs x × (test x ≡ true)
+pub some_passing : {X : Type 0} (test : X → Bool) (xs : List X) → list_any test xs ≡ true → (x : X) × Contains xs x
+    × (test x ≡ true)
 some_passing test [] some = absurd (false≢true some)
 some_passing test (x ∷ xs) some = elim (or_cases (test x) (list_any test xs) some) [
   | inl here ↦ (x, Contains-first x xs, here)
   | inr there ↦ let later = some_passing test xs there in (later.0, Contains-later x xs later.0 later.1, later.2)
 ]
 
-pub passing_some : {X : Type 0} (test : X → Bool) (xs : List X) (x : X) → Contains xs x → test x ≡ true → list_any test xs ≡ true
+pub passing_some : {X : Type 0} (test : X → Bool) (xs : List X) (x : X) → Contains xs x → test x ≡ true
+    → list_any test xs ≡ true
 passing_some test [] x found passes = absurd (Contains-nil x found)
 passing_some test (first ∷ xs) x found passes = elim (Contains-cons_cases first xs x found) [
   | inl here ↦ or_left (test first) (list_any test xs) (ap test here ∙ passes)
@@ -49,7 +54,8 @@ passing_some test (first ∷ xs) x found passes = elim (Contains-cons_cases firs
 ]
 
 -- what a filter keeps was there, and passes
-pub kept_parts : {X : Type 0} (test : X → Bool) (xs : List X) (x : X) → Contains (filter test xs) x → Contains xs x × (test x ≡ true)
+pub kept_parts : {X : Type 0} (test : X → Bool) (xs : List X) (x : X) → Contains (filter test xs) x → Contains xs x
+    × (test x ≡ true)
 kept_parts {X} test xs x found = (
   All-contains (Contains xs) (filter test xs) x (All-filter test (Contains xs) xs (All-contains_itself xs)) found,
   All-contains (λ (y : X). test y ≡ true) (filter test xs) x (filter_passes test xs) found,
@@ -85,52 +91,74 @@ among_decides moves move = (among-Contains moves move, among_contained moves mov
 
 module _ (question : Question) (valid : IsValid question) where
   -- a class layout that is listed has positive weight
-  pub layout_weighs : (layout : Counts × ℕ) → Contains (class_layouts question (sizes_of question)) layout → 0 < weight_of question layout.0
+  pub layout_weighs : (layout : Counts × ℕ) → Contains (class_layouts question (sizes_of question)) layout
+      → 0 < weight_of question layout.0
   layout_weighs layout found =
       let sizes = defence_sizes (hands_of question) in
-      let exact = (class_layouts_exact question sizes layout.0 layout.1 (sum-defence_sizes (hands_of question))).0 found in
+      let exact = (class_layouts_exact question sizes layout.0 layout.1 (sum-defence_sizes (hands_of question))).0
+      found in
       omega (arith, exact.0, exact.1)
 
   -- what it is told to allow it allows, and the other way round
-  pub layout_tells : (layout : Counts × ℕ) (history : List ClassMove) → Contains (class_layouts question (sizes_of question)) layout
+  pub layout_tells : (layout : Counts × ℕ) (history : List ClassMove)
+      → Contains (class_layouts question (sizes_of question)) layout
       → Decides (allows question layout.0 history) (Allows question layout.0 history)
-  layout_tells layout history found = allows_tells question layout.0 history (start_allows question layout.0 valid (layout_weighs layout found))
+  layout_tells layout history found =
+      allows_tells question layout.0 history (start_allows question layout.0 valid (layout_weighs layout found))
 
   -- a class layout among those that allow a history
-  pub allowing_parts : (history : List ClassMove) (layout : Counts × ℕ) → Contains (allowing_layouts question history) layout
+  pub allowing_parts : (history : List ClassMove) (layout : Counts × ℕ)
+      → Contains (allowing_layouts question history) layout
       → Contains (class_layouts question (sizes_of question)) layout × Allows question layout.0 history
   allowing_parts history layout found =
-      let kept = kept_parts (λ (other : Counts × ℕ). allows question other.0 history) (class_layouts question (sizes_of question)) layout found in
+      let kept = kept_parts (λ (other : Counts × ℕ). allows question other.0 history)
+      (class_layouts question (sizes_of question)) layout found in
       (kept.0, (layout_tells layout history kept.0).0 kept.1)
 
-  pub Contains-allowing : (history : List ClassMove) (layout : Counts × ℕ) → Contains (class_layouts question (sizes_of question)) layout
+  pub Contains-allowing : (history : List ClassMove) (layout : Counts × ℕ)
+      → Contains (class_layouts question (sizes_of question)) layout
       → Allows question layout.0 history → Contains (allowing_layouts question history) layout
   Contains-allowing history layout found allowed =
-      Contains-filter (λ (other : Counts × ℕ). allows question other.0 history) (class_layouts question (sizes_of question)) layout found
+      Contains-filter (λ (other : Counts × ℕ). allows question other.0 history)
+      (class_layouts question (sizes_of question)) layout found
       ((layout_tells layout history found).1 allowed)
 
   -- where some class layout is told to allow a history there is one that does
-  pub some_layout : (history : List ClassMove) → some_allows question history ≡ true → (layout : Counts × ℕ) × Contains (allowing_layouts question history) layout
+  pub some_layout : (history : List ClassMove) → some_allows question history ≡ true → (layout : Counts × ℕ)
+      × Contains (allowing_layouts question history) layout
   unfolding some_allows
   some_layout history some =
-      let found = some_passing (λ (other : Counts × ℕ). allows question other.0 history) (class_layouts question (sizes_of question)) some in
-      (found.0, Contains-filter (λ (other : Counts × ℕ). allows question other.0 history) (class_layouts question (sizes_of question)) found.0 found.1 found.2)
+      let found = some_passing (λ (other : Counts × ℕ). allows question other.0 history)
+      (class_layouts question (sizes_of question)) some in (
+        found.0,
+        Contains-filter (λ (other : Counts × ℕ). allows question other.0 history)
+            (class_layouts question (sizes_of question)) found.0 found.1 found.2,
+      )
 
-  pub allows_some : (history : List ClassMove) (layout : Counts × ℕ) → Contains (allowing_layouts question history) layout → some_allows question history ≡ true
+  pub allows_some : (history : List ClassMove) (layout : Counts × ℕ)
+      → Contains (allowing_layouts question history) layout → some_allows question history ≡ true
   unfolding some_allows
   allows_some history layout found =
-      let kept = kept_parts (λ (other : Counts × ℕ). allows question other.0 history) (class_layouts question (sizes_of question)) layout found in
-      passing_some (λ (other : Counts × ℕ). allows question other.0 history) (class_layouts question (sizes_of question)) layout kept.0 kept.1
+      let kept = kept_parts (λ (other : Counts × ℕ). allows question other.0 history)
+      (class_layouts question (sizes_of question)) layout found in
+      passing_some (λ (other : Counts × ℕ). allows question other.0 history)
+      (class_layouts question (sizes_of question)) layout kept.0 kept.1
 
-  -- a class layout allows a history with a move more where it allows the history, and the move is one of its class moves
-  pub allowing_next : (history : List ClassMove) (move : ClassMove) (layout : Counts × ℕ) → Contains (allowing_layouts question history) layout
-      → Contains (class_moves (class_after question history) layout.0) move → Contains (allowing_layouts question (history ++ move ∷ [])) layout
+  -- a class layout allows a history with a move more where it allows the history, and the move is one of its class
+  -- moves
+  pub allowing_next : (history : List ClassMove) (move : ClassMove) (layout : Counts × ℕ)
+      → Contains (allowing_layouts question history) layout
+      → Contains (class_moves (class_after question history) layout.0) move
+      → Contains (allowing_layouts question (history ++ move ∷ [])) layout
   allowing_next history move layout held goes =
       let parts = allowing_parts history layout held in
-      Contains-allowing (history ++ move ∷ []) layout parts.0 ((allowed_moves question layout.0 history move).1 (parts.1, goes))
+      Contains-allowing (history ++ move
+      ∷ []) layout parts.0 ((allowed_moves question layout.0 history move).1 (parts.1, goes))
 
-  pub allowing_before : (history : List ClassMove) (move : ClassMove) (layout : Counts × ℕ) → Contains (allowing_layouts question (history ++ move ∷ [])) layout
-      → Contains (allowing_layouts question history) layout × Contains (class_moves (class_after question history) layout.0) move
+  pub allowing_before : (history : List ClassMove) (move : ClassMove) (layout : Counts × ℕ)
+      → Contains (allowing_layouts question (history ++ move ∷ [])) layout
+      → Contains (allowing_layouts question history) layout
+      × Contains (class_moves (class_after question history) layout.0) move
   allowing_before history move layout held =
       let parts = allowing_parts (history ++ move ∷ []) layout held in
       let before = (allowed_moves question layout.0 history move).0 parts.1 in
@@ -138,13 +166,15 @@ module _ (question : Question) (valid : IsValid question) where
 
   -- of the class layouts that allow a history, those that go on with a move allow it with the move
   pub going_with : (history : List ClassMove) (move : ClassMove)
-      → filter (λ (layout : Counts × ℕ). is_among (class_moves (class_after question history) layout.0) move) (allowing_layouts question history)
+      → filter (λ (layout : Counts × ℕ). is_among (class_moves (class_after question history) layout.0) move)
+      (allowing_layouts question history)
       ≡ allowing_layouts question (history ++ move ∷ [])
   going_with history move =
       let goes : Counts × ℕ → Bool = λ layout. is_among (class_moves (class_after question history) layout.0) move in
       let before : Counts × ℕ → Bool = λ layout. allows question layout.0 history in
       filter_both goes before (class_layouts question (sizes_of question))
-      ∙ filter_agree (λ layout. before layout && goes layout) (λ layout. allows question layout.0 (history ++ move ∷ []))
+      ∙ filter_agree (λ layout. before layout
+      && goes layout) (λ layout. allows question layout.0 (history ++ move ∷ []))
       (λ layout. sym (allows-push question layout.0 history move)) (class_layouts question (sizes_of question))
 
   -- the moves at a history that is not decided
@@ -153,46 +183,59 @@ module _ (question : Question) (valid : IsValid question) where
   public_going history going =
       ap (λ (b : Bool). if b then [] else filter (λ move. some_allows question (history ++ move ∷ [])) every_move) going
 
-  pub public_over : (history : List ClassMove) → class_decided (class_after question history) ≡ true → public_moves question history ≡ []
+  pub public_over : (history : List ClassMove) → class_decided (class_after question history) ≡ true
+      → public_moves question history ≡ []
   public_over history decided =
-      ap (λ (b : Bool). if b then [] else filter (λ move. some_allows question (history ++ move ∷ [])) every_move) decided
+      ap (λ (b : Bool). if b then []
+      else filter (λ move. some_allows question (history ++ move ∷ [])) every_move) decided
 
-  public_case : (b : Bool) (moves : List ClassMove) (move : ClassMove) → Contains (if b then [] else moves) move → Contains moves move
+  public_case : (b : Bool) (moves : List ClassMove) (move : ClassMove) → Contains (if b then [] else moves) move
+      → Contains moves move
   public_case true moves move found = absurd (Contains-nil move found)
   public_case false moves move found = found
 
   -- each is allowed by some class layout
-  pub public_allowed : (history : List ClassMove) (move : ClassMove) → Contains (public_moves question history) move → some_allows question (history ++ move ∷ []) ≡ true
+  pub public_allowed : (history : List ClassMove) (move : ClassMove) → Contains (public_moves question history) move
+      → some_allows question (history ++ move ∷ []) ≡ true
   public_allowed history move found =
       let all : List ClassMove = filter (λ other. some_allows question (history ++ other ∷ [])) every_move in
       (kept_parts (λ other. some_allows question (history ++ other ∷ [])) every_move move
       (public_case (class_decided (class_after question history)) all move found)).1
 
   -- so a history with one of them more has at most 52 moves
-  pub public_short : (history : List ClassMove) (move : ClassMove) → Contains (public_moves question history) move → length (history ++ move ∷ []) ≤ 52
-  public_short history move found = some_allowed_short question (history ++ move ∷ []) valid (sym (public_allowed history move found))
+  pub public_short : (history : List ClassMove) (move : ClassMove) → Contains (public_moves question history) move
+      → length (history ++ move ∷ []) ≤ 52
+  public_short history move found =
+      some_allowed_short question (history ++ move ∷ []) valid (sym (public_allowed history move found))
 
-  module _ (history : List ClassMove) (going : class_decided (class_after question history) ≡ false) (layout : Counts × ℕ) (held : Contains (allowing_layouts question history) layout) where
+  module _ (history : List ClassMove) (going : class_decided (class_after question history) ≡ false) (layout : Counts
+      × ℕ) (held : Contains (allowing_layouts question history) layout) where
     -- a class move is one that some class layout allows
-    move_allowed : (move : ClassMove) → is_among (class_moves (class_after question history) layout.0) move ≡ true → some_allows question (history ++ move ∷ []) ≡ true
+    move_allowed : (move : ClassMove) → is_among (class_moves (class_after question history) layout.0) move ≡ true
+        → some_allows question (history ++ move ∷ []) ≡ true
     move_allowed move among =
         allows_some (history ++ move ∷ []) layout
-        (allowing_next history move layout held (among-Contains (class_moves (class_after question history) layout.0) move among))
+        (allowing_next history move layout held
+        (among-Contains (class_moves (class_after question history) layout.0) move among))
 
     -- of the moves those that a class layout can make are its class moves
-    pub held_moves : filter (is_among (class_moves (class_after question history) layout.0)) (public_moves question history) ≡ class_moves (class_after question history) layout.0
+    pub held_moves : filter (is_among (class_moves (class_after question history) layout.0))
+        (public_moves question history) ≡ class_moves (class_after question history) layout.0
     held_moves =
         let among : ClassMove → Bool = is_among (class_moves (class_after question history) layout.0) in
         let some : ClassMove → Bool = λ move. some_allows question (history ++ move ∷ []) in
         ap (filter among) (public_going history going)
         ∙ filter_both among some every_move
-        ∙ filter_agree (λ move. some move && among move) among (λ move. both_second (some move) (among move) (move_allowed move)) every_move
+        ∙ filter_agree (λ move. some move
+        && among move) among (λ move. both_second (some move) (among move) (move_allowed move)) every_move
         ∙ sym (class_moves_listed (class_after question history) layout.0)
 
     -- so each class move is one of them
-    pub Contains-public : (move : ClassMove) → Contains (class_moves (class_after question history) layout.0) move → Contains (public_moves question history) move
+    pub Contains-public : (move : ClassMove) → Contains (class_moves (class_after question history) layout.0) move
+        → Contains (public_moves question history) move
     Contains-public move found =
-        (kept_parts (is_among (class_moves (class_after question history) layout.0)) (public_moves question history) move
+        (kept_parts (is_among (class_moves (class_after question history) layout.0)) (public_moves question history)
+        move
         (subst (λ (l : List ClassMove). Contains l move) (sym held_moves) found)).0
 
     -- and there is one
@@ -200,10 +243,12 @@ module _ (question : Question) (valid : IsValid question) where
     some_public =
         let first = some_move question layout.0 history (allowing_parts history layout held).1 going in
         HasFirst-found (public_moves question history) first.first
-        (Contains-public first.first (subst (λ (l : List ClassMove). Contains l first.first) (sym first.parts) (Contains-first first.first first.more)))
+        (Contains-public first.first (subst (λ (l : List ClassMove). Contains l first.first) (sym first.parts)
+        (Contains-first first.first first.more)))
 
     -- at a turn of declarer's they are his class moves
-    pub own_moves_on : is_declarers (class_turn (class_after question history)) ≡ true → public_moves question history ≡ class_moves (class_after question history) layout.0
+    pub own_moves_on : is_declarers (class_turn (class_after question history)) ≡ true
+        → public_moves question history ≡ class_moves (class_after question history) layout.0
     own_moves_on own =
         let view : ClassView = class_after question history in
         let moves : List ClassMove = class_moves view layout.0 in
@@ -221,14 +266,19 @@ module _ (question : Question) (valid : IsValid question) where
         ∙ sym (class_moves_listed view layout.0)
 
   -- a move of declarer's is one in each class layout that allows the history
-  pub own_allows : (history : List ClassMove) (move : ClassMove) → is_declarers (class_turn (class_after question history)) ≡ true
-      → Contains (public_moves question history) move → allowing_layouts question (history ++ move ∷ []) ≡ allowing_layouts question history
+  pub own_allows : (history : List ClassMove) (move : ClassMove)
+      → is_declarers (class_turn (class_after question history)) ≡ true
+      → Contains (public_moves question history) move
+      → allowing_layouts question (history ++ move ∷ []) ≡ allowing_layouts question history
   own_allows history move own found =
       let view : ClassView = class_after question history in
       let other = some_layout (history ++ move ∷ []) (public_allowed history move found) in
       let goes = (allowing_before history move other.0 other.1).1 in
       let among : (counts : Counts) → is_among (class_moves view counts) move ≡ true =
-      λ counts. among_contained (class_moves view counts) move (subst (λ (l : List ClassMove). Contains l move) (declarers_moves view other.0.0 counts own) goes) in
-      filter_agree (λ (layout : Counts × ℕ). allows question layout.0 (history ++ move ∷ [])) (λ (layout : Counts × ℕ). allows question layout.0 history)
-      (λ layout. allows-push question layout.0 history move ∙ and-true (allows question layout.0 history) (is_among (class_moves view layout.0) move) (among layout.0))
+      λ counts. among_contained (class_moves view counts) move
+      (subst (λ (l : List ClassMove). Contains l move) (declarers_moves view other.0.0 counts own) goes) in
+      filter_agree (λ (layout : Counts × ℕ). allows question layout.0 (history ++ move ∷ []))
+      (λ (layout : Counts × ℕ). allows question layout.0 history)
+      (λ layout. allows-push question layout.0 history move
+      ∙ and-true (allows question layout.0 history) (is_among (class_moves view layout.0) move) (among layout.0))
       (class_layouts question (sizes_of question))

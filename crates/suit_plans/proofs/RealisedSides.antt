@@ -1,5 +1,6 @@
 -- A side whose rows share out the masses of their histories is realised.
-use Rattle.std.proofs.Common.{◌≡◌, Bool, true, false, List, [], ◌∷◌, ◌++◌, Option, Some, None, refl, sym, ap, ◌∙◌, subst, map}
+use Rattle.std.proofs.Common.{◌≡◌, Bool, true, false, List, [], ◌∷◌, ◌++◌, Option, Some, None, refl, sym, ap, ◌∙◌}
+use Rattle.std.proofs.Common.{subst, map}
 use Rattle.std.specs.Prelude.{ℤ, pos, ◌≤ℤ◌, int_le}
 use Rattle.std.specs.List.{list_all}
 use Rattle.suit_cards.specs.Cards.{Counts}
@@ -29,58 +30,74 @@ pub record SharesMass (question : Question) (side : Side) (history : List ClassM
 pub record IsSound (question : Question) (side : Side) : Type 0 where
   pub begins : pos 0 ≤ℤ side.whole
   pub decided : side.plays turns.Decided ≡ false
-  pub rows : (history : List ClassMove) (shares : Shares) → side.shares_at history ≡ Some shares → SharesMass question side history shares
+  pub rows : (history : List ClassMove) (shares : Shares) → side.shares_at history ≡ Some shares
+      → SharesMass question side history shares
 
 zero_positive : pos 0 ≤ℤ pos 0
 zero_positive = int_le-true (pos 0) (pos 0) refl
 
 share_positive : (row : Option Shares) (first : Bool) (mass : ℤ) (move : ClassMove) → pos 0 ≤ℤ mass
-    → ((shares : Shares) → row ≡ Some shares → list_all (λ (count : ClassMove × ℤ). int_le (pos 0) count.1) shares ≡ true) → pos 0 ≤ℤ share row first mass move
+    → ((shares : Shares) → row ≡ Some shares
+    → list_all (λ (count : ClassMove × ℤ). int_le (pos 0) count.1) shares ≡ true)
+    → pos 0 ≤ℤ share row first mass move
 share_positive (Some shares) first mass move low rows = count_positive shares move (rows shares refl)
 share_positive None true mass move low rows = low
 share_positive None false mass move low rows = zero_positive
 
-from_positive : (question : Question) (side : Side) (history : List ClassMove) (mass : ℤ) (moves : List ClassMove) → IsSound question side → pos 0 ≤ℤ mass
+from_positive : (question : Question) (side : Side) (history : List ClassMove) (mass : ℤ) (moves : List ClassMove)
+    → IsSound question side → pos 0 ≤ℤ mass
     → pos 0 ≤ℤ mass_from question side history mass moves
 unfolding mass_from
 from_positive question side history mass [] sound low = low
 from_positive question side history mass (move ∷ moves) sound low =
     from_positive question side (history ++ move ∷ []) (let_through question side history mass move) moves sound
     (count_case (side.plays (class_turn (class_after question history)))
-    (share (side.shares_at history) (is_first (class_moves (class_after question history) side.counts) move) mass move) mass
-    (share_positive (side.shares_at history) (is_first (class_moves (class_after question history) side.counts) move) mass move low
+    (share (side.shares_at history) (is_first (class_moves (class_after question history) side.counts) move) mass move)
+    mass
+    (share_positive (side.shares_at history) (is_first (class_moves (class_after question history) side.counts) move)
+    mass move low
     (λ shares is. (sound.rows history shares is).positive)) low)
 
 -- no mass of a sound side is negative
-pub mass_positive : (question : Question) (side : Side) (history : List ClassMove) → IsSound question side → pos 0 ≤ℤ mass_of question side history
+pub mass_positive : (question : Question) (side : Side) (history : List ClassMove) → IsSound question side
+    → pos 0 ≤ℤ mass_of question side history
 unfolding mass_of
 mass_positive question side history sound = from_positive question side [] side.whole history sound sound.begins
 
-shares_add : (question : Question) (side : Side) (history : List ClassMove) (legal : List ClassMove) (row : Option Shares)
+shares_add : (question : Question) (side : Side) (history : List ClassMove) (legal : List ClassMove)
+    (row : Option Shares)
     → ((shares : Shares) → row ≡ Some shares → SharesMass question side history shares)
     → class_moves (class_after question history) side.counts ≡ legal → IsOnce legal → HasFirst legal
-    → sum_of (map (λ move. share row (is_first legal move) (mass_of question side history) move) legal) ≡ mass_of question side history
+    → sum_of (map (λ move. share row (is_first legal move) (mass_of question side history) move) legal)
+    ≡ mass_of question side history
 shares_add question side history legal (Some shares) rows is once some =
     let fits = rows shares refl in
-    sum_counts shares legal once (subst (λ (l : List ClassMove). list_all (is_among l) (moves_of shares) ≡ true) is fits.legal) fits.rising ∙ fits.adds
+    sum_counts shares legal once (subst (λ (l : List ClassMove). list_all (is_among l) (moves_of shares)
+    ≡ true) is fits.legal) fits.rising ∙ fits.adds
 shares_add question side history legal None rows is once some =
     let mass : ℤ = mass_of question side history in
-    subst (λ (l : List ClassMove). sum_of (map (λ move. share None (is_first l move) mass move) l) ≡ mass) (sym some.parts)
+    subst (λ (l : List ClassMove). sum_of (map (λ move. share None (is_first l move) mass move) l)
+    ≡ mass) (sym some.parts)
     (sum_first mass some.first some.more (subst (IsOnce {X = ClassMove}) some.parts once))
 
 -- at a turn of a sound side the moves share what came to it
 pub mass_adds : (question : Question) (side : Side) (counts : Counts) (history : List ClassMove) → IsSound question side
     → class_moves (class_after question history) side.counts ≡ class_moves (class_after question history) counts
     → Allows question counts history → side.plays (class_turn (class_after question history)) ≡ true
-    → sum_of (map (λ move. mass_of question side (history ++ move ∷ [])) (class_moves (class_after question history) counts)) ≡ mass_of question side history
+    → sum_of (map (λ move. mass_of question side (history ++ move ∷ []))
+    (class_moves (class_after question history) counts)) ≡ mass_of question side history
 mass_adds question side counts history sound same allows plays =
     let legal : List ClassMove = class_moves (class_after question history) counts in
     let mass : ℤ = mass_of question side history in
-    let each : map (λ move. mass_of question side (history ++ move ∷ [])) legal ≡ map (λ move. share (side.shares_at history) (is_first legal move) mass move) legal =
-    map_same (λ move. mass_of question side (history ++ move ∷ [])) (λ move. share (side.shares_at history) (is_first legal move) mass move) legal
-    (λ move found. mass_shared question side history move plays ∙ ap (λ (l : List ClassMove). share (side.shares_at history) (is_first l move) mass move) same) in
+    let each : map (λ move. mass_of question side (history ++ move ∷ [])) legal
+    ≡ map (λ move. share (side.shares_at history) (is_first legal move) mass move) legal =
+    map_same (λ move. mass_of question side (history ++ move ∷ []))
+    (λ move. share (side.shares_at history) (is_first legal move) mass move) legal
+    (λ move found. mass_shared question side history move plays
+    ∙ ap (λ (l : List ClassMove). share (side.shares_at history) (is_first l move) mass move) same) in
     ap sum_of each
-    ∙ shares_add question side history legal (side.shares_at history) (sound.rows history) same (once_class_moves (class_after question history) counts)
+    ∙ shares_add question side history legal (side.shares_at history) (sound.rows history) same
+    (once_class_moves (class_after question history) counts)
     (turn_move question side counts history sound.decided allows plays)
 
 -- a sound side is realised where its moves are those for West's counts

@@ -1,5 +1,7 @@
--- The entries of a best reply are choices of its side, and its move there is one of the moves (`least_choices`, `most_choices`).
-use Rattle.std.proofs.Common.{◌≡◌, ◌⊎◌, ℕ, zero, suc, ◌<◌, Bool, true, false, cond, List, [], ◌∷◌, ◌++◌, length, get_or, map, refl, sym, ap, ◌∙◌, subst, inl, inr, arith}
+-- The entries of a best reply are choices of its side, and its move there is one of the moves (`least_choices`,
+-- `most_choices`).
+use Rattle.std.proofs.Common.{◌≡◌, ◌⊎◌, ℕ, zero, suc, ◌<◌, Bool, true, false, cond, List, [], ◌∷◌, ◌++◌, length, get_or}
+use Rattle.std.proofs.Common.{map, refl, sym, ap, ◌∙◌, subst, inl, inr, arith}
 use Rattle.std.specs.Prelude.{Contains, ◌&&◌, filter, nat_lt, if◌then◌else◌, ℤ, pos, ◌<ℤ◌, int_lt}
 use Rattle.std.specs.List.{AllByRecursion, flat_map, list_any, range_with_len}
 use Rattle.std.specs.Ordering.{int_eq}
@@ -10,7 +12,8 @@ use Rattle.suit_cards.specs.Cards.{Counts}
 use Rattle.suit_num.proofs.IntegerLaws.{int_lt-true}
 use Rattle.suit_game.specs.declared.question.Question.{Question}
 use Rattle.suit_game.specs.Validity.{IsValid}
-use Rattle.suit_game.proofs.EachElement.{Contains-cons_cases, Contains-first, Contains-later, Contains-map_from, Contains-nil, each_at, each_in}
+use Rattle.suit_game.proofs.EachElement.{Contains-cons_cases, Contains-first, Contains-later, Contains-map_from}
+use Rattle.suit_game.proofs.EachElement.{Contains-nil, each_at, each_in}
 use Rattle.suit_classes.specs.declared.class_moves.ClassMove.{ClassMove}
 use Rattle.suit_classes.specs.Classes.{sizes_of}
 use Rattle.suit_classes.specs.ClassGame.{Allows}
@@ -24,10 +27,13 @@ use Rattle.suit_plans.specs.declared.moves.DeclarerMove.{DeclarerMove}
 use Rattle.suit_plans.specs.declared.moves.DefenceMove.{DefenceMove}
 use Rattle.suit_plans.specs.declared.plan.Plan.{Plan}
 use Rattle.suit_plans.specs.declared.defence.Defence.{Defence}
-use Rattle.suit_plans.specs.BestReplies.{Reply, allowing_layouts, best_of, choices, first_of, follows, has_choice, histories_within, is_reached, least_reply, least_reply_in, most_reply, public_moves, reply_move, reply_to_defence, reply_to_plan, worth}
+use Rattle.suit_plans.specs.BestReplies.{Reply, allowing_layouts, best_of, choices, first_of, follows, has_choice}
+use Rattle.suit_plans.specs.BestReplies.{histories_within, is_reached, least_reply, least_reply_in, most_reply}
+use Rattle.suit_plans.specs.BestReplies.{public_moves, reply_move, reply_to_defence, reply_to_plan, worth}
 use Rattle.suit_plans.specs.Masses.{defence_mass, is_declarers, is_defences, plan_mass}
 use Rattle.suit_plans.specs.Properness.{some_allows}
-use Rattle.suit_plans.specs.ReplyLaws.{IsDeclarerChoice, IsDefenceChoice, LeastRepliesAreChoices, MostRepliesAreChoices, counts_at, worths_with}
+use Rattle.suit_plans.specs.ReplyLaws.{IsDeclarerChoice, IsDefenceChoice, LeastRepliesAreChoices, MostRepliesAreChoices}
+use Rattle.suit_plans.specs.ReplyLaws.{counts_at, worths_with}
 use Rattle.suit_plans.proofs.AllowedWalks.{start_allows}
 use Rattle.suit_plans.proofs.BoundedReplies.{some_allow_none}
 use Rattle.suit_plans.proofs.DefenceWorths.{room as defence_room}
@@ -40,9 +46,11 @@ use Rattle.suit_plans.proofs.WorthsAtTurns.{best_attained, best_turn, max_picks,
 -- ---- the class histories of a reply
 
 module _ (Fits : ClassHistory → Type 0) (reply : Reply)
-    (goes_on : (history : ClassHistory) (move : ClassMove) → Fits history → Contains (reply.moves history) move → Fits (history ++ move ∷ [])) where
+    (goes_on : (history : ClassHistory) (move : ClassMove) → Fits history → Contains (reply.moves history) move
+    → Fits (history ++ move ∷ [])) where
   -- what goes on with the moves of a reply holds of all class histories from one on
-  each_within : (more : ℕ) (history : ClassHistory) → Fits history → AllByRecursion Fits (histories_within more reply history)
+  each_within : (more : ℕ) (history : ClassHistory) → Fits history
+      → AllByRecursion Fits (histories_within more reply history)
   unfolding histories_within
   each_within zero history fits = (fits, tt)
   each_within (suc more) history fits = (
@@ -56,18 +64,21 @@ module _ (Fits : ClassHistory → Type 0) (reply : Reply)
       → Fits history × (has_choice reply history ≡ true) × (is_reached reply history ≡ true)
   unfolding choices
   choice_parts starts history found =
-      let kept = kept_parts (λ (other : ClassHistory). has_choice reply other && is_reached reply other) (histories_within 52 reply []) history found in
+      let kept = kept_parts (λ (other : ClassHistory). has_choice reply other
+      && is_reached reply other) (histories_within 52 reply []) history found in
       let parts = and_parts (has_choice reply history) (is_reached reply history) kept.1 in
       (each_at Fits (histories_within 52 reply []) history (each_within 52 [] starts) kept.0, parts.0, parts.1)
 
 -- ---- the move of a reply
 
-first_case : (b : Bool) (move : ClassMove) (kept moves : List ClassMove) → (b ≡ false → Contains moves (first_of kept)) → Contains (move ∷ moves) (first_of (cond b (move ∷ kept) kept))
+first_case : (b : Bool) (move : ClassMove) (kept moves : List ClassMove) → (b ≡ false → Contains moves (first_of kept))
+    → Contains (move ∷ moves) (first_of (cond b (move ∷ kept) kept))
 first_case true move kept moves later = Contains-first move moves
 first_case false move kept moves later = Contains-later move moves (first_of kept) (later refl)
 
 -- the first that passes is one of some moves of which one passes
-first_passing : (test : ClassMove → Bool) (moves : List ClassMove) (move : ClassMove) → Contains moves move → test move ≡ true → Contains moves (first_of (filter test moves))
+first_passing : (test : ClassMove → Bool) (moves : List ClassMove) (move : ClassMove) → Contains moves move
+    → test move ≡ true → Contains moves (first_of (filter test moves))
 first_passing test [] move found passes = absurd (Contains-nil move found)
 first_passing test (first ∷ moves) move found passes =
     first_case (test first) first (filter test moves) moves
@@ -77,17 +88,22 @@ first_passing test (first ∷ moves) move found passes =
     ])
 
 -- it is one of the moves at each turn of its side
-pub reply_move_found : (reply : Reply) (history : ClassHistory) → ((one other : ℤ) → (reply.best one other ≡ one) ⊎ (reply.best one other ≡ other))
-    → length history < 52 → (some : HasFirst (reply.moves history)) → reply.replies history ≡ true → Contains (reply.moves history) (reply_move reply history)
+pub reply_move_found : (reply : Reply) (history : ClassHistory)
+    → ((one other : ℤ) → (reply.best one other ≡ one) ⊎ (reply.best one other ≡ other))
+    → length history < 52 → (some : HasFirst (reply.moves history)) → reply.replies history ≡ true
+    → Contains (reply.moves history) (reply_move reply history)
 unfolding reply_move
 reply_move_found reply history picks short some own =
     let worths : List ClassMove → List ℤ = worths_with reply history in
-    let turn : worth reply history ≡ best_of reply.best (worths (reply.moves history)) = best_turn reply history short some own in
+    let turn : worth reply history ≡ best_of reply.best (worths (reply.moves history)) =
+    best_turn reply history short some own in
     let attained : Contains (worths (reply.moves history)) (best_of reply.best (worths (reply.moves history))) =
     subst (λ (l : List ClassMove). Contains (worths l) (best_of reply.best (worths l))) (sym some.parts)
     (best_attained reply.best picks (worth reply (history ++ some.first ∷ [])) (worths some.more)) in
-    let from = Contains-map_from (λ move. worth reply (history ++ move ∷ [])) (reply.moves history) (best_of reply.best (worths (reply.moves history))) attained in
-    first_passing (λ move. int_eq (worth reply (history ++ move ∷ [])) (worth reply history)) (reply.moves history) from.0 from.1
+    let from = Contains-map_from (λ move. worth reply (history ++ move ∷ [])) (reply.moves history)
+    (best_of reply.best (worths (reply.moves history))) attained in
+    first_passing (λ move. int_eq (worth reply (history ++ move ∷ [])) (worth reply history)) (reply.moves history)
+    from.0 from.1
     ((Decides-int_eq (worth reply (history ++ from.0 ∷ [])) (worth reply history)).1 (from.2 ∙ sym turn))
 
 -- more moves than one are at least one
@@ -95,7 +111,8 @@ many_first : (moves : List ClassMove) → 1 < length moves → HasFirst moves
 many_first [] many = absurd (omega (arith, many))
 many_first (move ∷ moves) many = record { first = move; more = moves; parts = refl }
 
-going_moves : (b : Bool) (moves : List ClassMove) (move : ClassMove) → Contains (if b then [] else moves) move → Contains moves move
+going_moves : (b : Bool) (moves : List ClassMove) (move : ClassMove) → Contains (if b then [] else moves) move
+    → Contains moves move
 going_moves true moves move found = absurd (Contains-nil move found)
 going_moves false moves move found = found
 
@@ -108,7 +125,10 @@ plan_choice question plan counts history starts found =
     let reply : Reply = reply_to_plan question plan counts in
     let legal : ClassHistory → List ClassMove = λ other. class_moves (class_after question other) counts in
     let parts = choice_parts (Allows question counts) reply
-    (λ other move allows there. (allowed_moves question counts other move).1 (allows, going_moves (class_decided (class_after question other)) (legal other) move there))
+    (λ other move allows there. (allowed_moves question counts other move).1 (
+      allows,
+      going_moves (class_decided (class_after question other)) (legal other) move there,
+    ))
     starts history found in
     let chosen = and_parts (reply.replies history) (nat_lt 1 (length (reply.moves history))) parts.1 in
     let reached = and_parts (reply.live history) (follows reply [] history) parts.2 in
@@ -121,7 +141,8 @@ plan_choice question plan counts history starts found =
       turn = chosen.0;
       many = subst (λ (l : List ClassMove). 1 < length l) same many;
       legal = subst (λ (l : List ClassMove). Contains l (reply_move reply history)) same
-          (reply_move_found reply history min_picks (plan_room question plan counts history parts.0 going) (many_first (reply.moves history) many) chosen.0);
+          (reply_move_found reply history min_picks (plan_room question plan counts history parts.0 going)
+          (many_first (reply.moves history) many) chosen.0);
       live = int_lt-true (pos 0) (plan_mass question plan history) reached.0;
     }
 
@@ -129,44 +150,64 @@ pub least_choices : LeastRepliesAreChoices
 unfolding least_reply
 least_choices question plan entry valid found =
     let layouts : List (Counts × ℕ) = class_layouts question (sizes_of question) in
-    let IsChoice : DefenceMove → Type 0 = λ (other : DefenceMove). (other.layout < length layouts) × IsDefenceChoice question plan (counts_at question other.layout) other.history other.mv in
-    each_at IsChoice (flat_map (λ index. least_reply_in question plan (counts_at question index) index) (range_with_len 0 (length layouts))) entry
-    (each_flat_map IsChoice (λ index. least_reply_in question plan (counts_at question index) index) (range_with_len 0 (length layouts))
+    let IsChoice : DefenceMove → Type 0 = λ (other : DefenceMove). (other.layout < length layouts)
+    × IsDefenceChoice question plan (counts_at question other.layout) other.history other.mv in
+    each_at IsChoice (flat_map (λ index. least_reply_in question plan (counts_at question index) index)
+    (range_with_len 0 (length layouts))) entry
+    (each_flat_map IsChoice (λ index. least_reply_in question plan (counts_at question index) index)
+    (range_with_len 0 (length layouts))
     (λ index listed.
-    let below : index < length layouts = All-contains (λ (k : ℕ). k < length layouts) (range_with_len 0 (length layouts)) index (range_below (length layouts)) listed in
-    let starts = start_allows question (counts_at question index) valid (layout_weighs question valid (get_or layouts index ([], 0)) (Contains-get_or layouts index ([], 0) below)) in
+    let below : index < length layouts =
+    All-contains (λ (k : ℕ). k < length layouts) (range_with_len 0 (length layouts)) index
+    (range_below (length layouts)) listed in
+    let starts = start_allows question (counts_at question index) valid
+    (layout_weighs question valid (get_or layouts index ([], 0)) (Contains-get_or layouts index (
+      [],
+      0,
+    ) below)) in
     each_in IsChoice (least_reply_in question plan (counts_at question index) index)
     (λ other there.
-    let from = Contains-map_from (λ (history : ClassHistory). record { layout = index; history = history; mv = reply_move (reply_to_plan question plan (counts_at question index)) history })
+    let from = Contains-map_from (λ (history : ClassHistory). record {
+      layout = index;
+      history = history;
+      mv = reply_move (reply_to_plan question plan (counts_at question index)) history;
+    })
     (choices (reply_to_plan question plan (counts_at question index))) other there in
     subst IsChoice from.2 (below, plan_choice question plan (counts_at question index) from.0 starts from.1))))
     found
 
 -- ---- against a defence
 
-defence_choice : (question : Question) (defence : Defence) (history : ClassHistory) → IsValid question → Contains (choices (reply_to_defence question defence)) history
+defence_choice : (question : Question) (defence : Defence) (history : ClassHistory) → IsValid question
+    → Contains (choices (reply_to_defence question defence)) history
     → IsDeclarerChoice question defence history (reply_move (reply_to_defence question defence) history)
 defence_choice question defence history valid found =
     let reply : Reply = reply_to_defence question defence in
-    let parts = choice_parts (λ other. some_allows question other ≡ true) reply (λ other move allows there. public_allowed question valid other move there)
+    let parts = choice_parts (λ other. some_allows question other
+    ≡ true) reply (λ other move allows there. public_allowed question valid other move there)
     (some_allow_none question valid) history found in
     let chosen = and_parts (reply.replies history) (nat_lt 1 (length (reply.moves history))) parts.1 in
     let reached = and_parts (reply.live history) (follows reply [] history) parts.2 in
     let going = (own_turn (class_after question history) chosen.0).0 in
-    let many : 1 < length (public_moves question history) = ltb-true 1 (length (public_moves question history)) chosen.1 in
-    let some = some_passing (λ (layout : Counts × ℕ). int_lt (pos 0) (defence_mass question defence layout.0 history)) (allowing_layouts question history) reached.0 in
+    let many : 1 < length (public_moves question history) =
+    ltb-true 1 (length (public_moves question history)) chosen.1 in
+    let some = some_passing (λ (layout : Counts × ℕ). int_lt (pos 0) (defence_mass question defence layout.0 history))
+    (allowing_layouts question history) reached.0 in
     record {
       allowed = parts.0;
       going = going;
       turn = chosen.0;
       many = many;
-      legal = reply_move_found reply history max_picks (defence_room question defence valid history parts.0 going) (many_first (public_moves question history) many) chosen.0;
+      legal = reply_move_found reply history max_picks (defence_room question defence valid history parts.0 going)
+          (many_first (public_moves question history) many) chosen.0;
       live = (some.0, some.1, int_lt-true (pos 0) (defence_mass question defence some.0.0 history) some.2);
     }
 
 pub most_choices : MostRepliesAreChoices
 unfolding most_reply
 most_choices question defence entry valid found =
-    let named : ClassHistory → DeclarerMove = λ history. record { history = history; mv = reply_move (reply_to_defence question defence) history } in
+    let named : ClassHistory → DeclarerMove =
+    λ history. record { history = history; mv = reply_move (reply_to_defence question defence) history } in
     let from = Contains-map_from named (choices (reply_to_defence question defence)) entry found in
-    subst (λ (other : DeclarerMove). IsDeclarerChoice question defence other.history other.mv) from.2 (defence_choice question defence from.0 valid from.1)
+    subst (λ (other : DeclarerMove). IsDeclarerChoice question defence other.history other.mv) from.2
+    (defence_choice question defence from.0 valid from.1)

@@ -1,5 +1,6 @@
 -- Bounds of what the rows speak of: class histories that are allowed are short, and class layouts weigh little.
-use Rattle.std.proofs.Common.{◌≡◌, ℕ, ◌<◌, ◌≤◌, true, List, [], ◌∷◌, length, sum_by, refl, sym, ◌∙◌, subst, inl, inr, arith}
+use Rattle.std.proofs.Common.{◌≡◌, ℕ, ◌<◌, ◌≤◌, true, List, [], ◌∷◌, length, sum_by, refl, sym, ◌∙◌, subst, inl, inr}
+use Rattle.std.proofs.Common.{arith}
 use Rattle.std.specs.Prelude.{Contains}
 use Rattle.std.specs.List.{AllByRecursion}
 use Rattle.std.proofs.lemmas.Bool.{cases_lt, false≢true, or_cases}
@@ -24,31 +25,38 @@ use Rattle.suit_plans.proofs.AllowedWalks.{start_allows}
 use Rattle.suit_plans.proofs.LayoutWalks.{any_allows, all_to_come}
 
 -- a class history that a class layout of positive weight allows has at most 52 moves
-pub allowed_short : (question : Question) (counts : Counts) (history : List ClassMove) → IsValid question → 0 < weight_of question counts → true ≡ allows question counts history
+pub allowed_short : (question : Question) (counts : Counts) (history : List ClassMove) → IsValid question
+    → 0 < weight_of question counts → true ≡ allows question counts history
     → length history ≤ 52
 allowed_short question counts history valid weighs told =
-    class_histories_are_short question counts history ((allows_tells question counts history (start_allows question counts valid weighs)).0 (sym told))
+    class_histories_are_short question counts history
+    ((allows_tells question counts history (start_allows question counts valid weighs)).0 (sym told))
 
 short_if_any : (question : Question) (history : List ClassMove) (layouts : List (Counts × ℕ)) → IsValid question
-    → AllByRecursion (λ (layout : Counts × ℕ). 0 < weight_of question layout.0) layouts → any_allows question history layouts ≡ true → length history ≤ 52
+    → AllByRecursion (λ (layout : Counts × ℕ). 0 < weight_of question layout.0) layouts
+    → any_allows question history layouts ≡ true → length history ≤ 52
 short_if_any question history [] valid weigh told = absurd (false≢true told)
-short_if_any question history (layout ∷ layouts) valid weigh told = elim (or_cases (allows question layout.0 history) (any_allows question history layouts) told) [
-  | inl here ↦ allowed_short question layout.0 history valid weigh.0 (sym here)
-  | inr there ↦ short_if_any question history layouts valid weigh.1 there
-]
+short_if_any question history (layout ∷ layouts) valid weigh told =
+    elim (or_cases (allows question layout.0 history) (any_allows question history layouts) told) [
+      | inl here ↦ allowed_short question layout.0 history valid weigh.0 (sym here)
+      | inr there ↦ short_if_any question history layouts valid weigh.1 there
+    ]
 
 -- and so has one that some class layout allows
-pub some_allowed_short : (question : Question) (history : List ClassMove) → IsValid question → true ≡ some_allows question history → length history ≤ 52
+pub some_allowed_short : (question : Question) (history : List ClassMove) → IsValid question
+    → true ≡ some_allows question history → length history ≤ 52
 some_allowed_short question history valid told =
     let come = all_to_come question history in
     short_if_any question history (class_layouts question (sizes_of question)) valid come.weigh (come.left ∙ sym told)
 
-one_of_sum : (layouts : List (Counts × ℕ)) (layout : Counts × ℕ) → Contains layouts layout → layout.1 ≤ sum_by (λ (other : Counts × ℕ). other.1) layouts
+one_of_sum : (layouts : List (Counts × ℕ)) (layout : Counts × ℕ) → Contains layouts layout
+    → layout.1 ≤ sum_by (λ (other : Counts × ℕ). other.1) layouts
 one_of_sum [] layout found = absurd (Contains-nil layout found)
 one_of_sum (first ∷ layouts) layout found =
     let whole = sum_by-cons (λ (other : Counts × ℕ). other.1) first layouts in
     elim (Contains-cons_cases first layouts layout found) [
-      | inl here ↦ subst (λ (l : Counts × ℕ). l.1 ≤ sum_by (λ (other : Counts × ℕ). other.1) (first ∷ layouts)) here (omega (arith, whole))
+      | inl here ↦ subst (λ (l : Counts × ℕ). l.1 ≤ sum_by (λ (other : Counts × ℕ). other.1) (first ∷ layouts)) here
+          (omega (arith, whole))
       | inr there ↦ omega (arith, whole, one_of_sum layouts layout there)
     ]
 
@@ -60,7 +68,12 @@ weight_at_most question counts valid =
       | inl weighs ↦
           omega (
             arith,
-            one_of_sum (class_layouts question sizes) (counts, weight_of question counts) ((class_layouts_exact question sizes counts (weight_of question counts) (sum-defence_sizes (hands_of question))).1 (refl, weighs)),
+            one_of_sum (class_layouts question sizes) (
+              counts,
+              weight_of question counts,
+            )
+                ((class_layouts_exact question sizes counts (weight_of question counts)
+                (sum-defence_sizes (hands_of question))).1 (refl, weighs)),
             class_weights_add_up question sizes (sum-defence_sizes (hands_of question)),
             total_at_most question valid,
           )

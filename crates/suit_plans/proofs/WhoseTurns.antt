@@ -13,8 +13,10 @@ use Rattle.suit_plans.specs.Masses.{is_declarers, is_defences}
 
 pub data WhoseTurn (view : ClassView) : Type 0 where
   Over : class_decided view ≡ true → class_turn view ≡ turns.Decided → WhoseTurn view
-  Declarers : class_decided view ≡ false → is_declarers (class_turn view) ≡ true → is_defences (class_turn view) ≡ false → WhoseTurn view
-  Defences : class_decided view ≡ false → is_declarers (class_turn view) ≡ false → is_defences (class_turn view) ≡ true → WhoseTurn view
+  Declarers : class_decided view ≡ false → is_declarers (class_turn view) ≡ true → is_defences (class_turn view) ≡ false
+      → WhoseTurn view
+  Defences : class_decided view ≡ false → is_declarers (class_turn view) ≡ false → is_defences (class_turn view) ≡ true
+      → WhoseTurn view
 
 abbrev turn_from : Bool → ClassTrick → ClassTurn
 turn_from decided trick = if decided then turns.Decided else turn_of trick
@@ -41,7 +43,8 @@ whose_turn view = elim (cases_Bool (class_decided view)) [
 ]
 
 -- a turn of declarer's is no defender's, and play is not decided there
-pub own_turn : (view : ClassView) → is_declarers (class_turn view) ≡ true → (class_decided view ≡ false) × (is_defences (class_turn view) ≡ false)
+pub own_turn : (view : ClassView) → is_declarers (class_turn view) ≡ true → (class_decided view ≡ false)
+    × (is_defences (class_turn view) ≡ false)
 own_turn view own = at (whose_turn view)
   where
     at : WhoseTurn view → (class_decided view ≡ false) × (is_defences (class_turn view) ≡ false)
@@ -50,7 +53,8 @@ own_turn view own = at (whose_turn view)
     at (Defences going not_own theirs) = absurd (false≢true (sym not_own ∙ own))
 
 -- nor is a turn of a defender's one of declarer's
-pub their_turn : (view : ClassView) → is_defences (class_turn view) ≡ true → (class_decided view ≡ false) × (is_declarers (class_turn view) ≡ false)
+pub their_turn : (view : ClassView) → is_defences (class_turn view) ≡ true → (class_decided view ≡ false)
+    × (is_declarers (class_turn view) ≡ false)
 their_turn view theirs = at (whose_turn view)
   where
     at : WhoseTurn view → (class_decided view ≡ false) × (is_declarers (class_turn view) ≡ false)

@@ -1,5 +1,7 @@
--- The mass that the rows of a side let through to class histories: it starts at the empty history, and at each turn of this side the moves share out what came there.
-use Rattle.std.specs.Prelude.{ℕ, Bool, true, false, List, [], ◌∷◌, ◌++◌, Option, Some, None, option_map, find, bytes_eq, ◌&&◌, if◌then◌else◌, ℤ, pos, ◌*ℤ◌}
+-- The mass that the rows of a side let through to class histories: it starts at the empty history, and at each turn of
+-- this side the moves share out what came there.
+use Rattle.std.specs.Prelude.{ℕ, Bool, true, false, List, [], ◌∷◌, ◌++◌, Option, Some, None, option_map, find, bytes_eq}
+use Rattle.std.specs.Prelude.{◌&&◌, if◌then◌else◌, ℤ, pos, ◌*ℤ◌}
 use Rattle.suit_cards.specs.Cards.{Counts}
 use Rattle.suit_game.specs.declared.question.Question.{Question}
 use Rattle.suit_classes.specs.declared.class_moves.ClassMove.{ClassMove}
@@ -54,7 +56,8 @@ abbrev pub is_first : List ClassMove → ClassMove → Bool
 is_first [] move = false
 is_first (first ∷ moves) move = same_class_move first move
 
--- what a move gets of the mass at a turn of its side: its count by the row, or without a row all of the mass if it is the first move and else nothing
+-- what a move gets of the mass at a turn of its side: its count by the row, or without a row all of the mass if it is
+-- the first move and else nothing
 abbrev pub share : Option Shares → Bool → ℤ → ClassMove → ℤ
 share (Some shares) first mass move = count_of shares move
 share None true mass move = mass
@@ -64,13 +67,15 @@ share None false mass move = pos 0
 abbrev pub let_through : Question → Side → ClassHistory → ℤ → ClassMove → ℤ
 let_through question side history mass move =
     if side.plays (class_turn (class_after question history))
-    then share (side.shares_at history) (is_first (class_moves (class_after question history) side.counts) move) mass move
+    then share (side.shares_at history) (is_first (class_moves (class_after question history) side.counts) move) mass
+    move
     else mass
 
 -- the mass of a class history that goes on from another, of which the mass is given
 unfoldable pub mass_from : Question → Side → ClassHistory → ℤ → List ClassMove → ℤ
 mass_from question side history mass [] = mass
-mass_from question side history mass (move ∷ moves) = mass_from question side (history ++ move ∷ []) (let_through question side history mass move) moves
+mass_from question side history mass (move ∷ moves) =
+    mass_from question side (history ++ move ∷ []) (let_through question side history mass move) moves
 
 -- the mass of a class history
 unfoldable pub mass_of : Question → Side → ClassHistory → ℤ
@@ -78,7 +83,8 @@ mass_of question side history = mass_from question side [] side.whole history
 
 -- the shares of a plan's row at a class history
 unfoldable pub plan_shares_at : List Row → ClassHistory → Option Shares
-plan_shares_at rows history = option_map (λ (row : Row). row.counts) (find (λ (row : Row). same_class_history row.history history) rows)
+plan_shares_at rows history =
+    option_map (λ (row : Row). row.counts) (find (λ (row : Row). same_class_history row.history history) rows)
 
 -- declarer with some rows
 abbrev pub declarer : ℤ → List Row → Side
@@ -96,7 +102,8 @@ weight_of question counts = class_weight question (defence_sizes (hands_of quest
 -- the shares of a defence's row for a class layout at a class history
 unfoldable pub defence_shares_at : List DefenceRow → Counts → ClassHistory → Option Shares
 defence_shares_at rows counts history =
-    option_map (λ (row : DefenceRow). row.counts) (find (λ (row : DefenceRow). bytes_eq row.west counts && same_class_history row.history history) rows)
+    option_map (λ (row : DefenceRow). row.counts) (find (λ (row : DefenceRow). bytes_eq row.west counts
+    && same_class_history row.history history) rows)
 
 -- the defence with some rows, in one class layout
 abbrev pub defenders : Question → ℤ → List DefenceRow → Counts → Side
@@ -113,4 +120,5 @@ plan_mass question plan history = mass_of question (declarer plan.den plan.rows)
 
 -- the mass that a defence lets through to one, in a class layout
 unfoldable pub defence_mass : Question → Defence → Counts → ClassHistory → ℤ
-defence_mass question defence counts history = mass_of question (defenders question defence.den defence.rows counts) history
+defence_mass question defence counts history =
+    mass_of question (defenders question defence.den defence.rows counts) history

@@ -6,12 +6,14 @@ use Rattle.suit_classes.specs.MoveOrder.{stands_before}
 use Rattle.suit_plans.specs.declared.plan.Row.{Row}
 use Rattle.suit_plans.specs.declared.defence.DefenceRow.{DefenceRow}
 
--- whether a list stands before another in lexicographic order, a beginning before the longer list, where it is told which elements stand before others and which are alike
+-- whether a list stands before another in lexicographic order, a beginning before the longer list, where it is told
+-- which elements stand before others and which are alike
 unfoldable pub is_earlier : {X : Type 0} → (X → X → Bool) → (X → X → Bool) → List X → List X → Bool
 is_earlier before alike [] [] = false
 is_earlier before alike [] (other ∷ others) = true
 is_earlier before alike (first ∷ rest) [] = false
-is_earlier before alike (first ∷ rest) (other ∷ others) = before first other || (alike first other && is_earlier before alike rest others)
+is_earlier before alike (first ∷ rest) (other ∷ others) = before first other
+    || (alike first other && is_earlier before alike rest others)
 
 -- whether two class histories are the same
 unfoldable pub same_class_history : ClassHistory → ClassHistory → Bool
@@ -30,7 +32,8 @@ counts_before here there = is_earlier nat_lt (λ a b. a == b) here there
 
 -- whether West's counts and a class history stand before others: by the counts, and then by the history
 abbrev pub key_before : Counts → ClassHistory → Counts → ClassHistory → Bool
-key_before counts history other later = counts_before counts other || (bytes_eq counts other && history_before history later)
+key_before counts history other later = counts_before counts other
+    || (bytes_eq counts other && history_before history later)
 
 -- whether a row of a plan stands before another
 abbrev pub plan_row_before : Row → Row → Bool

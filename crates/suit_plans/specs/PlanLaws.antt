@@ -16,9 +16,12 @@ use Rattle.suit_plans.specs.Properness.{IsProperDefence, IsProperPlan, sum_of}
 -- none is negative, and at each turn of the side the moves share what came to it
 pub record AreRealised (question : Question) (side : Side) (counts : Counts) : Type 0 where
   pub positive : (history : ClassHistory) → Allows question counts history → pos 0 ≤ℤ mass_of question side history
-  pub shared : (history : ClassHistory) → Allows question counts history → side.plays (class_turn (class_after question history)) ≡ true
-      → sum_of (map (λ move. mass_of question side (history ++ move ∷ [])) (class_moves (class_after question history) counts)) ≡ mass_of question side history
-  pub kept : (history : ClassHistory) (move : ClassMove) → side.plays (class_turn (class_after question history)) ≡ false
+  pub shared : (history : ClassHistory) → Allows question counts history
+      → side.plays (class_turn (class_after question history)) ≡ true
+      → sum_of (map (λ move. mass_of question side (history ++ move ∷ []))
+      (class_moves (class_after question history) counts)) ≡ mass_of question side history
+  pub kept : (history : ClassHistory) (move : ClassMove)
+      → side.plays (class_turn (class_after question history)) ≡ false
       → mass_of question side (history ++ move ∷ []) ≡ mass_of question side history
 
 -- a proper plan is a realisation plan, whatever West's counts
@@ -28,5 +31,6 @@ PlansAreRealised = (question : Question) (plan : Plan) (counts : Counts) → IsV
 
 -- and so is a proper defence in each class layout of positive weight
 abbrev pub DefencesAreRealised : Type 0
-DefencesAreRealised = (question : Question) (defence : Defence) (counts : Counts) → IsValid question → IsProperDefence question defence → 0 < weight_of question counts
+DefencesAreRealised = (question : Question) (defence : Defence) (counts : Counts) → IsValid question
+    → IsProperDefence question defence → 0 < weight_of question counts
     → AreRealised question (defenders question defence.den defence.rows counts) counts

@@ -9,8 +9,10 @@ use Rattle.suit_plans.specs.Orders.{InOrder, defence_row_before, plan_row_before
 
 -- the side that plays by rows, sees these counts of West's, and starts with this mass
 abbrev pub side_with : PlayerRows → Counts → ℤ → Side
-side_with (Declarer rows) counts whole = record { plays = is_declarers; counts = counts; shares_at = plan_shares_at rows.now; whole = whole }
-side_with (Defence rows) counts whole = record { plays = is_defences; counts = counts; shares_at = defence_shares_at rows.now counts; whole = whole }
+side_with (Declarer rows) counts whole =
+    record { plays = is_declarers; counts = counts; shares_at = plan_shares_at rows.now; whole = whole }
+side_with (Defence rows) counts whole =
+    record { plays = is_defences; counts = counts; shares_at = defence_shares_at rows.now counts; whole = whole }
 
 -- the side of a player
 abbrev pub side_of : Player → Side

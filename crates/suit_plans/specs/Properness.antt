@@ -1,5 +1,7 @@
--- Which plans and defences are realisation plans, whose rows share out at each turn exactly the mass that came there, and what is the first fault of one that is not.
-use Rattle.std.specs.Prelude.{⊤, ◌≡◌, ℕ, ◌+◌, ◌&&◌, not, nat_lt, Bool, true, List, [], ◌∷◌, ◌++◌, Option, Some, None, Result, Ok, Err, map, length, if◌then◌else◌, ℤ, pos, ◌+ℤ◌, int_le}
+-- Which plans and defences are realisation plans, whose rows share out at each turn exactly the mass that came there,
+-- and what is the first fault of one that is not.
+use Rattle.std.specs.Prelude.{⊤, ◌≡◌, ℕ, ◌+◌, ◌&&◌, not, nat_lt, Bool, true, List, [], ◌∷◌, ◌++◌, Option, Some, None}
+use Rattle.std.specs.Prelude.{Result, Ok, Err, map, length, if◌then◌else◌, ℤ, pos, ◌+ℤ◌, int_le}
 use Rattle.std.specs.List.{list_any, list_all}
 use Rattle.std.specs.Ordering.{int_eq}
 use Rattle.suit_cards.specs.Cards.{Counts}
@@ -30,11 +32,13 @@ goes_undecided view (move ∷ moves) = not (class_decided view) && goes_undecide
 
 -- whether a side is on turn at a class history, and no beginning of the history is decided
 abbrev pub has_turn : Question → Side → ClassHistory → Bool
-has_turn question side history = goes_undecided (class_start question) history && side.plays (class_turn (class_after question history))
+has_turn question side history = goes_undecided (class_start question) history
+    && side.plays (class_turn (class_after question history))
 
 -- whether some class layout of positive weight allows a class history
 unfoldable pub some_allows : Question → ClassHistory → Bool
-some_allows question history = list_any (λ (layout : Counts × ℕ). allows question layout.0 history) (class_layouts question (sizes_of question))
+some_allows question history =
+    list_any (λ (layout : Counts × ℕ). allows question layout.0 history) (class_layouts question (sizes_of question))
 
 -- whether some moves stand in strictly rising order
 unfoldable pub are_rising : List ClassMove → Bool
@@ -59,7 +63,8 @@ shares_fault legal mass shares =
     else if not (int_eq (sum_of (map (λ (count : ClassMove × ℤ). count.1) shares)) mass) then Some Sum
     else None
 
--- what is at fault with a row of a side at a class history, where it is told whether the class layouts allow the history and whether the row stands after the one before it
+-- what is at fault with a row of a side at a class history, where it is told whether the class layouts allow the
+-- history and whether the row stands after the one before it
 abbrev pub row_fault : Question → Side → ClassHistory → Shares → Bool → Bool → Option PlanKind
 row_fault question side history shares allowed ordered =
     if not (allowed && has_turn question side history) then Some History
@@ -82,7 +87,8 @@ plan_row_fault question den before row =
 abbrev pub defence_row_fault : Question → ℤ → List DefenceRow → DefenceRow → Option PlanKind
 defence_row_fault question den before row =
     if not (nat_lt 0 (weight_of question row.west)) then Some Layout
-    else row_fault question (defenders question den before row.west) row.history row.counts (allows question row.west row.history)
+    else row_fault question (defenders question den before row.west) row.history row.counts
+    (allows question row.west row.history)
     (last_passes (λ (last : DefenceRow). defence_row_before last row) before)
 
 -- the fault of a row, which is told by the number of the row, counted from 1
@@ -93,7 +99,8 @@ at_row None row later = later
 -- the first fault of some rows, where the rows before them are given
 unfoldable pub first_fault : {R : Type 0} → (List R → R → Option PlanKind) → List R → List R → Result ⊤ PlanFault
 first_fault fault before [] = Ok tt
-first_fault fault before (row ∷ rows) = at_row (fault before row) (length before + 1) (first_fault fault (before ++ row ∷ []) rows)
+first_fault fault before (row ∷ rows) =
+    at_row (fault before row) (length before + 1) (first_fault fault (before ++ row ∷ []) rows)
 
 -- the fault of a denominator stands first, with row 0
 abbrev pub after_den : ℤ → Result ⊤ PlanFault → Result ⊤ PlanFault
@@ -105,7 +112,8 @@ plan_verdict question plan = after_den plan.den (first_fault (plan_row_fault que
 
 -- what the test of a defence answers
 unfoldable pub defence_verdict : Question → Defence → Result ⊤ PlanFault
-defence_verdict question defence = after_den defence.den (first_fault (defence_row_fault question defence.den) [] defence.rows)
+defence_verdict question defence =
+    after_den defence.den (first_fault (defence_row_fault question defence.den) [] defence.rows)
 
 -- a plan with no fault is proper, and so is a defence
 abbrev pub IsProperPlan : Question → Plan → Type 0

@@ -1,5 +1,7 @@
--- What best replies are worth at each turn and within which bounds, what the entries of their lists are, and in what order they stand.
-use Rattle.std.specs.Prelude.{false, get_or, ◌≡◌, ℕ, ◌<◌, ◌^◌, true, List, [], ◌∷◌, ◌++◌, length, map, Contains, ℤ, pos, ◌*ℤ◌, ◌≤ℤ◌, ◌<ℤ◌}
+-- What best replies are worth at each turn and within which bounds, what the entries of their lists are, and in what
+-- order they stand.
+use Rattle.std.specs.Prelude.{false, get_or, ◌≡◌, ℕ, ◌<◌, ◌^◌, true, List, [], ◌∷◌, ◌++◌, length, map, Contains, ℤ, pos}
+use Rattle.std.specs.Prelude.{◌*ℤ◌, ◌≤ℤ◌, ◌<ℤ◌}
 use Rattle.suit_cards.specs.Cards.{Counts}
 use Rattle.suit_game.specs.declared.question.Question.{Question}
 use Rattle.suit_game.specs.Validity.{IsValid}
@@ -14,7 +16,8 @@ use Rattle.suit_plans.specs.declared.moves.DeclarerMove.{DeclarerMove}
 use Rattle.suit_plans.specs.declared.moves.DefenceMove.{DefenceMove}
 use Rattle.suit_plans.specs.declared.plan.Plan.{Plan}
 use Rattle.suit_plans.specs.declared.defence.Defence.{Defence}
-use Rattle.suit_plans.specs.BestReplies.{Reply, allowing_layouts, choices, least, least_reply, most, most_reply, public_moves, reply_to_defence, reply_to_plan, worth, worth_at}
+use Rattle.suit_plans.specs.BestReplies.{Reply, allowing_layouts, choices, least, least_reply, most, most_reply}
+use Rattle.suit_plans.specs.BestReplies.{public_moves, reply_to_defence, reply_to_plan, worth, worth_at}
 use Rattle.suit_plans.specs.Masses.{is_declarers, is_defences, defence_mass, plan_mass}
 use Rattle.suit_plans.specs.Orders.{InOrder, history_before}
 use Rattle.suit_plans.specs.Properness.{IsProperDefence, IsProperPlan, some_allows, sum_of}
@@ -44,42 +47,54 @@ WorthsUnfold = (reply : Reply) (history : ClassHistory) → length history < MOS
 abbrev pub PlansAtDecided : Type 0
 PlansAtDecided = (question : Question) (plan : Plan) (counts : Counts) (history : ClassHistory)
     → class_decided (class_after question history) ≡ true
-    → worth (reply_to_plan question plan counts) history ≡ pos (class_payoff (class_after question history)) *ℤ plan_mass question plan history
+    → worth (reply_to_plan question plan counts) history
+    ≡ pos (class_payoff (class_after question history)) *ℤ plan_mass question plan history
 
 -- at a turn of declarer's, the sum over his class moves
 abbrev pub PlansAtDeclarers : Type 0
-PlansAtDeclarers = (question : Question) (plan : Plan) (counts : Counts) (history : ClassHistory) → Allows question counts history
+PlansAtDeclarers = (question : Question) (plan : Plan) (counts : Counts) (history : ClassHistory)
+    → Allows question counts history
     → is_declarers (class_turn (class_after question history)) ≡ true
     → worth (reply_to_plan question plan counts) history
-    ≡ sum_of (worths_with (reply_to_plan question plan counts) history (class_moves (class_after question history) counts))
+    ≡ sum_of (worths_with (reply_to_plan question plan counts) history
+    (class_moves (class_after question history) counts))
 
 -- at a turn of a defender's, the least of his class moves
 abbrev pub PlansAtDefences : Type 0
-PlansAtDefences = (question : Question) (plan : Plan) (counts : Counts) (history : ClassHistory) → Allows question counts history
+PlansAtDefences = (question : Question) (plan : Plan) (counts : Counts) (history : ClassHistory)
+    → Allows question counts history
     → is_defences (class_turn (class_after question history)) ≡ true
-    → IsLeastOf (worths_with (reply_to_plan question plan counts) history (class_moves (class_after question history) counts))
+    → IsLeastOf (worths_with (reply_to_plan question plan counts) history
+    (class_moves (class_after question history) counts))
     (worth (reply_to_plan question plan counts) history)
 
 -- what the layouts that allow a class history let through to it
 abbrev pub masses_of : Question → Defence → ClassHistory → List ℤ
-masses_of question defence history = map (λ (layout : Counts × ℕ). defence_mass question defence layout.0 history) (allowing_layouts question history)
+masses_of question defence history =
+    map (λ (layout : Counts × ℕ). defence_mass question defence layout.0 history) (allowing_layouts question history)
 
 -- against a defence: where play is decided, the payoff for the masses that came
 abbrev pub DefencesAtDecided : Type 0
-DefencesAtDecided = (question : Question) (defence : Defence) (history : ClassHistory) → class_decided (class_after question history) ≡ true
-    → worth (reply_to_defence question defence) history ≡ pos (class_payoff (class_after question history)) *ℤ sum_of (masses_of question defence history)
+DefencesAtDecided = (question : Question) (defence : Defence) (history : ClassHistory)
+    → class_decided (class_after question history) ≡ true
+    → worth (reply_to_defence question defence) history
+    ≡ pos (class_payoff (class_after question history)) *ℤ sum_of (masses_of question defence history)
 
 -- at a turn of declarer's, the most of the moves
 abbrev pub DefencesAtDeclarers : Type 0
-DefencesAtDeclarers = (question : Question) (defence : Defence) (history : ClassHistory) → IsValid question → some_allows question history ≡ true
+DefencesAtDeclarers = (question : Question) (defence : Defence) (history : ClassHistory) → IsValid question
+    → some_allows question history ≡ true
     → is_declarers (class_turn (class_after question history)) ≡ true
-    → IsMostOf (worths_with (reply_to_defence question defence) history (public_moves question history)) (worth (reply_to_defence question defence) history)
+    → IsMostOf (worths_with (reply_to_defence question defence) history (public_moves question history))
+    (worth (reply_to_defence question defence) history)
 
 -- at a turn of a defender's, the sum over the moves
 abbrev pub DefencesAtDefences : Type 0
-DefencesAtDefences = (question : Question) (defence : Defence) (history : ClassHistory) → IsValid question → some_allows question history ≡ true
+DefencesAtDefences = (question : Question) (defence : Defence) (history : ClassHistory) → IsValid question
+    → some_allows question history ≡ true
     → is_defences (class_turn (class_after question history)) ≡ true
-    → worth (reply_to_defence question defence) history ≡ sum_of (worths_with (reply_to_defence question defence) history (public_moves question history))
+    → worth (reply_to_defence question defence) history
+    ≡ sum_of (worths_with (reply_to_defence question defence) history (public_moves question history))
 
 -- ---- within which bounds it stays
 
@@ -90,24 +105,32 @@ pub record IsPaid (mass worth : ℤ) : Type 0 where
 
 -- against a proper plan each class history that is allowed is worth no more than thirteen tricks of its mass
 abbrev pub PlansArePaid : Type 0
-PlansArePaid = (question : Question) (plan : Plan) (counts : Counts) (history : ClassHistory) → IsValid question → IsProperPlan question plan
-    → Allows question counts history → IsPaid (plan_mass question plan history) (worth (reply_to_plan question plan counts) history)
+PlansArePaid = (question : Question) (plan : Plan) (counts : Counts) (history : ClassHistory) → IsValid question
+    → IsProperPlan question plan
+    → Allows question counts history
+    → IsPaid (plan_mass question plan history) (worth (reply_to_plan question plan counts) history)
 
 -- so it is worth nothing where no mass comes to it
 abbrev pub NoMassIsWorthNothing : Type 0
-NoMassIsWorthNothing = (question : Question) (plan : Plan) (counts : Counts) (history : ClassHistory) → IsValid question → IsProperPlan question plan
-    → Allows question counts history → plan_mass question plan history ≡ pos 0 → worth (reply_to_plan question plan counts) history ≡ pos 0
+NoMassIsWorthNothing = (question : Question) (plan : Plan) (counts : Counts) (history : ClassHistory) → IsValid question
+    → IsProperPlan question plan
+    → Allows question counts history → plan_mass question plan history ≡ pos 0
+    → worth (reply_to_plan question plan counts) history ≡ pos 0
 
 -- against a proper defence it is worth no more than thirteen tricks of the masses in all class layouts
 abbrev pub DefencesArePaid : Type 0
-DefencesArePaid = (question : Question) (defence : Defence) (history : ClassHistory) → IsValid question → IsProperDefence question defence
-    → some_allows question history ≡ true → IsPaid (sum_of (masses_of question defence history)) (worth (reply_to_defence question defence) history)
+DefencesArePaid = (question : Question) (defence : Defence) (history : ClassHistory) → IsValid question
+    → IsProperDefence question defence
+    → some_allows question history ≡ true
+    → IsPaid (sum_of (masses_of question defence history)) (worth (reply_to_defence question defence) history)
 
 -- so it is worth nothing where no mass comes to it in any
 abbrev pub NoMassesAreWorthNothing : Type 0
-NoMassesAreWorthNothing = (question : Question) (defence : Defence) (history : ClassHistory) → IsValid question → IsProperDefence question defence
+NoMassesAreWorthNothing = (question : Question) (defence : Defence) (history : ClassHistory) → IsValid question
+    → IsProperDefence question defence
     → some_allows question history ≡ true
-    → ((layout : Counts × ℕ) → Contains (allowing_layouts question history) layout → defence_mass question defence layout.0 history ≡ pos 0)
+    → ((layout : Counts × ℕ) → Contains (allowing_layouts question history) layout
+    → defence_mass question defence layout.0 history ≡ pos 0)
     → worth (reply_to_defence question defence) history ≡ pos 0
 
 -- so the least that a proper plan earns is not negative, and has fewer than 119 bits
@@ -126,8 +149,10 @@ MostsAreBounded = (question : Question) (defence : Defence) → IsValid question
 abbrev pub counts_at : Question → ℕ → Counts
 counts_at question index = (get_or (class_layouts question (sizes_of question)) index ([], 0)).0
 
--- a choice of the defence against a plan: counts allow the class history, play is not decided there, a defender is on turn with more moves than one, this is one of them, and some mass comes to it
-pub record IsDefenceChoice (question : Question) (plan : Plan) (counts : Counts) (history : ClassHistory) (move : ClassMove) : Type 0 where
+-- a choice of the defence against a plan: counts allow the class history, play is not decided there, a defender is on
+-- turn with more moves than one, this is one of them, and some mass comes to it
+pub record IsDefenceChoice (question : Question) (plan : Plan) (counts : Counts) (history : ClassHistory)
+    (move : ClassMove) : Type 0 where
   pub allowed : Allows question counts history
   pub going : class_decided (class_after question history) ≡ false
   pub turn : is_defences (class_turn (class_after question history)) ≡ true
@@ -137,30 +162,38 @@ pub record IsDefenceChoice (question : Question) (plan : Plan) (counts : Counts)
 
 -- such are the entries of the best reply to a plan, each in one of the class layouts
 abbrev pub LeastRepliesAreChoices : Type 0
-LeastRepliesAreChoices = (question : Question) (plan : Plan) (entry : DefenceMove) → IsValid question → Contains (least_reply question plan) entry
+LeastRepliesAreChoices = (question : Question) (plan : Plan) (entry : DefenceMove) → IsValid question
+    → Contains (least_reply question plan) entry
     → (entry.layout < length (class_layouts question (sizes_of question)))
     × IsDefenceChoice question plan (counts_at question entry.layout) entry.history entry.mv
 
--- a choice of declarer's against a defence: some class layout allows the class history, play is not decided there, declarer is on turn with more moves than one, this is one of them, and some mass comes to it in a class layout
-pub record IsDeclarerChoice (question : Question) (defence : Defence) (history : ClassHistory) (move : ClassMove) : Type 0 where
+-- a choice of declarer's against a defence: some class layout allows the class history, play is not decided there,
+-- declarer is on turn with more moves than one, this is one of them, and some mass comes to it in a class layout
+pub record IsDeclarerChoice (question : Question) (defence : Defence) (history : ClassHistory) (move : ClassMove) : Type
+    0 where
   pub allowed : some_allows question history ≡ true
   pub going : class_decided (class_after question history) ≡ false
   pub turn : is_declarers (class_turn (class_after question history)) ≡ true
   pub many : 1 < length (public_moves question history)
   pub legal : Contains (public_moves question history) move
-  pub live : (layout : Counts × ℕ) × Contains (allowing_layouts question history) layout × (pos 0 <ℤ defence_mass question defence layout.0 history)
+  pub live : (layout : Counts × ℕ) × Contains (allowing_layouts question history) layout
+      × (pos 0 <ℤ defence_mass question defence layout.0 history)
 
 -- such are the entries of the best reply to a defence
 abbrev pub MostRepliesAreChoices : Type 0
-MostRepliesAreChoices = (question : Question) (defence : Defence) (entry : DeclarerMove) → IsValid question → Contains (most_reply question defence) entry
+MostRepliesAreChoices = (question : Question) (defence : Defence) (entry : DeclarerMove) → IsValid question
+    → Contains (most_reply question defence) entry
     → IsDeclarerChoice question defence entry.history entry.mv
 
 -- ---- in what order they stand
 
--- the choices against a plan, of which its best reply lists those of each class layout in turn, stand in the order of their class histories
+-- the choices against a plan, of which its best reply lists those of each class layout in turn, stand in the order of
+-- their class histories
 abbrev pub PlanChoicesRise : Type 0
-PlanChoicesRise = (question : Question) (plan : Plan) (counts : Counts) → InOrder history_before (choices (reply_to_plan question plan counts))
+PlanChoicesRise = (question : Question) (plan : Plan) (counts : Counts)
+    → InOrder history_before (choices (reply_to_plan question plan counts))
 
 -- and so do those against a defence
 abbrev pub DefenceChoicesRise : Type 0
-DefenceChoicesRise = (question : Question) (defence : Defence) → InOrder history_before (choices (reply_to_defence question defence))
+DefenceChoicesRise = (question : Question) (defence : Defence)
+    → InOrder history_before (choices (reply_to_defence question defence))

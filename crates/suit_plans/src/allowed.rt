@@ -66,7 +66,9 @@ fn has_move(place: &ClassPlace, counts: &[u8], mv: ClassMove) -> bool
 /// Where a class history leads that goes past no decided position.
 pub(crate) fn undecided_place(question: &Question, history: &[ClassMove]) -> Option<ClassPlace>
     requires { length history.now ≤ 52 }
-    ensures { MatchOption result (goes_undecided (class_start question.now) history.now ≡ false) (λ place. (goes_undecided (class_start question.now) history.now ≡ true) × (place ≡ class_after question.now history.now)) }
+    ensures { MatchOption result (goes_undecided (class_start question.now) history.now
+        ≡ false) (λ place. (goes_undecided (class_start question.now) history.now ≡ true)
+        × (place ≡ class_after question.now history.now)) }
 {
     let mut place = ClassPlace::start(question, &Classes::of(question));
     for index in 0..history.len() {

@@ -1,6 +1,11 @@
 //! Laws of the masses and of best replies: each is the contract of an empty function.
 ghost use Rattle.suit_plans.specs.PlanLaws.{DefencesAreRealised, PlansAreRealised};
-ghost use Rattle.suit_plans.specs.ReplyLaws.{DefencesArePaid, DefencesAtDecided, DefencesAtDeclarers, DefencesAtDefences, DefenceChoicesRise, LeastRepliesAreChoices, LeastsAreBounded, MostRepliesAreChoices, MostsAreBounded, NoMassesAreWorthNothing, NoMassIsWorthNothing, PlanChoicesRise, PlansArePaid, PlansAtDecided, PlansAtDeclarers, PlansAtDefences, WorthsUnfold};
+ghost use Rattle.suit_plans.specs.ReplyLaws.{DefencesArePaid, DefencesAtDecided, DefencesAtDeclarers};
+ghost use Rattle.suit_plans.specs.ReplyLaws.{DefencesAtDefences, DefenceChoicesRise, LeastRepliesAreChoices};
+ghost use Rattle.suit_plans.specs.ReplyLaws.{LeastsAreBounded, MostRepliesAreChoices, MostsAreBounded};
+ghost use Rattle.suit_plans.specs.ReplyLaws.{NoMassesAreWorthNothing, NoMassIsWorthNothing, PlanChoicesRise};
+ghost use Rattle.suit_plans.specs.ReplyLaws.{PlansArePaid, PlansAtDecided, PlansAtDeclarers, PlansAtDefences};
+ghost use Rattle.suit_plans.specs.ReplyLaws.{WorthsUnfold};
 
 /// The masses of a proper plan are a realisation plan.
 pub fn plans_are_realised()
@@ -77,12 +82,14 @@ pub fn mosts_are_bounded()
     ensures { MostsAreBounded }
 {}
 
-/// Each entry of the best reply to a plan is a legal move of the defence's at a class history where it has a choice and some mass comes.
+/// Each entry of the best reply to a plan is a legal move of the defence's at a class history where it has a choice and
+/// some mass comes.
 pub fn least_replies_are_choices()
     ensures { LeastRepliesAreChoices }
 {}
 
-/// Each entry of the best reply to a defence is a legal move of declarer's at a class history where he has a choice and some mass comes.
+/// Each entry of the best reply to a defence is a legal move of declarer's at a class history where he has a choice and
+/// some mass comes.
 pub fn most_replies_are_choices()
     ensures { MostRepliesAreChoices }
 {}

@@ -2,7 +2,8 @@
 ghost use Rattle.std.specs.Prelude.{◌≡◌, ◌&&◌, bytes_eq, false, option_map, true};
 ghost use Rattle.std.specs.List.Sorted.{IsPartitionPoint};
 ghost use Rattle.suit_plans.specs.Masses.{defence_shares_at, plan_shares_at};
-ghost use Rattle.suit_plans.specs.Orders.{InOrder, defence_row_before, history_before, key_before, plan_row_before, same_class_history};
+ghost use Rattle.suit_plans.specs.Orders.{InOrder, defence_row_before, history_before, key_before, plan_row_before};
+ghost use Rattle.suit_plans.specs.Orders.{same_class_history};
 
 use super::order::{counts_are_before, history_is_before, is_same_history};
 use super::{Counts, DefenceRow, Row};
@@ -11,7 +12,8 @@ use suit_classes::ClassMove;
 // Where the rows of a plan end that stand before a class history.
 fn plan_place(rows: &[Row], history: &[ClassMove]) -> usize
     requires { InOrder plan_row_before rows.now }
-    ensures { IsPartitionPoint (λ row. history_before row.history history.now ≡ true) (λ row. history_before row.history history.now ≡ false) rows.now result }
+    ensures { IsPartitionPoint (λ row. history_before row.history history.now
+        ≡ true) (λ row. history_before row.history history.now ≡ false) rows.now result }
 {
     rows.partition_point(|row| history_is_before(row.history.items(), history))
 }
@@ -48,7 +50,8 @@ fn is_row_of(row: &DefenceRow, counts: &[u8], history: &[ClassMove]) -> bool
 // Where the rows of a defence end that stand before a class layout and a class history.
 fn defence_place(rows: &[DefenceRow], counts: &[u8], history: &[ClassMove]) -> usize
     requires { InOrder defence_row_before rows.now }
-    ensures { IsPartitionPoint (λ row. key_before row.west row.history counts.now history.now ≡ true) (λ row. key_before row.west row.history counts.now history.now ≡ false) rows.now result }
+    ensures { IsPartitionPoint (λ row. key_before row.west row.history counts.now history.now
+        ≡ true) (λ row. key_before row.west row.history counts.now history.now ≡ false) rows.now result }
 {
     rows.partition_point(|row| is_row_before(row, counts, history))
 }

@@ -52,7 +52,8 @@ impl<'a> Player<'a> {
         requires weight { weight ≤ 10400600 }
         requires den { (pos 1 ≤ℤ den) × (den ≤ℤ MOST_DEN) }
         requires order { InOrder defence_row_before rows.now }
-        ensures side { (question : Question) → weight ≡ weight_of question counts.now → side_of result ≡ defenders question den rows.now counts.now }
+        ensures side { (question : Question) → weight ≡ weight_of question counts.now
+            → side_of result ≡ defenders question den rows.now counts.now }
         ensures order { AreOrdered result.rows }
     {
         Player {
@@ -98,7 +99,8 @@ impl<'a> Player<'a> {
         mv: ClassMove,
     ) -> i128
         requires { AreOrdered self.now.rows }
-        ensures { (question : Question) → place.now ≡ class_after question history.now → result ≡ let_through question (side_of self.now) history.now mass mv }
+        ensures { (question : Question) → place.now ≡ class_after question history.now
+            → result ≡ let_through question (side_of self.now) history.now mass mv }
     {
         if !self.plays(place.turn()) {
             return mass;

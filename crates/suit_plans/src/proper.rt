@@ -5,7 +5,8 @@ ghost use Rattle.suit_plans.specs.declared.plan.TheConstants.{MOST_DEN};
 ghost use Rattle.suit_plans.specs.Masses.{weight_of};
 ghost use Rattle.suit_plans.specs.Orders.{InOrder, defence_row_before, plan_row_before};
 ghost use Rattle.suit_plans.specs.Players.{AreOrdered, side_of};
-ghost use Rattle.suit_plans.specs.Properness.{defence_row_fault, defence_verdict, last_passes, plan_row_fault, plan_verdict, row_fault};
+ghost use Rattle.suit_plans.specs.Properness.{defence_row_fault, defence_verdict, last_passes, plan_row_fault};
+ghost use Rattle.suit_plans.specs.Properness.{plan_verdict, row_fault};
 
 use super::allowed::{allows, some_allows, undecided_place};
 use super::lookup::is_row_before;

@@ -160,7 +160,10 @@ module _ (question : Question) (valid : IsValid question) where
                 plain =
                     (lit< tt, (lit< tt, (lit< tt, (lit< tt, (lit< tt, (lit< tt, (lit< tt, tt)))))));
               },
-              (entries_plain question.entries_n valid.entries_n, (entries_plain question.entries_s valid.entries_s, tt)),
+              (
+                entries_plain question.entries_n valid.entries_n,
+                (entries_plain question.entries_s valid.entries_s, tt),
+              ),
             ),
             (
               (
@@ -174,7 +177,8 @@ module _ (question : Question) (valid : IsValid question) where
                 (
                   record { some = lit< tt; plain = (lit< tt, (lit< tt, (lit< tt, (lit< tt, tt)))) },
                   (
-                    number_plain question.west_least (let low = valid.range in let high = valid.west_most in omega arith),
+                    number_plain question.west_least (let low = valid.range in let high = valid.west_most in
+                        omega arith),
                     (number_plain question.west_most (let high = valid.west_most in omega arith), tt),
                   ),
                 ),

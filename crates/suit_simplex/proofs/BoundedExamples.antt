@@ -12,10 +12,20 @@ unfolding dot
 two_columns_bounded = (
   pos 12,
   λ point den feasible.
-      let first : (pos 1 *ℤ point 0 +ℤ (pos 1 *ℤ point 1 +ℤ pos 0)) ≤ℤ (pos 4 *ℤ den) = feasible.rows 0 (record { entries = []; bound = pos 0 }) (lit< tt) in
+      let first : (pos 1 *ℤ point 0 +ℤ (pos 1 *ℤ point 1 +ℤ pos 0)) ≤ℤ (pos 4 *ℤ den) =
+      feasible.rows 0 (record { entries = []; bound = pos 0 }) (lit< tt) in
       let x : pos 0 ≤ℤ point 0 = feasible.columns 0 (lit< tt) in
       let y : pos 0 ≤ℤ point 1 = feasible.columns 1 (lit< tt) in
-      omega (arith, ints, product_is (pos 3) (point 0), product_is (pos 2) (point 1), product_is (pos 1) (point 0), product_is (pos 1) (point 1), product_is (pos 4) den, product_is (pos 12) den),
+      omega (
+        arith,
+        ints,
+        product_is (pos 3) (point 0),
+        product_is (pos 2) (point 1),
+        product_is (pos 1) (point 0),
+        product_is (pos 1) (point 1),
+        product_is (pos 4) den,
+        product_is (pos 12) den,
+      ),
 )
 
 pub two_wide_rows_bounded : IsBounded two_wide_rows
@@ -23,9 +33,16 @@ unfolding dot
 two_wide_rows_bounded = (
   pos (2 ^ 100),
   λ point den feasible.
-      let first : (pos (2 ^ 100) *ℤ point 0 +ℤ pos 0) ≤ℤ (pos (2 ^ 100) *ℤ den) = feasible.rows 0 (record { entries = []; bound = pos 0 }) (lit< tt) in
+      let first : (pos (2 ^ 100) *ℤ point 0 +ℤ pos 0) ≤ℤ (pos (2 ^ 100) *ℤ den) =
+      feasible.rows 0 (record { entries = []; bound = pos 0 }) (lit< tt) in
       let x : pos 0 ≤ℤ point 0 = feasible.columns 0 (lit< tt) in
-      omega (arith, ints, product_is (pos 1) (point 0), product_is (pos (2 ^ 100)) (point 0), product_is (pos (2 ^ 100)) den),
+      omega (
+        arith,
+        ints,
+        product_is (pos 1) (point 0),
+        product_is (pos (2 ^ 100)) (point 0),
+        product_is (pos (2 ^ 100)) den,
+      ),
 )
 
 pub one_wide_row_bounded : IsBounded one_wide_row
@@ -33,9 +50,16 @@ unfolding dot
 one_wide_row_bounded = (
   pos (2 ^ 100),
   λ point den feasible.
-      let first : (pos (2 ^ 100) *ℤ point 0 +ℤ pos 0) ≤ℤ (pos (2 ^ 100) *ℤ den) = feasible.rows 0 (record { entries = []; bound = pos 0 }) (lit< tt) in
+      let first : (pos (2 ^ 100) *ℤ point 0 +ℤ pos 0) ≤ℤ (pos (2 ^ 100) *ℤ den) =
+      feasible.rows 0 (record { entries = []; bound = pos 0 }) (lit< tt) in
       let x : pos 0 ≤ℤ point 0 = feasible.columns 0 (lit< tt) in
-      omega (arith, ints, product_is (pos 1) (point 0), product_is (pos (2 ^ 100)) (point 0), product_is (pos (2 ^ 100)) den),
+      omega (
+        arith,
+        ints,
+        product_is (pos 1) (point 0),
+        product_is (pos (2 ^ 100)) (point 0),
+        product_is (pos (2 ^ 100)) den,
+      ),
 )
 
 pub nothing_gained_bounded : IsBounded nothing_gained
@@ -52,8 +76,16 @@ unfolding dot
 tied_bounded = (
   pos 0,
   λ point den feasible.
-      let second : (pos 2 *ℤ point 0 +ℤ (pos 1 *ℤ point 1 +ℤ pos 0)) ≤ℤ (pos 0 *ℤ den) = feasible.rows 1 (record { entries = []; bound = pos 0 }) (lit< tt) in
+      let second : (pos 2 *ℤ point 0 +ℤ (pos 1 *ℤ point 1 +ℤ pos 0)) ≤ℤ (pos 0 *ℤ den) =
+      feasible.rows 1 (record { entries = []; bound = pos 0 }) (lit< tt) in
       let x : pos 0 ≤ℤ point 0 = feasible.columns 0 (lit< tt) in
       let y : pos 0 ≤ℤ point 1 = feasible.columns 1 (lit< tt) in
-      omega (arith, ints, product_is (pos 1) (point 0), product_is (pos 1) (point 1), product_is (pos 2) (point 0), product_is (pos 0) den),
+      omega (
+        arith,
+        ints,
+        product_is (pos 1) (point 0),
+        product_is (pos 1) (point 1),
+        product_is (pos 2) (point 0),
+        product_is (pos 0) den,
+      ),
 )

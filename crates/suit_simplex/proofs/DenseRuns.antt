@@ -16,7 +16,8 @@ use Rattle.suit_tableaus.proofs.PivotedTableaus.{row_content, objective_content}
 use Rattle.suit_tableaus.proofs.Rays.{no_ray}
 use Rattle.suit_tableaus.proofs.RunSteps.{IsRunning, next_wide_ratio, first_running, next_running}
 
-pub wide_ratio : (dense : Dense) (column : ℕ) → CanAdvance dense → entering (seen dense) ≡ Some column → ¬ IsTrue (list_all is_narrow (ratio_products column None (seen dense).rows)) → next (seen dense) ≡ Wide
+pub wide_ratio : (dense : Dense) (column : ℕ) → CanAdvance dense → entering (seen dense) ≡ Some column
+    → ¬ IsTrue (list_all is_narrow (ratio_products column None (seen dense).rows)) → next (seen dense) ≡ Wide
 wide_ratio dense column can e refused =
     elim (cases_option (leaving (seen dense) column)) [
       | inl none ↦ absurd (can.row column e none)
@@ -24,7 +25,8 @@ wide_ratio dense column can e refused =
     ]
 
 -- a sound tableau of a bounded program can go on
-pub sound_advances : (program : Program) (dense : Dense) → IsBounded program → IsSound program (seen dense) → dense.width ≡ suc (length program.costs + length program.rows) → CanAdvance dense
+pub sound_advances : (program : Program) (dense : Dense) → IsBounded program → IsSound program (seen dense)
+    → dense.width ≡ suc (length program.costs + length program.rows) → CanAdvance dense
 sound_advances program dense bounded sound width = record {
   column = λ column e. omega (arith, (entering_is_column program (seen dense) column sound e).0, width);
   row = λ column e none. no_ray program (seen dense) column sound bounded e none;
@@ -41,14 +43,18 @@ pub record IsKeptRun (program : Program) (budget : ℕ) (dense : Dense) (made : 
   pub width : dense.width ≡ suc (length program.costs + length program.rows)
   pub running : IsRunning program budget (seen dense) made
 
-pub first_kept_run : (program : Program) (budget : ℕ) (dense : Dense) → IsSound program (first_tableau program) → IsKept dense → dense.width ≡ suc (length program.costs + length program.rows) → seen dense ≡ first_tableau program → IsKeptRun program budget dense 0
+pub first_kept_run : (program : Program) (budget : ℕ) (dense : Dense) → IsSound program (first_tableau program)
+    → IsKept dense → dense.width ≡ suc (length program.costs + length program.rows) → seen dense ≡ first_tableau program
+    → IsKeptRun program budget dense 0
 first_kept_run program budget dense sound kept width first = record {
   kept = kept;
   width = width;
   running = rw first (first_running program budget sound);
 }
 
-pub next_kept : (program : Program) (budget : ℕ) (dense later : Dense) (made : ℕ) → made < budget → IsKeptRun program budget dense made → (next (seen dense) ≡ To (seen later)) × IsKept later × (later.width ≡ dense.width) → IsKeptRun program budget later (made + 1)
+pub next_kept : (program : Program) (budget : ℕ) (dense later : Dense) (made : ℕ) → made < budget
+    → IsKeptRun program budget dense made → (next (seen dense) ≡ To (seen later)) × IsKept later
+    × (later.width ≡ dense.width) → IsKeptRun program budget later (made + 1)
 next_kept program budget dense later made less before step = record {
   kept = step.1;
   width = step.2 ∙ before.width;

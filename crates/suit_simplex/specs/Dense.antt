@@ -1,5 +1,6 @@
 -- A tableau kept as one list of numbers: row after row, and then the objective row.
-use Rattle.std.specs.Prelude.{◌≡◌, ◌≢◌, ℕ, suc, ◌+◌, ◌*◌, ◌<◌, ℤ, pos, ◌<ℤ◌, List, [], ◌∷◌, length, take, drop, slice_index, set, All, Contains, Some, None, Result, Ok, Err}
+use Rattle.std.specs.Prelude.{◌≡◌, ◌≢◌, ℕ, suc, ◌+◌, ◌*◌, ◌<◌, ℤ, pos, ◌<ℤ◌, List, [], ◌∷◌, length, take, drop}
+use Rattle.std.specs.Prelude.{slice_index, set, All, Contains, Some, None, Result, Ok, Err}
 use Rattle.suit_num.specs.Narrow.{IsNarrow}
 use Rattle.suit_simplex.specs.declared.dense.Dense.{Dense}
 use Rattle.suit_tableaus.specs.Points.{number_at}
@@ -13,7 +14,8 @@ use Rattle.suit_tableaus.specs.Tableaus.{TableauRow, Tableau, entry, reduced_cos
 -- the rows by their basic columns, each of as many numbers as the width
 unfoldable pub rows_seen : ℕ → List ℕ → List ℤ → List TableauRow
 rows_seen width [] numbers = []
-rows_seen width (basic ∷ basics) numbers = record { basic = basic; numbers = take width numbers } ∷ rows_seen width basics (drop width numbers)
+rows_seen width (basic ∷ basics) numbers = record { basic = basic; numbers = take width numbers }
+    ∷ rows_seen width basics (drop width numbers)
 
 -- the tableau that is kept
 unfoldable pub seen : Dense → Tableau
@@ -60,17 +62,21 @@ CanClear p t numbers leaver = 0 < content (combined (share p t) numbers (share t
 -- a pivot of the tableau on the column and the leaving row divides by no 0
 pub record CanPivot (tableau : Tableau) (column : ℕ) (leaver : TableauRow) : Type 0 where
   pub positive : pos 0 <ℤ entry leaver column
-  pub rows : (row : TableauRow) → Contains tableau.rows row → row.basic ≢ leaver.basic → CanClear (entry leaver column) (entry row column) row.numbers leaver.numbers
-  pub objective : CanClear (entry leaver column) (reduced_cost tableau column) tableau.objective (pos 0 ∷ leaver.numbers)
+  pub rows : (row : TableauRow) → Contains tableau.rows row → row.basic ≢ leaver.basic
+      → CanClear (entry leaver column) (entry row column) row.numbers leaver.numbers
+  pub objective : CanClear (entry leaver column) (reduced_cost tableau column) tableau.objective (pos 0
+      ∷ leaver.numbers)
 
 -- where a column enters, a row leaves, and the pivot can be made
 pub record CanAdvance (dense : Dense) : Type 0 where
   pub column : (column : ℕ) → entering (seen dense) ≡ Some column → suc column < dense.width
   pub row : (column : ℕ) → entering (seen dense) ≡ Some column → ¬ (leaving (seen dense) column ≡ None)
-  pub pivot : (column : ℕ) (leaver : TableauRow) → entering (seen dense) ≡ Some column → leaving (seen dense) column ≡ Some leaver → CanPivot (seen dense) column leaver
+  pub pivot : (column : ℕ) (leaver : TableauRow) → entering (seen dense) ≡ Some column
+      → leaving (seen dense) column ≡ Some leaver → CanPivot (seen dense) column leaver
 
 -- what one step of the run has made of a tableau
 abbrev pub Advances : Result Progress TooWide → Dense → Dense → Type 0
-Advances (Ok advances.Last) old new = (next (seen old) ≡ Last) × IsKept new × (new.width ≡ old.width) × (seen new ≡ seen old)
+Advances (Ok advances.Last) old new = (next (seen old) ≡ Last) × IsKept new × (new.width ≡ old.width)
+    × (seen new ≡ seen old)
 Advances (Err error) old new = next (seen old) ≡ Wide
 Advances (Ok advances.Pivoted) old new = (next (seen old) ≡ To (seen new)) × IsKept new × (new.width ≡ old.width)

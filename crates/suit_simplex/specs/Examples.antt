@@ -21,19 +21,22 @@ two_columns = record {
 -- its tableaus: the first, after column 0 enters in row 1, and after column 1 enters in row 0
 abbrev pub TwoColumnsBegin : Type 0
 TwoColumnsBegin = first_tableau two_columns ≡ record {
-  rows = tableau_row 2 (pos 4 ∷ pos 1 ∷ pos 1 ∷ pos 1 ∷ pos 0 ∷ []) ∷ tableau_row 3 (pos 6 ∷ pos 3 ∷ pos 1 ∷ pos 0 ∷ pos 1 ∷ []) ∷ [];
+  rows = tableau_row 2 (pos 4 ∷ pos 1 ∷ pos 1 ∷ pos 1 ∷ pos 0 ∷ [])
+      ∷ tableau_row 3 (pos 6 ∷ pos 3 ∷ pos 1 ∷ pos 0 ∷ pos 1 ∷ []) ∷ [];
   objective = pos 1 ∷ pos 0 ∷ negsuc 2 ∷ negsuc 1 ∷ pos 0 ∷ pos 0 ∷ [];
 }
 
 abbrev pub two_columns_once : Tableau
 two_columns_once = record {
-  rows = tableau_row 2 (pos 6 ∷ pos 0 ∷ pos 2 ∷ pos 3 ∷ negsuc 0 ∷ []) ∷ tableau_row 0 (pos 6 ∷ pos 3 ∷ pos 1 ∷ pos 0 ∷ pos 1 ∷ []) ∷ [];
+  rows = tableau_row 2 (pos 6 ∷ pos 0 ∷ pos 2 ∷ pos 3 ∷ negsuc 0 ∷ [])
+      ∷ tableau_row 0 (pos 6 ∷ pos 3 ∷ pos 1 ∷ pos 0 ∷ pos 1 ∷ []) ∷ [];
   objective = pos 1 ∷ pos 6 ∷ pos 0 ∷ negsuc 0 ∷ pos 0 ∷ pos 1 ∷ [];
 }
 
 abbrev pub two_columns_twice : Tableau
 two_columns_twice = record {
-  rows = tableau_row 1 (pos 6 ∷ pos 0 ∷ pos 2 ∷ pos 3 ∷ negsuc 0 ∷ []) ∷ tableau_row 0 (pos 2 ∷ pos 2 ∷ pos 0 ∷ negsuc 0 ∷ pos 1 ∷ []) ∷ [];
+  rows = tableau_row 1 (pos 6 ∷ pos 0 ∷ pos 2 ∷ pos 3 ∷ negsuc 0 ∷ [])
+      ∷ tableau_row 0 (pos 2 ∷ pos 2 ∷ pos 0 ∷ negsuc 0 ∷ pos 1 ∷ []) ∷ [];
   objective = pos 2 ∷ pos 18 ∷ pos 0 ∷ pos 0 ∷ pos 3 ∷ pos 1 ∷ [];
 }
 
@@ -72,7 +75,8 @@ nothing_gained = record { costs = pos 0 ∷ negsuc 0 ∷ []; rows = row_of (pos 
 abbrev pub NothingGained : Type 0
 NothingGained = run_end nothing_gained 0 ≡ AtOptimum (first_tableau nothing_gained)
 
--- of two rows with the same ratio that of the lower basic column leaves, though it comes last; and the objective row is divided by 2
+-- of two rows with the same ratio that of the lower basic column leaves, though it comes last; and the objective row is
+-- divided by 2
 abbrev pub tied : Program
 tied = record {
   costs = pos 1 ∷ pos 1 ∷ [];
@@ -81,7 +85,8 @@ tied = record {
 
 abbrev pub TieBroken : Type 0
 TieBroken = run_end tied 2 ≡ AtOptimum (record {
-  rows = tableau_row 2 (pos 0 ∷ negsuc 1 ∷ pos 0 ∷ pos 1 ∷ negsuc 0 ∷ []) ∷ tableau_row 1 (pos 0 ∷ pos 2 ∷ pos 1 ∷ pos 0 ∷ pos 1 ∷ []) ∷ [];
+  rows = tableau_row 2 (pos 0 ∷ negsuc 1 ∷ pos 0 ∷ pos 1 ∷ negsuc 0 ∷ [])
+      ∷ tableau_row 1 (pos 0 ∷ pos 2 ∷ pos 1 ∷ pos 0 ∷ pos 1 ∷ []) ∷ [];
   objective = pos 1 ∷ pos 0 ∷ pos 1 ∷ pos 0 ∷ pos 0 ∷ pos 1 ∷ [];
 })
 

@@ -8,7 +8,8 @@ use Rattle.suit_tableaus.specs.Optima.{IsCommon}
 
 -- where the objective has a limit, an entering column always has a row to leave
 abbrev pub BoundedRunsMeetNoRay : Type 0
-BoundedRunsMeetNoRay = (program : Program) (budget : ℕ) → IsWellFormed program → IsBounded program → run_end program budget ≢ AtRay
+BoundedRunsMeetNoRay = (program : Program) (budget : ℕ) → IsWellFormed program → IsBounded program
+    → run_end program budget ≢ AtRay
 
 -- fractions have a denominator in common
 abbrev pub FractionsHaveACommonDenominator : Type 0

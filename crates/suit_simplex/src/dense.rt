@@ -1,12 +1,16 @@
 //! A tableau that keeps every number, row after row, in one list.
-ghost use Rattle.std.specs.Prelude.{◌≡◌, ◌≢◌, ℕ, suc, ◌+◌, ◌*◌, ◌<◌, ◌≤◌, ◌↔◌, ℤ, pos, ◌<ℤ◌, IsTrue, IfOk, length, All, Contains, Some, None, slice_get, option_map, IsOk, OnOk, SomeIff, int_lt, position, ◌||◌, ◌&&◌, ◌*ℤ◌, [], ◌∷◌};
+ghost use Rattle.std.specs.Prelude.{◌≡◌, ◌≢◌, ℕ, suc, ◌+◌, ◌*◌, ◌<◌, ◌≤◌, ◌↔◌, ℤ, pos, ◌<ℤ◌, IsTrue, IfOk, length, All};
+ghost use Rattle.std.specs.Prelude.{Contains, Some, None, slice_get, option_map, IsOk, OnOk, SomeIff, int_lt, position};
+ghost use Rattle.std.specs.Prelude.{◌||◌, ◌&&◌, ◌*ℤ◌, [], ◌∷◌};
 ghost use Rattle.std.specs.List.{list_all};
 ghost use Rattle.std.specs.Option.{ForSome};
 ghost use Rattle.std.specs.Result.{OkIff};
 ghost use Rattle.std.specs.Ordering.{int_eq};
 ghost use Rattle.suit_num.specs.Narrow.{IsNarrow};
 ghost use Rattle.suit_tableaus.specs.Tableaus.{TableauRow, first_tableau, bound, entry, reduced_cost};
-ghost use Rattle.suit_tableaus.specs.Pivots.{entering, leaving, pivoted, pivoting, pivoted_row, pivoting_row, cleared, clearing, changing, ratio_products, compared, compared_pair, is_better, kept, is_narrow};
+ghost use Rattle.suit_tableaus.specs.Pivots.{entering, leaving, pivoted, pivoting, pivoted_row, pivoting_row, cleared};
+ghost use Rattle.suit_tableaus.specs.Pivots.{clearing, changing, ratio_products, compared, compared_pair, is_better};
+ghost use Rattle.suit_tableaus.specs.Pivots.{kept, is_narrow};
 ghost use Rattle.suit_simplex.specs.Dense.{seen, row_at, leaver_row, with_row, IsKept, KeepsShape, CanClear, CanPivot};
 
 // The rows one after another, each its bound and then its entries, and then the objective row: its
@@ -31,7 +35,8 @@ impl Dense {
         requires within { index ≤ length self.now.basics.items }
         ensures value { result ≡ index * self.now.width }
         ensures row { index < length self.now.basics.items → result + self.now.width ≤ length self.now.numbers.items }
-        ensures objective { index ≡ length self.now.basics.items → result + suc self.now.width ≡ length self.now.numbers.items }
+        ensures objective { index ≡ length self.now.basics.items
+            → result + suc self.now.width ≡ length self.now.numbers.items }
     {
         index * self.width
     }
@@ -113,8 +118,10 @@ impl Dense {
         requires column { suc column < self.now.width }
         requires best { ForSome best (λ leader. leader < length self.now.basics.items) }
         requires within { index < length self.now.basics.items }
-        ensures fits { IsOk result ↔ IsTrue (list_all is_narrow (compared column (option_map (row_at self.now) best) (row_at self.now index))) }
-        ensures value { IfOk result (λ next. option_map (row_at self.now) next ≡ kept column (option_map (row_at self.now) best) (row_at self.now index)) }
+        ensures fits { IsOk result ↔ IsTrue
+            (list_all is_narrow (compared column (option_map (row_at self.now) best) (row_at self.now index))) }
+        ensures value { IfOk result (λ next. option_map (row_at self.now) next
+            ≡ kept column (option_map (row_at self.now) best) (row_at self.now index)) }
         ensures within { IfOk result (λ next. ForSome next (λ leader. leader < length self.now.basics.items)) }
     {
         let entry = self.entry(index, column);
@@ -138,7 +145,9 @@ impl Dense {
         requires column { suc column < self.now.width }
         requires best { best < length self.now.basics.items }
         requires within { index < length self.now.basics.items }
-        ensures { OkIff result (IsTrue (list_all is_narrow (compared_pair column (row_at self.now best) (row_at self.now index)))) (is_better column (row_at self.now best) (row_at self.now index)) }
+        ensures { OkIff result (IsTrue
+            (list_all is_narrow (compared_pair column (row_at self.now best) (row_at self.now index))))
+            (is_better column (row_at self.now best) (row_at self.now index)) }
     {
         let lower = self.basics[index] < self.basics[best];
         let entry = self.entry(index, column);
@@ -160,7 +169,8 @@ impl Dense {
         requires column { suc column < self.old.width }
         requires within { index < length self.old.basics.items }
         requires can { CanPivot (seen self.old) column (row_at self.old index) }
-        ensures fits { IsOk result ↔ IsTrue (list_all is_narrow (changing (seen self.old) column (row_at self.old index))) }
+        ensures fits { IsOk result ↔ IsTrue
+            (list_all is_narrow (changing (seen self.old) column (row_at self.old index))) }
         ensures value { OnOk result (seen self.new ≡ pivoted (seen self.old) column (row_at self.old index)) }
         ensures kept { OnOk result (IsKept self.new) }
         ensures width { OnOk result (self.new.width ≡ self.old.width) }
@@ -180,9 +190,14 @@ impl Dense {
         requires column { suc column < self.old.width }
         requires within { index < length self.old.basics.items }
         requires positive { pos 0 <ℤ entry (leaver_row self.old leaving) column }
-        requires some { (row_at self.old index).basic ≢ leaving → CanClear (entry (leaver_row self.old leaving) column) (entry (row_at self.old index) column) (row_at self.old index).numbers (leaver_row self.old leaving).numbers }
-        ensures fits { IsOk result ↔ IsTrue (list_all is_narrow (pivoting_row column (leaver_row self.old leaving) (row_at self.old index))) }
-        ensures row { OnOk result (seen self.new ≡ with_row (seen self.old) index (pivoted_row column (leaver_row self.old leaving) (row_at self.old index))) }
+        requires some { (row_at self.old index).basic ≢ leaving
+            → CanClear (entry (leaver_row self.old leaving) column) (entry (row_at self.old index) column)
+            (row_at self.old index).numbers (leaver_row self.old leaving).numbers }
+        ensures fits { IsOk result ↔ IsTrue
+            (list_all is_narrow (pivoting_row column (leaver_row self.old leaving) (row_at self.old index))) }
+        ensures row { OnOk result (seen self.new
+            ≡ with_row (seen self.old) index
+            (pivoted_row column (leaver_row self.old leaving) (row_at self.old index))) }
         ensures kept { OnOk result (IsKept self.new) }
         ensures shape { OnOk result (KeepsShape self.old self.new) }
     {
@@ -205,9 +220,17 @@ impl Dense {
         requires kept { IsKept self.old }
         requires column { suc column < self.old.width }
         requires positive { pos 0 <ℤ entry (leaver_row self.old 0) column }
-        requires some { CanClear (entry (leaver_row self.old 0) column) (reduced_cost (seen self.old) column) (seen self.old).objective self.old.leaver.items }
-        ensures fits { IsOk result ↔ IsTrue (list_all is_narrow (clearing (entry (leaver_row self.old 0) column) (reduced_cost (seen self.old) column) (seen self.old).objective self.old.leaver.items)) }
-        ensures objective { OnOk result (seen self.new ≡ record (seen self.old) { objective = cleared (entry (leaver_row self.old 0) column) (reduced_cost (seen self.old) column) (seen self.old).objective self.old.leaver.items }) }
+        requires some { CanClear (entry (leaver_row self.old 0) column) (reduced_cost (seen self.old) column)
+            (seen self.old).objective self.old.leaver.items }
+        ensures fits { IsOk result ↔ IsTrue
+            (list_all is_narrow
+            (clearing (entry (leaver_row self.old 0) column) (reduced_cost (seen self.old) column)
+            (seen self.old).objective self.old.leaver.items)) }
+        ensures objective { OnOk result (seen self.new
+            ≡ record (seen self.old) {
+              objective = cleared (entry (leaver_row self.old 0) column) (reduced_cost (seen self.old) column)
+                  (seen self.old).objective self.old.leaver.items;
+            }) }
         ensures kept { OnOk result (IsKept self.new) }
         ensures width { OnOk result (self.new.width ≡ self.old.width) }
     {
@@ -257,7 +280,9 @@ fn is_before(
     best_entry: i128,
     lower: bool,
 ) -> Option<bool>
-    ensures { SomeIff result (IsTrue (list_all is_narrow ((bound *ℤ best_entry) ∷ (best_bound *ℤ entry) ∷ []))) (int_lt (bound *ℤ best_entry) (best_bound *ℤ entry) || (int_eq (bound *ℤ best_entry) (best_bound *ℤ entry) && lower)) }
+    ensures { SomeIff result (IsTrue (list_all is_narrow ((bound *ℤ best_entry) ∷ (best_bound *ℤ entry) ∷ [])))
+        (int_lt (bound *ℤ best_entry) (best_bound *ℤ entry)
+        || (int_eq (bound *ℤ best_entry) (best_bound *ℤ entry) && lower)) }
 {
     let ratio = mul(bound, best_entry)?;
     let least = mul(best_bound, entry)?;

@@ -1,5 +1,6 @@
 //! Runs that were worked out apart from the definitions.
-ghost use Rattle.suit_simplex.specs.Examples.{TwoColumnsBegin, TwoColumnsOnce, TwoColumnsTwice, TwoColumnsShort, OneWideRow, TwoWideRows, NothingGained, TieBroken, Unlimited};
+ghost use Rattle.suit_simplex.specs.Examples.{TwoColumnsBegin, TwoColumnsOnce, TwoColumnsTwice, TwoColumnsShort};
+ghost use Rattle.suit_simplex.specs.Examples.{OneWideRow, TwoWideRows, NothingGained, TieBroken, Unlimited};
 
 /// The first tableau of two columns and two rows.
 pub fn two_columns_begin()

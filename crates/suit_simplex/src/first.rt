@@ -1,5 +1,6 @@
 //! The first tableau of a program.
-ghost use Rattle.std.specs.Prelude.{◌≡◌, ◌≢◌, ℕ, suc, ◌+◌, ◌*◌, ◌<◌, ◌^◌, ℤ, pos, neg_ℤ, List, [], ◌∷◌, ◌++◌, length, map, replicate, IfOk, IfSome, OnOk, All, ◌==◌, if◌then◌else◌};
+ghost use Rattle.std.specs.Prelude.{◌≡◌, ◌≢◌, ℕ, suc, ◌+◌, ◌*◌, ◌<◌, ◌^◌, ℤ, pos, neg_ℤ, List, [], ◌∷◌, ◌++◌, length};
+ghost use Rattle.std.specs.Prelude.{map, replicate, IfOk, IfSome, OnOk, All, ◌==◌, if◌then◌else◌};
 ghost use Rattle.suit_num.specs.Narrow.{IsNarrow};
 ghost use Rattle.suit_tableaus.specs.Programs.{IsWellFormed};
 ghost use Rattle.suit_tableaus.specs.Tableaus.{first_row, first_tableau, unit_numbers};
@@ -49,7 +50,8 @@ fn push_row(
 fn push_objective(numbers: &mut Vec<i128>, costs: &[i128], rows: usize) -> Result<(), AllocError>
     requires narrow { All IsNarrow numbers.old.items }
     requires costs { All IsNarrow costs.now }
-    ensures items { OnOk result (numbers.new.items ≡ numbers.old.items ++ pos 1 ∷ pos 0 ∷ map neg_ℤ costs.now ++ replicate rows (pos 0)) }
+    ensures items { OnOk result (numbers.new.items ≡ numbers.old.items ++ pos 1 ∷ pos 0 ∷ map neg_ℤ costs.now
+        ++ replicate rows (pos 0)) }
     ensures narrow { OnOk result (All IsNarrow numbers.new.items) }
 {
     numbers.push(1)?;

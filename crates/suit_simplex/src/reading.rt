@@ -1,5 +1,6 @@
 //! The optimum that a last tableau holds.
-ghost use Rattle.std.specs.Prelude.{◌≡◌, ℕ, suc, ◌+◌, ◌<◌, ◌==◌, ℤ, pos, ◌<ℤ◌, length, drop, find, position, IfOk, All, Some, slice_get};
+ghost use Rattle.std.specs.Prelude.{◌≡◌, ℕ, suc, ◌+◌, ◌<◌, ◌==◌, ℤ, pos, ◌<ℤ◌, length, drop, find, position, IfOk, All};
+ghost use Rattle.std.specs.Prelude.{Some, slice_get};
 ghost use Rattle.suit_num.specs.declared.fraction.Frac.{Frac};
 ghost use Rattle.suit_tableaus.specs.Tableaus.{TableauRow, entry, scale, value};
 ghost use Rattle.suit_tableaus.specs.Ends.{IsBasicValue, IsOptimumOf};
@@ -38,7 +39,8 @@ fn read_point(alloc: Global, dense: &Dense, columns: usize) -> Result<Vec<Frac>,
     requires columns { columns < dense.now.width }
     requires pivotal { All (λ row. pos 0 <ℤ entry row row.basic) (seen dense.now).rows }
     ensures columns { IfOk result (λ point. length point.items ≡ columns) }
-    ensures values { IfOk result (λ point. (column : ℕ) (part : Frac) → slice_get point.items column ≡ Some part → IsBasicValue column (find (λ row. row.basic == column) (seen dense.now).rows) part) }
+    ensures values { IfOk result (λ point. (column : ℕ) (part : Frac) → slice_get point.items column ≡ Some part
+        → IsBasicValue column (find (λ row. row.basic == column) (seen dense.now).rows) part) }
 {
     let mut point = Vec::with_capacity(alloc, columns)?;
     for column in 0..columns {

@@ -1,9 +1,11 @@
 //! What a pivot does to the numbers of one row.
-ghost use Rattle.std.specs.Prelude.{◌≡◌, ℕ, ◌+◌, ◌<◌, ◌↔◌, ℤ, pos, ◌*ℤ◌, ◌-ℤ◌, ◌<ℤ◌, ◌≤ℤ◌, int_div, unsigned_abs, IsTrue, IsOk, OnOk, length, map, All, SomeIff};
+ghost use Rattle.std.specs.Prelude.{◌≡◌, ℕ, ◌+◌, ◌<◌, ◌↔◌, ℤ, pos, ◌*ℤ◌, ◌-ℤ◌, ◌<ℤ◌, ◌≤ℤ◌, int_div, unsigned_abs};
+ghost use Rattle.std.specs.Prelude.{IsTrue, IsOk, OnOk, length, map, All, SomeIff};
 ghost use Rattle.std.specs.List.{list_all};
 ghost use Rattle.suit_num.specs.Divisors.{gcd_of};
 ghost use Rattle.suit_num.specs.Narrow.{IsNarrow};
-ghost use Rattle.suit_tableaus.specs.Pivots.{combined, combining, combining_at, content, is_narrow, primitive, share, cleared, clearing};
+ghost use Rattle.suit_tableaus.specs.Pivots.{combined, combining, combining_at, content, is_narrow, primitive, share};
+ghost use Rattle.suit_tableaus.specs.Pivots.{cleared, clearing};
 
 use suit_num::{gcd, mul, sub};
 
@@ -37,7 +39,8 @@ pub(crate) fn combine(
 }
 
 fn combine_numbers(number: i128, own: i128, leaver: i128, other: i128) -> Option<i128>
-    ensures { SomeIff result (IsTrue (list_all is_narrow (combining_at own number other leaver))) (own *ℤ number -ℤ other *ℤ leaver) }
+    ensures { SomeIff result (IsTrue (list_all is_narrow (combining_at own number other leaver)))
+        (own *ℤ number -ℤ other *ℤ leaver) }
 {
     sub(mul(own, number)?, mul(other, leaver)?)
 }

@@ -8,7 +8,8 @@ use Rattle.std.proofs.Math.IntN.{*ℤ_comm, zero-*ℤ}
 use Rattle.std.proofs.Math.Nat.{pos_of_dvd_of_pos}
 use Rattle.suit_num.specs.Divisors.{gcd_of}
 use Rattle.suit_num.proofs.DivisorLaws.{IsGcd-gcd_of}
-use Rattle.suit_num.proofs.IntegerLaws.{mul_assoc, mul_right_comm, mul-sub_left, mul-sub_right, div-mul, positive_from_mul, mul_positive, mul_not_negative, le_from_mul, same_from_mul}
+use Rattle.suit_num.proofs.IntegerLaws.{mul_assoc, mul_right_comm, mul-sub_left, mul-sub_right, div-mul}
+use Rattle.suit_num.proofs.IntegerLaws.{positive_from_mul, mul_positive, mul_not_negative, le_from_mul, same_from_mul}
 use Rattle.suit_tableaus.specs.Points.{number_at, dot}
 use Rattle.suit_tableaus.specs.Pivots.{combined, content, share, cleared}
 use Rattle.suit_tableaus.proofs.Contents.{length-combined, number_at-combined, primitive_is}
@@ -21,16 +22,19 @@ size_positive : (p : ℤ) → pos 0 <ℤ p → 0 < unsigned_abs p
 size_positive p h = omega (arith, ints)
 
 gcd_turned : (a b : ℕ) → gcd_of b a ≡ gcd_of a b
-gcd_turned a b = same_from_IsGcd a b (gcd_of b a) (gcd_of a b) (IsGcd-swap b a (gcd_of b a) (IsGcd-gcd_of b a)) (IsGcd-gcd_of a b)
+gcd_turned a b = same_from_IsGcd a b (gcd_of b a) (gcd_of a b) (IsGcd-swap b a (gcd_of b a) (IsGcd-gcd_of b a))
+    (IsGcd-gcd_of a b)
 
 module _ (p t : ℤ) (some : pos 0 <ℤ p) where
   pub gcd_positive : pos 0 <ℤ pos (gcd_of (unsigned_abs p) (unsigned_abs t))
   gcd_positive =
-      let more : 0 < gcd_of (unsigned_abs p) (unsigned_abs t) = pos_of_dvd_of_pos (IsGcd-gcd_of (unsigned_abs p) (unsigned_abs t)).0 (size_positive p some) in
+      let more : 0 < gcd_of (unsigned_abs p) (unsigned_abs t) =
+      pos_of_dvd_of_pos (IsGcd-gcd_of (unsigned_abs p) (unsigned_abs t)).0 (size_positive p some) in
       omega (arith, ints)
 
   pub share_whole : share p t *ℤ pos (gcd_of (unsigned_abs p) (unsigned_abs t)) ≡ p
-  share_whole = div-mul p (pos (gcd_of (unsigned_abs p) (unsigned_abs t))) (IsGcd-gcd_of (unsigned_abs p) (unsigned_abs t)).0
+  share_whole = div-mul p (pos (gcd_of (unsigned_abs p) (unsigned_abs t)))
+      (IsGcd-gcd_of (unsigned_abs p) (unsigned_abs t)).0
 
   pub share_other : share t p *ℤ pos (gcd_of (unsigned_abs p) (unsigned_abs t)) ≡ t
   share_other =
@@ -39,7 +43,8 @@ module _ (p t : ℤ) (some : pos 0 <ℤ p) where
 
   pub share_positive : pos 0 <ℤ share p t
   share_positive =
-      positive_from_mul (share p t) (pos (gcd_of (unsigned_abs p) (unsigned_abs t))) (subst (λ (z : ℤ). pos 0 <ℤ z) (sym share_whole) some) gcd_positive
+      positive_from_mul (share p t) (pos (gcd_of (unsigned_abs p) (unsigned_abs t)))
+      (subst (λ (z : ℤ). pos 0 <ℤ z) (sym share_whole) some) gcd_positive
 
   -- the shares clear the entry
   pub shares_balance : share p t *ℤ t ≡ share t p *ℤ p
@@ -53,7 +58,8 @@ module _ (p t : ℤ) (some : pos 0 <ℤ p) where
 
 -- ---- cleared numbers
 
--- numbers with the entry t are cleared by those of a row with the entry p: a positive multiple of them is a positive multiple of the old ones less a multiple of the row
+-- numbers with the entry t are cleared by those of a row with the entry p: a positive multiple of them is a positive
+-- multiple of the old ones less a multiple of the row
 pub record IsCleared (p t : ℤ) (before leaver after : List ℤ) : Type 0 where
   pub own : ℤ
   pub other : ℤ
@@ -62,7 +68,8 @@ pub record IsCleared (p t : ℤ) (before leaver after : List ℤ) : Type 0 where
   pub divisor_positive : pos 0 <ℤ divisor
   pub balance : own *ℤ t ≡ other *ℤ p
   pub width : length after ≡ length before
-  pub numbers : (index : ℕ) → number_at after index *ℤ divisor ≡ own *ℤ number_at before index -ℤ other *ℤ number_at leaver index
+  pub numbers : (index : ℕ) → number_at after index *ℤ divisor
+      ≡ own *ℤ number_at before index -ℤ other *ℤ number_at leaver index
   pub dots : (given : ℕ → ℤ) → dot after given *ℤ divisor ≡ own *ℤ dot before given -ℤ other *ℤ dot leaver given
 
 one_of : (a b : ℤ) → a *ℤ pos 1 ≡ pos 1 *ℤ a -ℤ pos 0 *ℤ b
@@ -89,7 +96,9 @@ kept_is p t before leaver h = record {
     zeros p = omega (arith, ints)
 
 -- a row that is cleared by shares
-pub cleared_is : (p t : ℤ) (before leaver : List ℤ) → pos 0 <ℤ p → length before ≡ length leaver → 0 < content (combined (share p t) before (share t p) leaver) → IsCleared p t before leaver (cleared p t before leaver)
+pub cleared_is : (p t : ℤ) (before leaver : List ℤ) → pos 0 <ℤ p → length before ≡ length leaver
+    → 0 < content (combined (share p t) before (share t p) leaver)
+    → IsCleared p t before leaver (cleared p t before leaver)
 cleared_is p t before leaver some same h =
     let mixed : List ℤ = combined (share p t) before (share t p) leaver in
     record {
@@ -99,8 +108,10 @@ cleared_is p t before leaver some same h =
       own_positive = share_positive p t some;
       divisor_positive = positive (content mixed) h;
       balance = shares_balance p t some;
-      width = length-map mixed (λ x. int_div x (pos (content mixed))) ∙ length-combined (share p t) before (share t p) leaver same;
-      numbers = λ index. primitive_is mixed index h ∙ number_at-combined (share p t) before (share t p) leaver index same;
+      width = length-map mixed (λ x. int_div x (pos (content mixed)))
+          ∙ length-combined (share p t) before (share t p) leaver same;
+      numbers = λ index. primitive_is mixed index h
+          ∙ number_at-combined (share p t) before (share t p) leaver index same;
       dots = λ given. dot-primitive mixed given h ∙ dot-combined (share p t) before (share t p) leaver given same;
     }
   where
@@ -113,7 +124,8 @@ zero_from_mul : (a d : ℤ) → pos 0 <ℤ d → a *ℤ d ≡ pos 0 → a ≡ po
 zero_from_mul a d some h = same_from_mul a (pos 0) d (h ∙ sym (zero-*ℤ d)) some
 
 mixed_zero : (own other a b : ℤ) → a ≡ pos 0 → b ≡ pos 0 → own *ℤ a -ℤ other *ℤ b ≡ pos 0
-mixed_zero own other a b h k = ap (λ (z : ℤ). own *ℤ z -ℤ other *ℤ b) h ∙ ap (λ (z : ℤ). own *ℤ pos 0 -ℤ other *ℤ z) k ∙ nothing_combined own other
+mixed_zero own other a b h k = ap (λ (z : ℤ). own *ℤ z -ℤ other *ℤ b) h ∙ ap (λ (z : ℤ). own *ℤ pos 0 -ℤ other *ℤ z) k
+    ∙ nothing_combined own other
 
 own_only : (own other a b : ℤ) → b ≡ pos 0 → own *ℤ a -ℤ other *ℤ b ≡ own *ℤ a
 own_only own other a b h = ap (λ (z : ℤ). own *ℤ a -ℤ other *ℤ z) h ∙ nothing_taken (own *ℤ a) other
@@ -128,18 +140,21 @@ bound_step : (own other t p b l : ℤ) → own *ℤ t ≡ other *ℤ p → (own 
 bound_step own other t p b l h =
     mul-sub_right (own *ℤ b) (other *ℤ l) p
     ∙ ap (λ (z : ℤ). z -ℤ other *ℤ l *ℤ p) (mul_assoc own b p)
-    ∙ ap (λ (z : ℤ). own *ℤ (b *ℤ p) -ℤ z) (mul_right_comm other l p ∙ ap (λ (z : ℤ). z *ℤ l) (sym h) ∙ mul_right_comm own t l ∙ mul_assoc own l t)
+    ∙ ap (λ (z : ℤ). own *ℤ (b *ℤ p) -ℤ z) (mul_right_comm other l p ∙ ap (λ (z : ℤ). z *ℤ l) (sym h)
+    ∙ mul_right_comm own t l ∙ mul_assoc own l t)
     ∙ sym (mul-sub_left own (b *ℤ p) (l *ℤ t))
 
 module _ (p t : ℤ) (before leaver after : List ℤ) (clear : IsCleared p t before leaver after) where
   -- an index that is 0 in both rows stays 0
-  pub cleared_zero : (index : ℕ) → number_at before index ≡ pos 0 → number_at leaver index ≡ pos 0 → number_at after index ≡ pos 0
+  pub cleared_zero : (index : ℕ) → number_at before index ≡ pos 0 → number_at leaver index ≡ pos 0
+      → number_at after index ≡ pos 0
   cleared_zero index h k =
       zero_from_mul (number_at after index) clear.divisor clear.divisor_positive
       (clear.numbers index ∙ mixed_zero clear.own clear.other (number_at before index) (number_at leaver index) h k)
 
   -- the cleared entry is 0
-  pub cleared_here : (index : ℕ) → number_at before index ≡ t → number_at leaver index ≡ p → number_at after index ≡ pos 0
+  pub cleared_here : (index : ℕ) → number_at before index ≡ t → number_at leaver index ≡ p
+      → number_at after index ≡ pos 0
   cleared_here index h k =
       zero_from_mul (number_at after index) clear.divisor clear.divisor_positive
       (clear.numbers index
@@ -147,11 +162,14 @@ module _ (p t : ℤ) (before leaver after : List ℤ) (clear : IsCleared p t bef
       (ap (λ (z : ℤ). clear.own *ℤ z) h ∙ clear.balance ∙ ap (λ (z : ℤ). clear.other *ℤ z) (sym k)))
 
   -- where the leaving row is 0, a positive number stays positive
-  pub cleared_positive : (index : ℕ) → pos 0 <ℤ number_at before index → number_at leaver index ≡ pos 0 → pos 0 <ℤ number_at after index
+  pub cleared_positive : (index : ℕ) → pos 0 <ℤ number_at before index → number_at leaver index ≡ pos 0
+      → pos 0 <ℤ number_at after index
   cleared_positive index h k =
-      let e = clear.numbers index ∙ own_only clear.own clear.other (number_at before index) (number_at leaver index) k in
+      let e = clear.numbers index ∙ own_only clear.own clear.other (number_at before index) (number_at leaver index)
+      k in
       positive_from_mul (number_at after index) clear.divisor
-      (subst (λ (z : ℤ). pos 0 <ℤ z) (sym e) (mul_positive clear.own (number_at before index) clear.own_positive h)) clear.divisor_positive
+      (subst (λ (z : ℤ). pos 0 <ℤ z) (sym e) (mul_positive clear.own (number_at before index) clear.own_positive h))
+      clear.divisor_positive
 
   -- a bound stays at least 0 where the leaving row's ratio is no more
   pub cleared_bound : pos 0 <ℤ p → (number_at leaver 0 *ℤ t) ≤ℤ (number_at before 0 *ℤ p) → pos 0 ≤ℤ number_at after 0
@@ -160,11 +178,17 @@ module _ (p t : ℤ) (before leaver after : List ℤ) (clear : IsCleared p t bef
       let l : ℤ = number_at leaver 0 in
       let mixed : ℤ = clear.own *ℤ b -ℤ clear.other *ℤ l in
       let gain : pos 0 ≤ℤ (clear.own *ℤ (b *ℤ p -ℤ l *ℤ t)) =
-      mul_not_negative clear.own (b *ℤ p -ℤ l *ℤ t) (positive_low clear.own clear.own_positive) (difference (b *ℤ p) (l *ℤ t) h) in
-      let scaled : pos 0 ≤ℤ (mixed *ℤ p) = subst (λ (z : ℤ). pos 0 ≤ℤ z) (sym (bound_step clear.own clear.other t p b l clear.balance)) gain in
-      let whole : pos 0 ≤ℤ mixed = le_from_mul (pos 0) mixed p (subst (λ (z : ℤ). z ≤ℤ (mixed *ℤ p)) (sym (zero-*ℤ p)) scaled) some in
-      let parts : pos 0 ≤ℤ (number_at after 0 *ℤ clear.divisor) = subst (λ (z : ℤ). pos 0 ≤ℤ z) (sym (clear.numbers 0)) whole in
-      le_from_mul (pos 0) (number_at after 0) clear.divisor (subst (λ (z : ℤ). z ≤ℤ (number_at after 0 *ℤ clear.divisor)) (sym (zero-*ℤ clear.divisor)) parts) clear.divisor_positive
+      mul_not_negative clear.own (b *ℤ p -ℤ l *ℤ t) (positive_low clear.own clear.own_positive)
+      (difference (b *ℤ p) (l *ℤ t) h) in
+      let scaled : pos 0 ≤ℤ (mixed *ℤ p) =
+      subst (λ (z : ℤ). pos 0 ≤ℤ z) (sym (bound_step clear.own clear.other t p b l clear.balance)) gain in
+      let whole : pos 0 ≤ℤ mixed = le_from_mul (pos 0) mixed p
+      (subst (λ (z : ℤ). z ≤ℤ (mixed *ℤ p)) (sym (zero-*ℤ p)) scaled) some in
+      let parts : pos 0 ≤ℤ (number_at after 0 *ℤ clear.divisor) =
+      subst (λ (z : ℤ). pos 0 ≤ℤ z) (sym (clear.numbers 0)) whole in
+      le_from_mul (pos 0) (number_at after 0) clear.divisor
+      (subst (λ (z : ℤ). z ≤ℤ (number_at after 0 *ℤ clear.divisor)) (sym (zero-*ℤ clear.divisor)) parts)
+      clear.divisor_positive
 
   -- what solves both rows solves the cleared one
   pub cleared_solved : (given : ℕ → ℤ) → dot before given ≡ pos 0 → dot leaver given ≡ pos 0 → dot after given ≡ pos 0

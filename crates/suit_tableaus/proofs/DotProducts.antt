@@ -1,5 +1,6 @@
 -- Sums of products of numbers with what is given to their indices (`dot-joined`).
-use Rattle.std.proofs.Common.{◌≡◌, ◌≢◌, ℕ, zero, suc, ◌<◌, ◌+◌, List, [], ◌∷◌, ◌++◌, length, map, take, drop, All, refl, sym, ap, ◌∙◌, arith}
+use Rattle.std.proofs.Common.{◌≡◌, ◌≢◌, ℕ, zero, suc, ◌<◌, ◌+◌, List, [], ◌∷◌, ◌++◌, length, map, take, drop, All, refl}
+use Rattle.std.proofs.Common.{sym, ap, ◌∙◌, arith}
 use Rattle.std.specs.Prelude.{ℤ, pos, ◌+ℤ◌, ◌-ℤ◌, ◌*ℤ◌, ◌≤ℤ◌, neg_ℤ, int_div, unsigned_abs, ◌==◌, if◌then◌else◌}
 use Rattle.std.specs.Int.{◌∣◌}
 use Rattle.std.proofs.lemmas.Int.{ints}
@@ -7,7 +8,8 @@ use Rattle.std.proofs.lemmas.List.Elements.{All-head, All-tail}
 use Rattle.std.proofs.Math.IntN.{*ℤ_comm, zero-*ℤ}
 use Rattle.std.proofs.Math.Nat.{suc-add}
 use Rattle.std.proofs.lemmas.Bool.{cond-true, cond-false, eq-eqb, ne_eqb}
-use Rattle.suit_num.proofs.IntegerLaws.{mul_assoc, mul_left_comm, mul_right_comm, mul-add_left, mul-add_right, mul-sub_right, mul-neg_left, mul-neg_right, div-mul, mul_not_negative, mul-one}
+use Rattle.suit_num.proofs.IntegerLaws.{mul_assoc, mul_left_comm, mul_right_comm, mul-add_left, mul-add_right}
+use Rattle.suit_num.proofs.IntegerLaws.{mul-sub_right, mul-neg_left, mul-neg_right, div-mul, mul_not_negative, mul-one}
 use Rattle.suit_tableaus.specs.Points.{number_at, dot}
 use Rattle.suit_tableaus.specs.Pivots.{combined, content, primitive}
 use Rattle.suit_tableaus.proofs.Contents.{content_divides}
@@ -15,7 +17,8 @@ use Rattle.suit_tableaus.proofs.Signs.{nothing_combined, times_zero, sum_not_neg
 
 -- ---- the numbers
 
-combined_step : (own x other y g d e : ℤ) → (own *ℤ x -ℤ other *ℤ y) *ℤ g +ℤ (own *ℤ d -ℤ other *ℤ e) ≡ own *ℤ (x *ℤ g +ℤ d) -ℤ other *ℤ (y *ℤ g +ℤ e)
+combined_step : (own x other y g d e : ℤ)
+    → (own *ℤ x -ℤ other *ℤ y) *ℤ g +ℤ (own *ℤ d -ℤ other *ℤ e) ≡ own *ℤ (x *ℤ g +ℤ d) -ℤ other *ℤ (y *ℤ g +ℤ e)
 combined_step own x other y g d e =
     let split = mul-sub_right (own *ℤ x) (other *ℤ y) g in
     let first = mul_assoc own x g in
@@ -25,13 +28,15 @@ combined_step own x other y g d e =
     omega (arith, ints)
 
 -- the sum of a combination is the combination of the sums
-pub dot-combined : (own : ℤ) (xs : List ℤ) (other : ℤ) (ys : List ℤ) (given : ℕ → ℤ) → length xs ≡ length ys → dot (combined own xs other ys) given ≡ own *ℤ dot xs given -ℤ other *ℤ dot ys given
+pub dot-combined : (own : ℤ) (xs : List ℤ) (other : ℤ) (ys : List ℤ) (given : ℕ → ℤ) → length xs ≡ length ys
+    → dot (combined own xs other ys) given ≡ own *ℤ dot xs given -ℤ other *ℤ dot ys given
 unfolding dot combined
 dot-combined own [] other [] given h = sym (nothing_combined own other)
 dot-combined own [] other (y ∷ ys) given h = absurd (omega arith)
 dot-combined own (x ∷ xs) other [] given h = absurd (omega arith)
 dot-combined own (x ∷ xs) other (y ∷ ys) given h =
-    ap (λ (z : ℤ). (own *ℤ x -ℤ other *ℤ y) *ℤ given 0 +ℤ z) (dot-combined own xs other ys (λ index. given (suc index)) (omega arith))
+    ap (λ (z : ℤ). (own *ℤ x -ℤ other *ℤ y) *ℤ given 0 +ℤ z)
+    (dot-combined own xs other ys (λ index. given (suc index)) (omega arith))
     ∙ combined_step own x other y (given 0) (dot xs (λ index. given (suc index))) (dot ys (λ index. given (suc index)))
 
 divided_step : (x q g d t e : ℤ) → q *ℤ d ≡ x → t *ℤ d ≡ e → (q *ℤ g +ℤ t) *ℤ d ≡ x *ℤ g +ℤ e
@@ -40,7 +45,8 @@ divided_step x q g d t e h k =
     ∙ ap (λ (z : ℤ). z +ℤ t *ℤ d) (mul_right_comm q g d ∙ ap (λ (z : ℤ). z *ℤ g) h)
     ∙ ap (λ (z : ℤ). x *ℤ g +ℤ z) k
 
-dot-divided : (numbers : List ℤ) (d : ℕ) (given : ℕ → ℤ) → All (λ x. d ∣ unsigned_abs x) numbers → dot (map (λ x. int_div x (pos d)) numbers) given *ℤ pos d ≡ dot numbers given
+dot-divided : (numbers : List ℤ) (d : ℕ) (given : ℕ → ℤ) → All (λ x. d ∣ unsigned_abs x) numbers
+    → dot (map (λ x. int_div x (pos d)) numbers) given *ℤ pos d ≡ dot numbers given
 unfolding dot
 dot-divided [] d given h = zero-*ℤ (pos d)
 dot-divided (x ∷ xs) d given h =
@@ -49,7 +55,8 @@ dot-divided (x ∷ xs) d given h =
     (dot-divided xs d (λ index. given (suc index)) (All-tail P x xs h))
 
 -- a primitive list gives the sum divided by the content
-pub dot-primitive : (numbers : List ℤ) (given : ℕ → ℤ) → 0 < content numbers → dot (primitive numbers) given *ℤ pos (content numbers) ≡ dot numbers given
+pub dot-primitive : (numbers : List ℤ) (given : ℕ → ℤ) → 0 < content numbers
+    → dot (primitive numbers) given *ℤ pos (content numbers) ≡ dot numbers given
 dot-primitive numbers given h = dot-divided numbers (content numbers) given (content_divides numbers)
 
 -- ---- the first index and the others
@@ -58,7 +65,8 @@ nothing_first : (g : ℤ) → pos 0 ≡ pos 0 *ℤ g +ℤ pos 0
 nothing_first g = omega (arith, ints)
 
 -- a sum is the part of index 0 and the sum of the others
-pub dot_first : (xs : List ℤ) (given : ℕ → ℤ) → dot xs given ≡ number_at xs 0 *ℤ given 0 +ℤ dot (drop 1 xs) (λ index. given (suc index))
+pub dot_first : (xs : List ℤ) (given : ℕ → ℤ)
+    → dot xs given ≡ number_at xs 0 *ℤ given 0 +ℤ dot (drop 1 xs) (λ index. given (suc index))
 unfolding dot
 dot_first [] given = nothing_first (given 0)
 dot_first (x ∷ xs) given = refl
@@ -92,19 +100,23 @@ dot-scaled (x ∷ xs) k f =
     ∙ scaled_step x k (f 0) (dot xs (λ index. f (suc index)))
 
 -- only the indices of the list count
-pub dot-agree : (xs : List ℤ) (f g : ℕ → ℤ) → ((index : ℕ) → index < length xs → f index ≡ g index) → dot xs f ≡ dot xs g
+pub dot-agree : (xs : List ℤ) (f g : ℕ → ℤ) → ((index : ℕ) → index < length xs → f index ≡ g index)
+    → dot xs f ≡ dot xs g
 unfolding dot
 dot-agree [] f g h = refl
 dot-agree (x ∷ xs) f g h =
     ap (λ (z : ℤ). x *ℤ z +ℤ dot xs (λ index. f (suc index))) (h 0 (omega arith))
-    ∙ ap (λ (z : ℤ). x *ℤ g 0 +ℤ z) (dot-agree xs (λ index. f (suc index)) (λ index. g (suc index)) (λ index less. h (suc index) (omega arith)))
+    ∙ ap (λ (z : ℤ). x *ℤ g 0 +ℤ z)
+    (dot-agree xs (λ index. f (suc index)) (λ index. g (suc index)) (λ index less. h (suc index) (omega arith)))
 
 -- two points over two denominators are one where they agree at each index
-pub dot-common : (xs : List ℤ) (f g : ℕ → ℤ) (d e : ℤ) → ((index : ℕ) → index < length xs → f index *ℤ d ≡ g index *ℤ e) → dot xs f *ℤ d ≡ dot xs g *ℤ e
+pub dot-common : (xs : List ℤ) (f g : ℕ → ℤ) (d e : ℤ) → ((index : ℕ) → index < length xs → f index *ℤ d ≡ g index *ℤ e)
+    → dot xs f *ℤ d ≡ dot xs g *ℤ e
 dot-common xs f g d e h =
     *ℤ_comm (dot xs f) d
     ∙ sym (dot-scaled xs d f)
-    ∙ dot-agree xs (λ index. d *ℤ f index) (λ index. e *ℤ g index) (λ index less. *ℤ_comm d (f index) ∙ h index less ∙ *ℤ_comm (g index) e)
+    ∙ dot-agree xs (λ index. d *ℤ f index) (λ index. e *ℤ g index) (λ index less. *ℤ_comm d (f index) ∙ h index less
+    ∙ *ℤ_comm (g index) e)
     ∙ dot-scaled xs e g
     ∙ *ℤ_comm e (dot xs g)
 
@@ -123,14 +135,17 @@ left_only : (a b : ℤ) → b ≡ pos 0 → a +ℤ b ≡ a
 left_only a b h = omega (arith, ints)
 
 -- products that are 0 but for one index add up to the one there
-pub dot_one : (xs : List ℤ) (f : ℕ → ℤ) (index : ℕ) → ((other : ℕ) → other ≢ index → number_at xs other *ℤ f other ≡ pos 0) → dot xs f ≡ number_at xs index *ℤ f index
+pub dot_one : (xs : List ℤ) (f : ℕ → ℤ) (index : ℕ)
+    → ((other : ℕ) → other ≢ index → number_at xs other *ℤ f other ≡ pos 0) → dot xs f ≡ number_at xs index *ℤ f index
 unfolding dot
 dot_one [] f index h = sym (zero-*ℤ (f index))
 dot_one (x ∷ xs) f zero h =
-    left_only (x *ℤ f 0) (dot xs (λ index. f (suc index))) (dot_zero xs (λ index. f (suc index)) (λ index. h (suc index) (omega arith)))
+    left_only (x *ℤ f 0) (dot xs (λ index. f (suc index)))
+    (dot_zero xs (λ index. f (suc index)) (λ index. h (suc index) (omega arith)))
 dot_one (x ∷ xs) f (suc index) h =
     right_only (x *ℤ f 0) _ _ (h 0 (omega arith))
-    (dot_one xs (λ other. f (suc other)) index (λ other differs. h (suc other) (λ (e : suc other ≡ suc index). differs (omega arith))))
+    (dot_one xs (λ other. f (suc other)) index
+    (λ other differs. h (suc other) (λ (e : suc other ≡ suc index). differs (omega arith))))
 
 -- 1 at an index and 0 elsewhere
 pub unit_at : ℕ → ℕ → ℤ
@@ -140,8 +155,11 @@ unit_at column index = if index == column then pos 1 else pos 0
 pub dot_unit_at : (xs : List ℤ) (column : ℕ) → dot xs (unit_at column) ≡ number_at xs column
 unfolding unit_at
 dot_unit_at xs column =
-    dot_one xs (unit_at column) column (λ other differs. times_zero (number_at xs other) _ (cond-false (other == column) (pos 1) (pos 0) (ne_eqb other column differs)))
-    ∙ ap (λ (z : ℤ). number_at xs column *ℤ z) (cond-true (column == column) (pos 1) (pos 0) (eq-eqb column column refl))
+    dot_one xs (unit_at column) column
+    (λ other differs. times_zero (number_at xs other) _
+    (cond-false (other == column) (pos 1) (pos 0) (ne_eqb other column differs)))
+    ∙ ap (λ (z : ℤ). number_at xs column *ℤ z)
+    (cond-true (column == column) (pos 1) (pos 0) (eq-eqb column column refl))
     ∙ mul-one (number_at xs column)
 
 -- ---- two parts of a list
@@ -153,11 +171,13 @@ joined (suc count) front back zero = front zero
 joined (suc count) front back (suc index) = joined count (λ other. front (suc other)) back index
 
 -- before the count the front is given
-pub joined_front : (count : ℕ) (front back : ℕ → ℤ) (index : ℕ) → index < count → joined count front back index ≡ front index
+pub joined_front : (count : ℕ) (front back : ℕ → ℤ) (index : ℕ) → index < count
+    → joined count front back index ≡ front index
 unfolding joined
 joined_front zero front back index h = absurd (omega arith)
 joined_front (suc count) front back zero h = refl
-joined_front (suc count) front back (suc index) h = joined_front count (λ other. front (suc other)) back index (omega arith)
+joined_front (suc count) front back (suc index) h =
+    joined_front count (λ other. front (suc other)) back index (omega arith)
 
 -- from the count on the back is given
 pub joined_back : (count : ℕ) (front back : ℕ → ℤ) (index : ℕ) → joined count front back (count + index) ≡ back index
@@ -173,7 +193,8 @@ regroup : (a b c : ℤ) → a +ℤ (b +ℤ c) ≡ (a +ℤ b) +ℤ c
 regroup a b c = omega (arith, ints)
 
 -- the sum of two parts, each with what is given to it
-pub dot-joined : (xs : List ℤ) (count : ℕ) (front back : ℕ → ℤ) → dot xs (joined count front back) ≡ dot (take count xs) front +ℤ dot (drop count xs) back
+pub dot-joined : (xs : List ℤ) (count : ℕ) (front back : ℕ → ℤ)
+    → dot xs (joined count front back) ≡ dot (take count xs) front +ℤ dot (drop count xs) back
 unfolding dot joined
 dot-joined xs zero front back = nothing_left (dot xs back)
 dot-joined [] (suc count) front back = refl
@@ -184,12 +205,14 @@ dot-joined (x ∷ xs) (suc count) front back =
 -- the sum of a list that is put after another
 pub dot-append : (xs ys : List ℤ) (f : ℕ → ℤ) → dot (xs ++ ys) f ≡ dot xs f +ℤ dot ys (λ index. f (length xs + index))
 unfolding dot
-dot-append [] ys f = dot-agree ys f (λ index. f (0 + index)) (λ index less. ap f (omega arith)) ∙ nothing_left (dot ys (λ index. f (0 + index)))
+dot-append [] ys f = dot-agree ys f (λ index. f (0 + index)) (λ index less. ap f (omega arith))
+    ∙ nothing_left (dot ys (λ index. f (0 + index)))
 dot-append (x ∷ xs) ys f =
     ap (λ (z : ℤ). x *ℤ f 0 +ℤ z)
     (dot-append xs ys (λ index. f (suc index))
     ∙ ap (λ (z : ℤ). dot xs (λ index. f (suc index)) +ℤ z)
-    (dot-agree ys (λ index. f (suc (length xs + index))) (λ index. f (suc (length xs) + index)) (λ index less. ap f (sym (suc-add (length xs) index)))))
+    (dot-agree ys (λ index. f (suc (length xs + index))) (λ index. f (suc (length xs) + index))
+    (λ index less. ap f (sym (suc-add (length xs) index)))))
     ∙ regroup (x *ℤ f 0) (dot xs (λ index. f (suc index))) (dot ys (λ index. f (suc (length xs) + index)))
 
 -- ---- signs
@@ -217,10 +240,12 @@ dot-neg_numbers (x ∷ xs) f =
     ∙ neg_numbers_step x (f 0) (dot xs (λ index. f (suc index)))
 
 -- products of numbers that are at least 0 add up to at least 0
-pub dot_not_negative : (xs : List ℤ) (f : ℕ → ℤ) → All (λ x. pos 0 ≤ℤ x) xs → ((index : ℕ) → index < length xs → pos 0 ≤ℤ f index) → pos 0 ≤ℤ dot xs f
+pub dot_not_negative : (xs : List ℤ) (f : ℕ → ℤ) → All (λ x. pos 0 ≤ℤ x) xs
+    → ((index : ℕ) → index < length xs → pos 0 ≤ℤ f index) → pos 0 ≤ℤ dot xs f
 unfolding dot
 dot_not_negative [] f h k = omega (arith, ints)
 dot_not_negative (x ∷ xs) f h k =
     let P : ℤ → Type 0 = λ z. pos 0 ≤ℤ z in
-    sum_not_negative (x *ℤ f 0) (dot xs (λ index. f (suc index))) (mul_not_negative x (f 0) (All-head P x xs h) (k 0 (omega arith)))
+    sum_not_negative (x *ℤ f 0) (dot xs (λ index. f (suc index)))
+    (mul_not_negative x (f 0) (All-head P x xs h) (k 0 (omega arith)))
     (dot_not_negative xs (λ index. f (suc index)) (All-tail P x xs h) (λ index less. k (suc index) (omega arith)))

@@ -1,5 +1,6 @@
 -- The elements of lists, and of lists that are mapped (`contains_cases`).
-use Rattle.std.proofs.Common.{◌≡◌, ◌⊎◌, inl, inr, ℕ, zero, suc, List, [], ◌∷◌, map, All, Contains, Some, refl, ap, ◌∙◌, arith}
+use Rattle.std.proofs.Common.{◌≡◌, ◌⊎◌, inl, inr, ℕ, zero, suc, List, [], ◌∷◌, map, All, Contains, Some, refl, ap, ◌∙◌}
+use Rattle.std.proofs.Common.{arith}
 use Rattle.std.specs.Prelude.{slice_get}
 use Rattle.std.proofs.lemmas.List.{get_or-map, length-map}
 use Rattle.std.proofs.lemmas.List.Elements.{Contains-get_or}
@@ -19,7 +20,8 @@ pub all_from_contains : {X : Type 0} (P : X → Type 0) (xs : List X) → ((x : 
 all_from_contains P xs h = λ index other less. h _ (Contains-get_or xs index other less)
 
 -- an element of a mapped list comes from one of the list
-pub contains_map : {X Y : Type 0} (f : X → Y) (xs : List X) (y : Y) → Contains (map f xs) y → (x : X) × Contains xs x × (f x ≡ y)
+pub contains_map : {X Y : Type 0} (f : X → Y) (xs : List X) (y : Y) → Contains (map f xs) y → (x : X) × Contains xs x
+    × (f x ≡ y)
 contains_map f [] y (index, less, is) = absurd (omega arith)
 contains_map f (x ∷ xs) y h =
     elim (contains_cases (f x) (map f xs) y h) [
@@ -28,10 +30,16 @@ contains_map f (x ∷ xs) y h =
     ]
 
 pub contains_mapped : {X Y : Type 0} (f : X → Y) (xs : List X) (x : X) → Contains xs x → Contains (map f xs) (f x)
-contains_mapped f xs x (index, less, is) = (index, omega (arith, length-map xs f), get_or-map f xs index x (f x) less ∙ ap f is)
+contains_mapped f xs x (index, less, is) = (
+  index,
+  omega (arith, length-map xs f),
+  get_or-map f xs index x (f x) less
+      ∙ ap f is,
+)
 
 -- the same at an index
-pub mapped_at : {X Y : Type 0} (f : X → Y) (xs : List X) (index : ℕ) (y : Y) → slice_get (map f xs) index ≡ Some y → (x : X) × (slice_get xs index ≡ Some x) × (f x ≡ y)
+pub mapped_at : {X Y : Type 0} (f : X → Y) (xs : List X) (index : ℕ) (y : Y) → slice_get (map f xs) index ≡ Some y
+    → (x : X) × (slice_get xs index ≡ Some x) × (f x ≡ y)
 mapped_at f [] index y h = cc
 mapped_at f (x ∷ xs) zero y h = (x, refl, cc)
 mapped_at f (x ∷ xs) (suc index) y h = mapped_at f xs index y h

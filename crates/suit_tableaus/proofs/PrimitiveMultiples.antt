@@ -1,5 +1,6 @@
 -- A multiple of a row with no common divisor is divided back to the row (`primitive_is_row`).
-use Rattle.std.proofs.Common.{◌≡◌, ℕ, zero, suc, ◌*◌, ◌<◌, ◌≤◌, List, [], ◌∷◌, length, map, refl, sym, ap, ap₂, ◌∙◌, arith}
+use Rattle.std.proofs.Common.{◌≡◌, ℕ, zero, suc, ◌*◌, ◌<◌, ◌≤◌, List, [], ◌∷◌, length, map, refl, sym, ap, ap₂, ◌∙◌}
+use Rattle.std.proofs.Common.{arith}
 use Rattle.std.specs.Prelude.{ℤ, pos, ◌*ℤ◌, ◌<ℤ◌, int_div, unsigned_abs}
 use Rattle.std.proofs.lemmas.Int.{ints, unsigned_abs-mul}
 use Rattle.std.proofs.lemmas.List.{length-map}
@@ -16,7 +17,8 @@ use Rattle.suit_tableaus.proofs.Contents.{primitive_is}
 
 -- ---- lists by their indices
 
-pub same_by_indices : (xs ys : List ℤ) → length xs ≡ length ys → ((index : ℕ) → number_at xs index ≡ number_at ys index) → xs ≡ ys
+pub same_by_indices : (xs ys : List ℤ) → length xs ≡ length ys → ((index : ℕ) → number_at xs index ≡ number_at ys index)
+    → xs ≡ ys
 same_by_indices [] [] e h = refl
 same_by_indices [] (y ∷ ys) e h = absurd (omega (arith, e))
 same_by_indices (x ∷ xs) [] e h = absurd (omega (arith, e))
@@ -30,7 +32,8 @@ same_by_indices (x ∷ xs) (y ∷ ys) e h =
 pub scaled : ℤ → List ℤ → List ℤ
 scaled factor numbers = map (λ x. factor *ℤ x) numbers
 
-pub number_at-scaled : (factor : ℤ) (numbers : List ℤ) (index : ℕ) → number_at (scaled factor numbers) index ≡ factor *ℤ number_at numbers index
+pub number_at-scaled : (factor : ℤ) (numbers : List ℤ) (index : ℕ)
+    → number_at (scaled factor numbers) index ≡ factor *ℤ number_at numbers index
 unfolding scaled
 number_at-scaled factor [] index = sym (*ℤ_comm factor (pos 0) ∙ zero-*ℤ factor)
 number_at-scaled factor (x ∷ xs) zero = refl
@@ -41,16 +44,19 @@ unfolding scaled
 length-scaled factor numbers = length-map numbers (λ x. factor *ℤ x)
 
 gcd_scaled : (a b k : ℕ) → gcd_of (a * k) (b * k) ≡ gcd_of a b * k
-gcd_scaled a b k = same_from_IsGcd (a * k) (b * k) (gcd_of (a * k) (b * k)) (gcd_of a b * k) (IsGcd-gcd_of (a * k) (b * k)) (IsGcd-scaled a b (gcd_of a b) k (IsGcd-gcd_of a b))
+gcd_scaled a b k = same_from_IsGcd (a * k) (b * k) (gcd_of (a * k) (b * k)) (gcd_of a b * k)
+    (IsGcd-gcd_of (a * k) (b * k)) (IsGcd-scaled a b (gcd_of a b) k (IsGcd-gcd_of a b))
 
 nothing : (n : ℕ) → 0 ≡ 0 * n
 nothing n = omega arith
 
-pub content-scaled : (factor : ℤ) (numbers : List ℤ) → content (scaled factor numbers) ≡ content numbers * unsigned_abs factor
+pub content-scaled : (factor : ℤ) (numbers : List ℤ)
+    → content (scaled factor numbers) ≡ content numbers * unsigned_abs factor
 unfolding scaled content
 content-scaled factor [] = nothing (unsigned_abs factor)
 content-scaled factor (x ∷ xs) =
-    ap₂ (λ (a b : ℕ). gcd_of a b) (unsigned_abs-mul factor x ∙ mul_comm (unsigned_abs factor) (unsigned_abs x)) (content-scaled factor xs)
+    ap₂ (λ (a b : ℕ). gcd_of a b) (unsigned_abs-mul factor x
+    ∙ mul_comm (unsigned_abs factor) (unsigned_abs x)) (content-scaled factor xs)
     ∙ gcd_scaled (unsigned_abs x) (content xs) (unsigned_abs factor)
 
 -- a positive number is its own size
@@ -60,7 +66,8 @@ size_is z h = omega (arith, ints)
 pos-mul : (a b : ℕ) → pos (a * b) ≡ pos a *ℤ pos b
 pos-mul a b = refl
 
-same_products : (c d : ℕ) (f g : ℤ) → pos 0 <ℤ f → pos 0 <ℤ g → c * unsigned_abs f ≡ d * unsigned_abs g → pos c *ℤ f ≡ pos d *ℤ g
+same_products : (c d : ℕ) (f g : ℤ) → pos 0 <ℤ f → pos 0 <ℤ g → c * unsigned_abs f ≡ d * unsigned_abs g
+    → pos c *ℤ f ≡ pos d *ℤ g
 same_products c d f g some more e =
     ap (λ (z : ℤ). pos c *ℤ z) (sym (size_is f some))
     ∙ sym (pos-mul c (unsigned_abs f))
@@ -77,7 +84,8 @@ module _ (xs ys : List ℤ) (is : AreMultiples (number_at xs) (number_at ys)) (s
   scaled_same : scaled is.left xs ≡ scaled is.right ys
   unfolding scaled
   scaled_same =
-      same_by_indices (scaled is.left xs) (scaled is.right ys) (length-map xs (λ x. is.left *ℤ x) ∙ same ∙ sym (length-map ys (λ y. is.right *ℤ y)))
+      same_by_indices (scaled is.left xs) (scaled is.right ys) (length-map xs (λ x. is.left *ℤ x) ∙ same
+      ∙ sym (length-map ys (λ y. is.right *ℤ y)))
       (λ index. number_at-scaled is.left xs index ∙ is.numbers index ∙ sym (number_at-scaled is.right ys index))
 
   -- their contents are in the same proportion
@@ -91,7 +99,8 @@ module _ (xs ys : List ℤ) (is : AreMultiples (number_at xs) (number_at ys)) (s
     where
       by_size : (n : ℕ) → pos n *ℤ is.left ≡ pos (content ys) *ℤ is.right → 0 < n
       by_size zero e =
-          let none : pos (content ys) ≡ pos 0 = same_from_mul (pos (content ys)) (pos 0) is.right (sym e ∙ zero-*ℤ is.left ∙ sym (zero-*ℤ is.right)) is.right_positive in
+          let none : pos (content ys) ≡ pos 0 = same_from_mul (pos (content ys)) (pos 0) is.right (sym e
+          ∙ zero-*ℤ is.left ∙ sym (zero-*ℤ is.right)) is.right_positive in
           let more = positive_size (content ys) some in
           absurd (omega (arith, ints))
       by_size (suc n) e = omega arith
@@ -100,10 +109,12 @@ module _ (xs ys : List ℤ) (is : AreMultiples (number_at xs) (number_at ys)) (s
   pub primitive_of_multiples : 0 < content ys → primitive xs ≡ primitive ys
   primitive_of_multiples some =
       let more : 0 < content xs = content_of_multiple some in
-      same_by_indices (primitive xs) (primitive ys) (length-map xs (λ x. int_div x (pos (content xs))) ∙ same ∙ sym (length-map ys (λ y. int_div y (pos (content ys)))))
+      same_by_indices (primitive xs) (primitive ys) (length-map xs (λ x. int_div x (pos (content xs))) ∙ same
+      ∙ sym (length-map ys (λ y. int_div y (pos (content ys)))))
       (λ index.
       same_from_mul (number_at (primitive xs) index) (number_at (primitive ys) index) (pos (content xs))
-      (same_from_mul (number_at (primitive xs) index *ℤ pos (content xs)) (number_at (primitive ys) index *ℤ pos (content xs)) is.left
+      (same_from_mul (number_at (primitive xs) index *ℤ pos (content xs))
+      (number_at (primitive ys) index *ℤ pos (content xs)) is.left
       (ap (λ (z : ℤ). z *ℤ is.left) (primitive_is xs index more)
       ∙ *ℤ_comm (number_at xs index) is.left
       ∙ is.numbers index
@@ -111,41 +122,53 @@ module _ (xs ys : List ℤ) (is : AreMultiples (number_at xs) (number_at ys)) (s
       ∙ ap (λ (z : ℤ). z *ℤ is.right) (sym (primitive_is ys index some))
       ∙ mul_assoc (number_at (primitive ys) index) (pos (content ys)) is.right
       ∙ ap (λ (z : ℤ). number_at (primitive ys) index *ℤ z) (sym contents_same)
-      ∙ sym (mul_assoc (number_at (primitive ys) index) (pos (content xs)) is.left)) is.left_positive) (positive_size (content xs) more))
+      ∙ sym (mul_assoc (number_at (primitive ys) index) (pos (content xs)) is.left)) is.left_positive)
+      (positive_size (content xs) more))
 
 -- numbers with no common divisor are not changed by the division
 pub primitive_kept : (ys : List ℤ) → content ys ≡ 1 → primitive ys ≡ ys
 primitive_kept ys one =
     let some : 0 < content ys = omega (arith, one) in
     same_by_indices (primitive ys) ys (length-map ys (λ y. int_div y (pos (content ys))))
-    (λ index. sym (by_one (number_at (primitive ys) index)) ∙ ap (λ (n : ℕ). number_at (primitive ys) index *ℤ pos n) (sym one) ∙ primitive_is ys index some)
+    (λ index. sym (by_one (number_at (primitive ys) index))
+    ∙ ap (λ (n : ℕ). number_at (primitive ys) index *ℤ pos n) (sym one) ∙ primitive_is ys index some)
   where
     by_one : (z : ℤ) → z *ℤ pos 1 ≡ z
     by_one z = omega (arith, ints)
 
 -- a multiple of a row with no common divisor is divided back to the row
-pub primitive_is_row : (xs row : List ℤ) → AreMultiples (number_at xs) (number_at row) → length xs ≡ length row → content row ≡ 1 → primitive xs ≡ row
-primitive_is_row xs row is same one = primitive_of_multiples xs row is same (omega (arith, one)) ∙ primitive_kept row one
+pub primitive_is_row : (xs row : List ℤ) → AreMultiples (number_at xs) (number_at row) → length xs ≡ length row
+    → content row ≡ 1 → primitive xs ≡ row
+primitive_is_row xs row is same one = primitive_of_multiples xs row is same (omega (arith, one))
+    ∙ primitive_kept row one
 
 -- and it is the row times its content
-pub multiple_is : (xs row : List ℤ) (index : ℕ) → AreMultiples (number_at xs) (number_at row) → length xs ≡ length row → content row ≡ 1 → number_at row index *ℤ pos (content xs) ≡ number_at xs index
+pub multiple_is : (xs row : List ℤ) (index : ℕ) → AreMultiples (number_at xs) (number_at row) → length xs ≡ length row
+    → content row ≡ 1 → number_at row index *ℤ pos (content xs) ≡ number_at xs index
 multiple_is xs row index is same one =
     let some : 0 < content xs = content_of_multiple xs row is same (omega (arith, one)) in
-    ap (λ (zs : List ℤ). number_at zs index *ℤ pos (content xs)) (sym (primitive_is_row xs row is same one)) ∙ primitive_is xs index some
+    ap (λ (zs : List ℤ). number_at zs index *ℤ pos (content xs)) (sym (primitive_is_row xs row is same one))
+    ∙ primitive_is xs index some
 
 -- numbers that are divided have no common divisor left
 pub content_primitive : (xs : List ℤ) → 0 < content xs → content (primitive xs) ≡ 1
 content_primitive xs some =
     let is : scaled (pos (content xs)) (primitive xs) ≡ xs =
-    same_by_indices (scaled (pos (content xs)) (primitive xs)) xs (length-scaled (pos (content xs)) (primitive xs) ∙ length-map xs (λ x. int_div x (pos (content xs))))
-    (λ index. number_at-scaled (pos (content xs)) (primitive xs) index ∙ *ℤ_comm (pos (content xs)) (number_at (primitive xs) index) ∙ primitive_is xs index some) in
-    eq_of_mul-eq-mul_right (content xs) some (content (primitive xs)) 1 (sym (content-scaled (pos (content xs)) (primitive xs)) ∙ ap content is ∙ sym (one-mul (content xs)))
+    same_by_indices (scaled (pos (content xs)) (primitive xs)) xs (length-scaled (pos (content xs)) (primitive xs)
+    ∙ length-map xs (λ x. int_div x (pos (content xs))))
+    (λ index. number_at-scaled (pos (content xs)) (primitive xs) index
+    ∙ *ℤ_comm (pos (content xs)) (number_at (primitive xs) index) ∙ primitive_is xs index some) in
+    eq_of_mul-eq-mul_right (content xs) some (content (primitive xs)) 1
+    (sym (content-scaled (pos (content xs)) (primitive xs)) ∙ ap content is ∙ sym (one-mul (content xs)))
 
 -- a size of a row is at most that of its multiple
-pub small_row : (xs row : List ℤ) (index : ℕ) → AreMultiples (number_at xs) (number_at row) → length xs ≡ length row → content row ≡ 1 → unsigned_abs (number_at row index) ≤ unsigned_abs (number_at xs index)
+pub small_row : (xs row : List ℤ) (index : ℕ) → AreMultiples (number_at xs) (number_at row) → length xs ≡ length row
+    → content row ≡ 1 → unsigned_abs (number_at row index) ≤ unsigned_abs (number_at xs index)
 small_row xs row index is same one =
-    by_product (unsigned_abs (number_at row index)) (content xs) (unsigned_abs (number_at xs index)) (content_of_multiple xs row is same (omega (arith, one)))
-    (sym (unsigned_abs-mul (number_at row index) (pos (content xs))) ∙ ap unsigned_abs (multiple_is xs row index is same one))
+    by_product (unsigned_abs (number_at row index)) (content xs) (unsigned_abs (number_at xs index))
+    (content_of_multiple xs row is same (omega (arith, one)))
+    (sym (unsigned_abs-mul (number_at row index) (pos (content xs)))
+    ∙ ap unsigned_abs (multiple_is xs row index is same one))
   where
     by_product : (m n k : ℕ) → 0 < n → m * n ≡ k → m ≤ k
     by_product m zero k h e = absurd (omega arith)

@@ -1,5 +1,6 @@
 -- A pivot of a tableau of small numbers makes no number that is too wide (`next_small`).
-use Rattle.std.proofs.Common.{◌≡◌, ℕ, zero, suc, ◌+◌, ◌*◌, ◌<◌, ◌≤◌, ◌^◌, Bool, true, false, ◌||◌, ◌&&◌, ◌==◌, List, [], ◌∷◌, All, refl, sym, ap, ◌∙◌, cond, Option, Some, None, arith, IsTrue}
+use Rattle.std.proofs.Common.{◌≡◌, ℕ, zero, suc, ◌+◌, ◌*◌, ◌<◌, ◌≤◌, ◌^◌, Bool, true, false, ◌||◌, ◌&&◌, ◌==◌, List, []}
+use Rattle.std.proofs.Common.{◌∷◌, All, refl, sym, ap, ◌∙◌, cond, Option, Some, None, arith, IsTrue}
 use Rattle.std.specs.Prelude.{ℤ, pos, ◌-ℤ◌, ◌*ℤ◌, ◌<ℤ◌, int_lt, unsigned_abs}
 use Rattle.std.specs.List.{list_all, flat_map}
 use Rattle.std.specs.Ordering.{int_eq}
@@ -10,7 +11,8 @@ use Rattle.suit_num.specs.Divisors.{gcd_of}
 use Rattle.suit_num.specs.Narrow.{IsNarrow}
 use Rattle.suit_tableaus.specs.Points.{number_at}
 use Rattle.suit_tableaus.specs.Tableaus.{TableauRow, Tableau, bound, entry, reduced_cost}
-use Rattle.suit_tableaus.specs.Pivots.{kept, compared, compared_pair, ratio_products, combining, combining_at, clearing, share, pivoting_row, changing, entering, leaving, pivoted, is_better, is_narrow}
+use Rattle.suit_tableaus.specs.Pivots.{kept, compared, compared_pair, ratio_products, combining, combining_at, clearing}
+use Rattle.suit_tableaus.specs.Pivots.{share, pivoting_row, changing, entering, leaving, pivoted, is_better, is_narrow}
 use Rattle.suit_tableaus.specs.Runs.{To, next}
 use Rattle.suit_tableaus.specs.Multiples.{IsSmall, IsSmallTableau}
 use Rattle.suit_tableaus.proofs.ClearedRows.{gcd_positive, share_whole, share_other}
@@ -32,10 +34,16 @@ size-difference : (a b : ℤ) → unsigned_abs (a -ℤ b) ≤ unsigned_abs a + u
 size-difference a b = omega (arith, ints)
 
 -- a row that is changed by factors has at most the sizes times the factors
-pub changed_size : (own x times y : ℤ) (size other : ℕ) → unsigned_abs x ≤ size → unsigned_abs y ≤ other → unsigned_abs (own *ℤ x -ℤ times *ℤ y) ≤ unsigned_abs own * size + unsigned_abs times * other
+pub changed_size : (own x times y : ℤ) (size other : ℕ) → unsigned_abs x ≤ size → unsigned_abs y ≤ other
+    → unsigned_abs (own *ℤ x -ℤ times *ℤ y) ≤ unsigned_abs own * size + unsigned_abs times * other
 changed_size own x times y size other h k =
-    let first : unsigned_abs (own *ℤ x) ≤ unsigned_abs own * size = rw (unsigned_abs-mul own x) (product_low (unsigned_abs own) (unsigned_abs x) (unsigned_abs own) size (low (unsigned_abs own)) h) in
-    let second : unsigned_abs (times *ℤ y) ≤ unsigned_abs times * other = rw (unsigned_abs-mul times y) (product_low (unsigned_abs times) (unsigned_abs y) (unsigned_abs times) other (low (unsigned_abs times)) k) in
+    let first : unsigned_abs (own *ℤ x) ≤ unsigned_abs own * size =
+    rw (unsigned_abs-mul own x)
+    (product_low (unsigned_abs own) (unsigned_abs x) (unsigned_abs own) size (low (unsigned_abs own)) h) in
+    let second : unsigned_abs (times *ℤ y) ≤ unsigned_abs times * other =
+    rw (unsigned_abs-mul times y)
+    (product_low (unsigned_abs times) (unsigned_abs y) (unsigned_abs times) other (low (unsigned_abs times))
+    k) in
     let both = size-difference (own *ℤ x) (times *ℤ y) in
     omega arith
   where
@@ -53,7 +61,8 @@ product_narrow a b h k = small_narrow (unsigned_abs (a *ℤ b)) (small_product a
 
 difference_fits : (a b c d : ℤ) → IsSmall a → IsSmall b → IsSmall c → IsSmall d → IsNarrow (a *ℤ b -ℤ c *ℤ d)
 difference_fits a b c d h k l m =
-    by_sizes (unsigned_abs (a *ℤ b -ℤ c *ℤ d)) (unsigned_abs (a *ℤ b)) (unsigned_abs (c *ℤ d)) (size-difference (a *ℤ b) (c *ℤ d)) (small_product a b h k) (small_product c d l m)
+    by_sizes (unsigned_abs (a *ℤ b -ℤ c *ℤ d)) (unsigned_abs (a *ℤ b)) (unsigned_abs (c *ℤ d))
+    (size-difference (a *ℤ b) (c *ℤ d)) (small_product a b h k) (small_product c d l m)
   where
     by_sizes : (n p q : ℕ) → n ≤ p + q → p ≤ 2 ^ 124 → q ≤ 2 ^ 124 → n < 2 ^ 127
     by_sizes n p q e f g = omega arith
@@ -80,12 +89,14 @@ quotient_low q g a some e =
 
 small_share : (p t : ℤ) → pos 0 <ℤ p → IsSmall p → IsSmall (share p t)
 small_share p t some h =
-    let low = quotient_low (share p t) (pos (gcd_of (unsigned_abs p) (unsigned_abs t))) p (gcd_positive p t some) (share_whole p t some) in
+    let low = quotient_low (share p t) (pos (gcd_of (unsigned_abs p) (unsigned_abs t))) p (gcd_positive p t some)
+    (share_whole p t some) in
     omega arith
 
 small_other : (p t : ℤ) → pos 0 <ℤ p → IsSmall t → IsSmall (share t p)
 small_other p t some h =
-    let low = quotient_low (share t p) (pos (gcd_of (unsigned_abs p) (unsigned_abs t))) t (gcd_positive p t some) (share_other p t some) in
+    let low = quotient_low (share t p) (pos (gcd_of (unsigned_abs p) (unsigned_abs t))) t (gcd_positive p t some)
+    (share_other p t some) in
     omega arith
 
 -- ---- the ratio test
@@ -101,18 +112,24 @@ choice : (b : Bool) (x y : Option TableauRow) → SmallChoice x → SmallChoice 
 choice true x y h k = h
 choice false x y h k = k
 
-small_kept : (column : ℕ) (best : Option TableauRow) (row : TableauRow) → SmallChoice best → SmallRow row → SmallChoice (kept column best row)
+small_kept : (column : ℕ) (best : Option TableauRow) (row : TableauRow) → SmallChoice best → SmallRow row
+    → SmallChoice (kept column best row)
 unfolding kept
 small_kept column None row h k = choice (int_lt (pos 0) (entry row column)) (Some row) None k tt
-small_kept column (Some best) row h k = choice (int_lt (pos 0) (entry row column) && is_better column best row) (Some row) (Some best) k h
+small_kept column (Some best) row h k =
+    choice (int_lt (pos 0) (entry row column) && is_better column best row) (Some row) (Some best) k h
 
-pair_fits : (column : ℕ) (best row : TableauRow) → SmallRow best → SmallRow row → IsTrue (list_all is_narrow (compared_pair column best row))
+pair_fits : (column : ℕ) (best row : TableauRow) → SmallRow best → SmallRow row
+    → IsTrue (list_all is_narrow (compared_pair column best row))
 pair_fits column best row h k =
     pair_narrow (bound row *ℤ entry best column) (bound best *ℤ entry row column)
-    (product_narrow (bound row) (entry best column) (small_number row.numbers 0 k) (small_number best.numbers (suc column) h))
-    (product_narrow (bound best) (entry row column) (small_number best.numbers 0 h) (small_number row.numbers (suc column) k))
+    (product_narrow (bound row) (entry best column) (small_number row.numbers 0 k)
+    (small_number best.numbers (suc column) h))
+    (product_narrow (bound best) (entry row column) (small_number best.numbers 0 h)
+    (small_number row.numbers (suc column) k))
 
-compared_fits : (column : ℕ) (best : Option TableauRow) (row : TableauRow) → SmallChoice best → SmallRow row → list_all is_narrow (compared column best row) ≡ true
+compared_fits : (column : ℕ) (best : Option TableauRow) (row : TableauRow) → SmallChoice best → SmallRow row
+    → list_all is_narrow (compared column best row) ≡ true
 unfolding compared
 compared_fits column None row h k = refl
 compared_fits column (Some best) row h k = by_test (int_lt (pos 0) (entry row column))
@@ -121,17 +138,22 @@ compared_fits column (Some best) row h k = by_test (int_lt (pos 0) (entry row co
     by_test true = pair_fits column best row h k
     by_test false = refl
 
-ratio_fits : (column : ℕ) (best : Option TableauRow) (rows : List TableauRow) → SmallChoice best → All SmallRow rows → list_all is_narrow (ratio_products column best rows) ≡ true
+ratio_fits : (column : ℕ) (best : Option TableauRow) (rows : List TableauRow) → SmallChoice best → All SmallRow rows
+    → list_all is_narrow (ratio_products column best rows) ≡ true
 unfolding ratio_products
 ratio_fits column best [] h k = refl
 ratio_fits column best (row ∷ rows) h k =
     test_append (compared column best row) (ratio_products column (kept column best row) rows)
-    ∙ both_true (list_all is_narrow (compared column best row)) (list_all is_narrow (ratio_products column (kept column best row) rows)) (compared_fits column best row h (All-head SmallRow row rows k))
-    (ratio_fits column (kept column best row) rows (small_kept column best row h (All-head SmallRow row rows k)) (All-tail SmallRow row rows k))
+    ∙ both_true (list_all is_narrow (compared column best row))
+    (list_all is_narrow (ratio_products column (kept column best row) rows))
+    (compared_fits column best row h (All-head SmallRow row rows k))
+    (ratio_fits column (kept column best row) rows (small_kept column best row h (All-head SmallRow row rows k))
+    (All-tail SmallRow row rows k))
 
 -- ---- the changes
 
-combining_fits : (own : ℤ) (xs : List ℤ) (other : ℤ) (ys : List ℤ) → IsSmall own → IsSmall other → All IsSmall xs → All IsSmall ys → list_all is_narrow (combining own xs other ys) ≡ true
+combining_fits : (own : ℤ) (xs : List ℤ) (other : ℤ) (ys : List ℤ) → IsSmall own → IsSmall other → All IsSmall xs
+    → All IsSmall ys → list_all is_narrow (combining own xs other ys) ≡ true
 unfolding combining
 combining_fits own [] other ys h k l m = refl
 combining_fits own (x ∷ xs) other [] h k l m = refl
@@ -140,39 +162,56 @@ combining_fits own (x ∷ xs) other (y ∷ ys) h k l m =
     let y_small : IsSmall y = All-head IsSmall y ys m in
     test_append (combining_at own x other y) (combining own xs other ys)
     ∙ both_true (list_all is_narrow (combining_at own x other y)) (list_all is_narrow (combining own xs other ys))
-    (combines own x other y (product_narrow own x h x_small) (product_narrow other y k y_small) (difference_fits own x other y h x_small k y_small))
+    (combines own x other y (product_narrow own x h x_small) (product_narrow other y k y_small)
+    (difference_fits own x other y h x_small k y_small))
     (combining_fits own xs other ys h k (All-tail IsSmall x xs l) (All-tail IsSmall y ys m))
 
-clearing_fits : (p t : ℤ) (numbers leaver : List ℤ) → pos 0 <ℤ p → IsSmall p → IsSmall t → All IsSmall numbers → All IsSmall leaver → list_all is_narrow (clearing p t numbers leaver) ≡ true
-clearing_fits p t numbers leaver some h k l m = combining_fits (share p t) numbers (share t p) leaver (small_share p t some h) (small_other p t some k) l m
+clearing_fits : (p t : ℤ) (numbers leaver : List ℤ) → pos 0 <ℤ p → IsSmall p → IsSmall t → All IsSmall numbers
+    → All IsSmall leaver → list_all is_narrow (clearing p t numbers leaver) ≡ true
+clearing_fits p t numbers leaver some h k l m =
+    combining_fits (share p t) numbers (share t p) leaver (small_share p t some h) (small_other p t some k) l m
 
 module _ (column : ℕ) (leaver : TableauRow) (some : pos 0 <ℤ entry leaver column) (small : SmallRow leaver) where
   row_fits : (row : TableauRow) → SmallRow row → list_all is_narrow (pivoting_row column leaver row) ≡ true
   unfolding pivoting_row
   row_fits row h = by_test (row.basic == leaver.basic || int_eq (entry row column) (pos 0))
     where
-      by_test : (b : Bool) → list_all is_narrow (cond b [] (clearing (entry leaver column) (entry row column) row.numbers leaver.numbers)) ≡ true
+      by_test : (b : Bool) → list_all is_narrow
+          (cond b [] (clearing (entry leaver column) (entry row column) row.numbers leaver.numbers)) ≡ true
       by_test true = refl
-      by_test false = clearing_fits (entry leaver column) (entry row column) row.numbers leaver.numbers some (small_number leaver.numbers (suc column) small) (small_number row.numbers (suc column) h) h small
+      by_test false = clearing_fits (entry leaver column) (entry row column) row.numbers leaver.numbers some
+          (small_number leaver.numbers (suc column) small) (small_number row.numbers (suc column) h) h small
 
-  rows_fit : (rows : List TableauRow) → All SmallRow rows → list_all is_narrow (flat_map (pivoting_row column leaver) rows) ≡ true
+  rows_fit : (rows : List TableauRow) → All SmallRow rows
+      → list_all is_narrow (flat_map (pivoting_row column leaver) rows) ≡ true
   rows_fit [] h = refl
   rows_fit (row ∷ rows) h =
       test_append (pivoting_row column leaver row) (flat_map (pivoting_row column leaver) rows)
-      ∙ both_true (list_all is_narrow (pivoting_row column leaver row)) (list_all is_narrow (flat_map (pivoting_row column leaver) rows)) (row_fits row (All-head SmallRow row rows h)) (rows_fit rows (All-tail SmallRow row rows h))
+      ∙ both_true (list_all is_narrow (pivoting_row column leaver row))
+      (list_all is_narrow (flat_map (pivoting_row column leaver) rows))
+      (row_fits row (All-head SmallRow row rows h)) (rows_fit rows (All-tail SmallRow row rows h))
 
   -- no number of the changes is too wide
-  pub changing_fits : (tableau : Tableau) → IsSmallTableau tableau → IsTrue (list_all is_narrow (changing tableau column leaver))
+  pub changing_fits : (tableau : Tableau) → IsSmallTableau tableau
+      → IsTrue (list_all is_narrow (changing tableau column leaver))
   unfolding changing
   changing_fits tableau h =
-      test_append (flat_map (pivoting_row column leaver) tableau.rows) (clearing (entry leaver column) (reduced_cost tableau column) tableau.objective (pos 0 ∷ leaver.numbers))
-      ∙ both_true (list_all is_narrow (flat_map (pivoting_row column leaver) tableau.rows)) (list_all is_narrow (clearing (entry leaver column) (reduced_cost tableau column) tableau.objective (pos 0 ∷ leaver.numbers))) (rows_fit tableau.rows h.rows)
-      (clearing_fits (entry leaver column) (reduced_cost tableau column) tableau.objective (pos 0 ∷ leaver.numbers) some (small_number leaver.numbers (suc column) small) (small_number tableau.objective (suc (suc column)) h.objective) h.objective (All-cons IsSmall (pos 0) leaver.numbers small_zero small))
+      test_append (flat_map (pivoting_row column leaver) tableau.rows)
+      (clearing (entry leaver column) (reduced_cost tableau column) tableau.objective (pos 0 ∷ leaver.numbers))
+      ∙ both_true (list_all is_narrow (flat_map (pivoting_row column leaver) tableau.rows))
+      (list_all is_narrow (clearing (entry leaver column) (reduced_cost tableau column) tableau.objective (pos 0
+      ∷ leaver.numbers))) (rows_fit tableau.rows h.rows)
+      (clearing_fits (entry leaver column) (reduced_cost tableau column) tableau.objective (pos 0
+      ∷ leaver.numbers) some (small_number leaver.numbers (suc column) small)
+      (small_number tableau.objective (suc (suc column)) h.objective) h.objective
+      (All-cons IsSmall (pos 0) leaver.numbers small_zero small))
 
 -- ---- the next tableau
 
 -- where all numbers are small, the pivot is made
-pub next_small : (tableau : Tableau) (column : ℕ) (leaver : TableauRow) → IsSmallTableau tableau → entering tableau ≡ Some column → leaving tableau column ≡ Some leaver → next tableau ≡ To (pivoted tableau column leaver)
+pub next_small : (tableau : Tableau) (column : ℕ) (leaver : TableauRow) → IsSmallTableau tableau
+    → entering tableau ≡ Some column → leaving tableau column ≡ Some leaver
+    → next tableau ≡ To (pivoted tableau column leaver)
 next_small tableau column leaver h enters leaves =
     let is = leaving_is_row tableau column leaver leaves in
     next_to tableau column leaver enters leaves (ratio_fits column None tableau.rows tt h.rows)

@@ -14,10 +14,12 @@ pub record IsSound (program : Program) (tableau : Tableau) : Type 0 where
   pub count : length tableau.rows ≡ length program.rows
   pub widths : All (λ row. length row.numbers ≡ suc (length program.costs + length program.rows)) tableau.rows
   pub objective_width : length tableau.objective ≡ suc (suc (length program.costs + length program.rows))
-  pub basics_differ : (index other : ℕ) (row next : TableauRow) → slice_get tableau.rows index ≡ Some row → slice_get tableau.rows other ≡ Some next → row.basic ≡ next.basic → index ≡ other
+  pub basics_differ : (index other : ℕ) (row next : TableauRow) → slice_get tableau.rows index ≡ Some row
+      → slice_get tableau.rows other ≡ Some next → row.basic ≡ next.basic → index ≡ other
   pub basics_low : All (λ row. row.basic < length program.costs + length program.rows) tableau.rows
   pub pivotal : All (λ row. pos 0 <ℤ entry row row.basic) tableau.rows
-  pub apart : (row next : TableauRow) → Contains tableau.rows row → Contains tableau.rows next → row.basic ≢ next.basic → entry next row.basic ≡ pos 0
+  pub apart : (row next : TableauRow) → Contains tableau.rows row → Contains tableau.rows next → row.basic ≢ next.basic
+      → entry next row.basic ≡ pos 0
   pub costs_apart : All (λ row. reduced_cost tableau row.basic ≡ pos 0) tableau.rows
   pub bounds : All (λ row. pos 0 ≤ℤ bound row) tableau.rows
   pub scaled : pos 0 <ℤ scale tableau

@@ -1,5 +1,6 @@
 -- What is read from the last tableau, and what an answer says of the run.
-use Rattle.std.specs.Prelude.{◌≡◌, ℕ, ◌+◌, ◌==◌, pos, ◌*ℤ◌, length, find, Option, Some, None, Result, Ok, Err, slice_get, drop}
+use Rattle.std.specs.Prelude.{◌≡◌, ℕ, ◌+◌, ◌==◌, pos, ◌*ℤ◌, length, find, Option, Some, None, Result, Ok, Err}
+use Rattle.std.specs.Prelude.{slice_get, drop}
 use Rattle.suit_num.specs.declared.fraction.Frac.{Frac}
 use Rattle.suit_tableaus.specs.declared.program.Program.{Program}
 use Rattle.suit_tableaus.specs.declared.ends.Optimum.{Optimum}
@@ -8,7 +9,8 @@ use Rattle.suit_tableaus.specs.declared.ends.SimplexEnd.TheVariants as ends
 use Rattle.suit_tableaus.specs.Tableaus.{TableauRow, Tableau, bound, entry, scale, value}
 use Rattle.suit_tableaus.specs.Runs.{RunEnd, AtOptimum, AtBudget, AtWide, AtRay}
 
--- a fraction is the bound of the row in which the column is basic over the row's entry there, and 0 where there is no such row
+-- a fraction is the bound of the row in which the column is basic over the row's entry there, and 0 where there is no
+-- such row
 abbrev pub IsBasicValue : ℕ → Option TableauRow → Frac → Type 0
 IsBasicValue column (Some row) value = value.num *ℤ entry row column ≡ bound row *ℤ value.den
 IsBasicValue column None value = value.num ≡ pos 0

@@ -1,5 +1,6 @@
 -- Numbers that are multiples of others: what a tableau may be kept as.
-use Rattle.std.specs.Prelude.{◌≡◌, ℕ, ◌≤◌, ◌^◌, ℤ, pos, ◌*ℤ◌, ◌<ℤ◌, unsigned_abs, List, [], ◌∷◌, All, Option, Some, None}
+use Rattle.std.specs.Prelude.{◌≡◌, ℕ, ◌≤◌, ◌^◌, ℤ, pos, ◌*ℤ◌, ◌<ℤ◌, unsigned_abs, List, [], ◌∷◌, All, Option, Some}
+use Rattle.std.specs.Prelude.{None}
 use Rattle.suit_tableaus.specs.Points.{number_at}
 use Rattle.suit_tableaus.specs.Tableaus.{TableauRow, Tableau}
 

@@ -9,7 +9,8 @@ use Rattle.suit_tableaus.specs.Programs.{IsFeasible, IsDualFeasible}
 -- a point over a denominator has these fractions as its columns
 pub record IsCommon (parts : List Frac) (point : ℕ → ℤ) (den : ℤ) : Type 0 where
   pub over : pos 0 <ℤ den
-  pub same : (column : ℕ) (part : Frac) → slice_get parts column ≡ Some part → point column *ℤ part.den ≡ part.num *ℤ den
+  pub same : (column : ℕ) (part : Frac) → slice_get parts column ≡ Some part
+      → point column *ℤ part.den ≡ part.num *ℤ den
 
 -- the point, over whatever denominator its columns have in common, is feasible (and they have one: the law
 -- `fractions_have_a_common_denominator`), and its objective is value / scale

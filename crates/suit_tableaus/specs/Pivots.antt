@@ -1,5 +1,6 @@
 -- One pivot: the entering column, the ratio test, and what becomes of the rows.
-use Rattle.std.specs.Prelude.{ℕ, ◌==◌, ◌&&◌, ◌||◌, ◌^◌, nat_lt, Bool, ℤ, pos, ◌-ℤ◌, ◌*ℤ◌, int_lt, int_div, unsigned_abs, List, [], ◌∷◌, ◌++◌, map, fold, Option, Some, None, position, drop, if◌then◌else◌}
+use Rattle.std.specs.Prelude.{ℕ, ◌==◌, ◌&&◌, ◌||◌, ◌^◌, nat_lt, Bool, ℤ, pos, ◌-ℤ◌, ◌*ℤ◌, int_lt, int_div, unsigned_abs}
+use Rattle.std.specs.Prelude.{List, [], ◌∷◌, ◌++◌, map, fold, Option, Some, None, position, drop, if◌then◌else◌}
 use Rattle.std.specs.Ordering.{int_eq}
 use Rattle.std.specs.List.{flat_map}
 use Rattle.suit_num.specs.Divisors.{gcd_of}
@@ -21,7 +22,8 @@ is_better column best row =
 -- the best row so far, after one more row
 unfoldable pub kept : ℕ → Option TableauRow → TableauRow → Option TableauRow
 kept column None row = if int_lt (pos 0) (entry row column) then Some row else None
-kept column (Some best) row = if int_lt (pos 0) (entry row column) && is_better column best row then Some row else Some best
+kept column (Some best) row = if int_lt (pos 0) (entry row column) && is_better column best row then Some row
+    else Some best
 
 -- the row that leaves: the best of those with a positive entry in the column
 abbrev pub leaving : Tableau → ℕ → Option TableauRow
@@ -79,7 +81,8 @@ cleared p t numbers leaver = primitive (combined (share p t) numbers (share t p)
 abbrev pub clearing : ℤ → ℤ → List ℤ → List ℤ → List ℤ
 clearing p t numbers leaver = combining (share p t) numbers (share t p) leaver
 
--- a row after the pivot: the leaving row has the column as its basic one, and another row is cleared where its entry is not 0
+-- a row after the pivot: the leaving row has the column as its basic one, and another row is cleared where its entry is
+-- not 0
 unfoldable pub pivoted_row : ℕ → TableauRow → TableauRow → TableauRow
 pivoted_row column leaver row =
     if row.basic == leaver.basic

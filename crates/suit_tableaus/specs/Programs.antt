@@ -21,13 +21,15 @@ pub record IsFeasible (program : Program) (point : ℕ → ℤ) (den : ℤ) : Ty
 
 -- the objective has an upper limit over all feasible points
 abbrev pub IsBounded : Program → Type 0
-IsBounded program = (limit : ℤ) × ((point : ℕ → ℤ) (den : ℤ) → IsFeasible program point den → dot program.costs point ≤ℤ (limit *ℤ den))
+IsBounded program = (limit : ℤ)
+    × ((point : ℕ → ℤ) (den : ℤ) → IsFeasible program point den → dot program.costs point ≤ℤ (limit *ℤ den))
 
 -- the entries of a column, row by row
 abbrev pub column_entries : List ProgramRow → ℕ → List ℤ
 column_entries rows column = map (λ row. number_at row.entries column) rows
 
--- prices of the rows, as whole numbers over a scale: none is negative, and what a unit of a column takes from the rows is worth at least what it adds to the objective
+-- prices of the rows, as whole numbers over a scale: none is negative, and what a unit of a column takes from the rows
+-- is worth at least what it adds to the objective
 pub record IsDualFeasible (program : Program) (prices : List ℤ) (scale : ℤ) : Type 0 where
   pub over : pos 0 <ℤ scale
   pub count : length prices ≡ length program.rows

@@ -17,7 +17,8 @@ pub data Next : Type 0 where
 
 abbrev pub next_by_row : Tableau → ℕ → Option TableauRow → Next
 next_by_row tableau column None = Ray
-next_by_row tableau column (Some leaver) = if list_all is_narrow (pivoting tableau column leaver) then To (pivoted tableau column leaver) else Wide
+next_by_row tableau column (Some leaver) = if list_all is_narrow (pivoting tableau column leaver)
+    then To (pivoted tableau column leaver) else Wide
 
 abbrev pub next_by_column : Tableau → Option ℕ → Next
 next_by_column tableau None = Last

@@ -27,7 +27,8 @@ scale tableau = number_at tableau.objective 0
 abbrev pub value : Tableau → ℤ
 value tableau = number_at tableau.objective 1
 
--- the scale times what the column's unit in the point would cost the objective: a column with a negative number improves it
+-- the scale times what the column's unit in the point would cost the objective: a column with a negative number
+-- improves it
 abbrev pub reduced_cost : Tableau → ℕ → ℤ
 reduced_cost tableau column = number_at tableau.objective (suc (suc column))
 

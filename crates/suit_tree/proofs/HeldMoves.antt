@@ -1,5 +1,6 @@
 -- To the nodes that hold a class layout lead its class moves, in their order (held_moves).
-use Rattle.std.proofs.Common.{◌≡◌, ℕ, Bool, true, false, List, [], ◌∷◌, ◌++◌, length, refl, ap, sym, ◌∙◌, subst, inl, inr, arith}
+use Rattle.std.proofs.Common.{◌≡◌, ℕ, Bool, true, false, List, [], ◌∷◌, ◌++◌, length, refl, ap, sym, ◌∙◌, subst, inl}
+use Rattle.std.proofs.Common.{inr, arith}
 use Rattle.std.specs.Prelude.{◌↔◌, ◌&&◌, ◌==◌, Contains, filter, nat_lt, if◌then◌else◌}
 use Rattle.std.specs.Bool.{Decides}
 use Rattle.std.proofs.lemmas.Bool.{eq-eqb, eqb-true, false≢true, lt-ltb, or_cases, or_left, or_right}
@@ -29,7 +30,8 @@ held_decides index [] = (λ held. absurd (false≢true held), λ found. absurd (
 held_decides index (other ∷ indices) =
     let later = held_decides index indices in (
       λ held. elim (or_cases (other == index) (is_held index indices) held) [
-        | inl here ↦ subst (λ (p : ℕ). Contains (other ∷ indices) p) (eqb-true other index here) (Contains-first other indices)
+        | inl here ↦ subst (λ (p : ℕ). Contains (other ∷ indices) p) (eqb-true other index here)
+            (Contains-first other indices)
         | inr there ↦ Contains-later other indices index (later.0 there)
       ],
       λ found. elim (Contains-cons_cases other indices index found) [
@@ -56,7 +58,8 @@ module _ (question : Question) (history : ClassHistory) where
 
   -- a class layout that allows a history allows it with one move more where it is a class move
   pub index_goes_on : (move : ClassMove) (index : ℕ) → IsValid question → Contains (allowing question history) index
-      → Contains (allowing question (history ++ move ∷ [])) index ↔ Contains (class_moves (class_after question history) (counts_in index)) move
+      → Contains (allowing question (history ++ move ∷ [])) index
+      ↔ Contains (class_moves (class_after question history) (counts_in index)) move
   index_goes_on move index valid held =
       let here = (kept_layouts question history index valid).0 held in
       let there = kept_layouts question (history ++ move ∷ []) index valid in
@@ -65,7 +68,8 @@ module _ (question : Question) (history : ClassHistory) where
 
   -- it holds the node by a move where this is a class move
   pub held_is : (move : ClassMove) (index : ℕ) → IsValid question → Contains (allowing question history) index
-      → is_held index (allowing question (history ++ move ∷ [])) ≡ is_among (class_moves (class_after question history) (counts_in index)) move
+      → is_held index (allowing question (history ++ move ∷ []))
+      ≡ is_among (class_moves (class_after question history) (counts_in index)) move
   held_is move index valid held =
       let moves : List ClassMove = class_moves (class_after question history) (counts_in index) in
       let kept : Indices = allowing question (history ++ move ∷ []) in
@@ -75,14 +79,17 @@ module _ (question : Question) (history : ClassHistory) where
       (λ told. goes.0 (tells.0 told), λ found. tells.1 (goes.1 found)) (among_decides moves move)
 
   pub going_on : class_decided (class_after question history) ≡ false
-      → moves_on question history ≡ filter (λ move. nat_lt 0 (length (allowing question (history ++ move ∷ [])))) every_move
+      → moves_on question history ≡ filter (λ move. nat_lt 0 (length (allowing question (history ++ move ∷ []))))
+      every_move
   unfolding moves_on
   going_on going =
-      let kept : List ClassMove = filter (λ move. nat_lt 0 (length (allowing question (history ++ move ∷ [])))) every_move in
+      let kept : List ClassMove = filter (λ move. nat_lt 0 (length (allowing question (history ++ move ∷ []))))
+      every_move in
       ap (λ (b : Bool). if b then [] else kept) going
 
   -- the moves to those nodes that hold a class layout are its class moves
-  pub held_moves : (index : ℕ) → IsValid question → Contains (allowing question history) index → class_decided (class_after question history) ≡ false
+  pub held_moves : (index : ℕ) → IsValid question → Contains (allowing question history) index
+      → class_decided (class_after question history) ≡ false
       → filter (λ move. is_held index (allowing question (history ++ move ∷ []))) (moves_on question history)
       ≡ class_moves (class_after question history) (counts_in index)
   held_moves index valid held going =
@@ -93,6 +100,7 @@ module _ (question : Question) (history : ClassHistory) where
       ap (filter holds) (going_on going)
       ∙ filter_both holds some every_move
       ∙ filter_agree (λ move. some move && holds move) holds
-      (λ move. both_second (some move) (holds move) (λ told. some_held (kept move) index ((held_decides index (kept move)).0 told))) every_move
+      (λ move. both_second (some move) (holds move)
+      (λ told. some_held (kept move) index ((held_decides index (kept move)).0 told))) every_move
       ∙ filter_agree holds (is_among moves) (λ move. held_is move index valid held) every_move
       ∙ sym (class_moves_listed (class_after question history) (counts_in index))

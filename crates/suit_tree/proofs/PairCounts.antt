@@ -1,5 +1,6 @@
 -- The pairs of a node and an index below a position are counted index by index.
-use Rattle.std.proofs.Common.{◌≡◌, ℕ, zero, suc, ◌+◌, Bool, true, false, nat_lt, List, [], ◌∷◌, ◌++◌, length, refl, sym, ap, ◌∙◌, arith}
+use Rattle.std.proofs.Common.{◌≡◌, ℕ, zero, suc, ◌+◌, Bool, true, false, nat_lt, List, [], ◌∷◌, ◌++◌, length, refl, sym}
+use Rattle.std.proofs.Common.{ap, ◌∙◌, arith}
 use Rattle.std.specs.Prelude.{filter, get_or, if◌then◌else◌}
 use Rattle.std.specs.List.{flat_map, range_with_len, sum_by}
 use Rattle.std.proofs.lemmas.Bool.{lt-ltb}
@@ -43,37 +44,56 @@ sums_exchanged {X} {Y} f (x ∷ xs) ys =
         omega (arith, sum_by-cons both y ys, sum_by-cons g y ys, sum_by-cons h y ys, sum_by_both g h ys)
 
 -- a sum in which each term is 1 more
-sum_by_one_more : {X : Type 0} (f g : X → ℕ) (xs : List X) → ((x : X) → f x ≡ suc (g x)) → sum_by f xs ≡ length xs + sum_by g xs
+sum_by_one_more : {X : Type 0} (f g : X → ℕ) (xs : List X) → ((x : X) → f x ≡ suc (g x))
+    → sum_by f xs ≡ length xs + sum_by g xs
 sum_by_one_more f g [] more = refl
-sum_by_one_more f g (x ∷ xs) more = omega (arith, sum_by-cons f x xs, sum_by-cons g x xs, more x, sum_by_one_more f g xs more)
+sum_by_one_more f g (x ∷ xs) more =
+    omega (arith, sum_by-cons f x xs, sum_by-cons g x xs, more x, sum_by_one_more f g xs more)
 
 -- a sum over nothing need not be asked for
-sum_where_some : {X : Type 0} (f : X → ℕ) (xs : List X) → (if nat_lt 0 (length xs) then sum_by f xs else 0) ≡ sum_by f xs
+sum_where_some : {X : Type 0} (f : X → ℕ) (xs : List X)
+    → (if nat_lt 0 (length xs) then sum_by f xs else 0) ≡ sum_by f xs
 sum_where_some f [] = refl
 sum_where_some f (x ∷ xs) = rw (lt-ltb 0 (suc (length xs)) (omega arith)) refl
 
 -- a sum over the indices of a list is one over the list
-pub sum_by_indices : {X : Type 0} (f : X → ℕ) (xs : List X) (d : X) → sum_by (λ index. f (get_or xs index d)) (range_with_len 0 (length xs)) ≡ sum_by f xs
+pub sum_by_indices : {X : Type 0} (f : X → ℕ) (xs : List X) (d : X)
+    → sum_by (λ index. f (get_or xs index d)) (range_with_len 0 (length xs)) ≡ sum_by f xs
 sum_by_indices f [] d = refl
 sum_by_indices {X} f (x ∷ xs) d =
     let at_place : ℕ → ℕ = λ index. f (get_or (x ∷ xs) index d) in
-    omega (arith, sum_by-cons at_place 0 (range_with_len 1 (length xs)), sum_by-cons f x xs, shifted at_place 0 (length xs), sum_by_indices f xs d)
+    omega (
+      arith,
+      sum_by-cons at_place 0 (range_with_len 1 (length xs)),
+      sum_by-cons f x xs,
+      shifted at_place 0 (length xs),
+      sum_by_indices f xs d,
+    )
   where
     shifted : (g : ℕ → ℕ) (a n : ℕ) → sum_by g (range_with_len (a + 1) n) ≡ sum_by (λ k. g (suc k)) (range_with_len a n)
     shifted g a zero = refl
     shifted g a (suc n) =
         let next : a + 1 ≡ suc a = omega arith in
         let later : ℕ → ℕ = λ k. g (suc k) in
-        omega (arith, sum_by-cons g (a + 1) (range_with_len (a + 1 + 1) n), sum_by-cons later a (range_with_len (a + 1) n), ap g next, shifted g (a + 1) n)
+        omega (
+          arith,
+          sum_by-cons g (a + 1) (range_with_len (a + 1 + 1) n),
+          sum_by-cons later a (range_with_len (a + 1) n),
+          ap g next,
+          shifted g (a + 1) n,
+        )
 
 -- how many histories go on from a history with a move more
 abbrev goes_on : ℕ → Question → List (List ℕ × ℕ) → List ClassMove → ℕ → ClassMove → ℕ
-goes_on more question layouts history index move = length (continued more question (counts_at layouts index) (history ++ move ∷ []))
+goes_on more question layouts history index move =
+    length (continued more question (counts_at layouts index) (history ++ move ∷ []))
 
 -- at one index: a sum over its moves is one over all moves, those apart that are not among them
 moves_summed : (more : ℕ) (question : Question) (history : List ClassMove) (layouts : List (List ℕ × ℕ)) (index : ℕ)
-    → length (flat_map (λ move. continued more question (counts_at layouts index) (history ++ move ∷ [])) (class_moves (class_after question history) (counts_at layouts index)))
-    ≡ sum_by (λ move. if is_among (class_moves (class_after question history) (counts_at layouts index)) move then goes_on more question layouts history index move else 0) every_move
+    → length (flat_map (λ move. continued more question (counts_at layouts index) (history ++ move ∷ []))
+    (class_moves (class_after question history) (counts_at layouts index)))
+    ≡ sum_by (λ move. if is_among (class_moves (class_after question history) (counts_at layouts index)) move
+    then goes_on more question layouts history index move else 0) every_move
 moves_summed more question history layouts index =
     let view : ClassView = class_after question history in
     let counts : List ℕ = counts_at layouts index in
@@ -82,17 +102,24 @@ moves_summed more question history layouts index =
     ∙ sum_by_filter (is_among (class_moves view counts)) (goes_on more question layouts history index) every_move
 
 -- the pairs below a position, index by index, where those after each move are
-below_counted : (more : ℕ) (question : Question) (history : List ClassMove) (layouts : List (List ℕ × ℕ)) (indices : List ℕ)
+below_counted : (more : ℕ) (question : Question) (history : List ClassMove) (layouts : List (List ℕ
+    × ℕ)) (indices : List ℕ)
     → ((move : ClassMove)
-    → pairs_from more layouts (class_step (class_after question history) move) (keeping layouts (class_after question history) indices move)
-    ≡ sum_by (λ index. goes_on more question layouts history index move) (keeping layouts (class_after question history) indices move))
+    → pairs_from more layouts (class_step (class_after question history) move)
+    (keeping layouts (class_after question history) indices move)
+    ≡ sum_by (λ index. goes_on more question layouts history index move)
+    (keeping layouts (class_after question history) indices move))
     → (decided : Bool)
-    → sum_by (λ move. pairs_from more layouts (class_step (class_after question history) move) (keeping layouts (class_after question history) indices move))
-    (if decided then [] else filter (λ move. nat_lt 0 (length (keeping layouts (class_after question history) indices move))) every_move)
-    ≡ sum_by (λ index. length (if decided then [] else flat_map (λ move. continued more question (counts_at layouts index) (history ++ move ∷ []))
+    → sum_by (λ move. pairs_from more layouts (class_step (class_after question history) move)
+    (keeping layouts (class_after question history) indices move))
+    (if decided then [] else filter
+    (λ move. nat_lt 0 (length (keeping layouts (class_after question history) indices move))) every_move)
+    ≡ sum_by (λ index. length (if decided then []
+    else flat_map (λ move. continued more question (counts_at layouts index) (history ++ move ∷ []))
     (class_moves (class_after question history) (counts_at layouts index)))) indices
 unfolding keeping
-below_counted more question history layouts indices after true = sym (sum_by_none (λ (index : ℕ). 0) indices (λ index. refl))
+below_counted more question history layouts indices after true =
+    sym (sum_by_none (λ (index : ℕ). 0) indices (λ index. refl))
 below_counted more question history layouts indices after false =
     let view : ClassView = class_after question history in
     let keep : ClassMove → List ℕ = keeping layouts view indices in
@@ -101,19 +128,25 @@ below_counted more question history layouts indices after false =
     let makes : ℕ → ClassMove → Bool = λ index. is_among (class_moves view (counts_at layouts index)) in
     let onward : ℕ → ClassMove → ℕ = goes_on more question layouts history in
     let term : ℕ → ClassMove → ℕ = λ index move. if makes index move then onward index move else 0 in
-    let below : ℕ → ℕ = λ index. length (flat_map (λ move. continued more question (counts_at layouts index) (history ++ move ∷ [])) (class_moves view (counts_at layouts index))) in
-    let each_move : (move : ClassMove) → (if some move then pairs move else 0) ≡ sum_by (λ index. term index move) indices =
+    let below : ℕ → ℕ = λ index. length
+    (flat_map (λ move. continued more question (counts_at layouts index) (history ++ move ∷ []))
+    (class_moves view (counts_at layouts index))) in
+    let each_move : (move : ClassMove)
+    → (if some move then pairs move else 0) ≡ sum_by (λ index. term index move) indices =
     λ move.
     ap (λ (n : ℕ). if some move then n else 0) (after move)
     ∙ sum_where_some (λ index. onward index move) (keep move)
     ∙ sum_by_filter (λ index. makes index move) (λ index. onward index move) indices in
     sum_by_filter some pairs every_move
-    ∙ sum_by_same (λ move. if some move then pairs move else 0) (λ move. sum_by (λ index. term index move) indices) every_move each_move
+    ∙ sum_by_same (λ move. if some move then pairs move
+    else 0) (λ move. sum_by (λ index. term index move) indices) every_move each_move
     ∙ sums_exchanged (λ move index. term index move) every_move indices
-    ∙ sum_by_same (λ index. sum_by (term index) every_move) below indices (λ index. sym (moves_summed more question history layouts index))
+    ∙ sum_by_same (λ index. sum_by (term index) every_move) below indices
+    (λ index. sym (moves_summed more question history layouts index))
 
 -- the pairs from a position on, index by index
-pub pairs_counted : (more : ℕ) (question : Question) (history : List ClassMove) (layouts : List (List ℕ × ℕ)) (indices : List ℕ)
+pub pairs_counted : (more : ℕ) (question : Question) (history : List ClassMove) (layouts : List (List ℕ
+    × ℕ)) (indices : List ℕ)
     → pairs_from more layouts (class_after question history) indices
     ≡ sum_by (λ index. length (continued more question (counts_at layouts index) history)) indices
 unfolding pairs_from continued moves_from
@@ -125,8 +158,12 @@ pairs_counted (suc more) question history layouts indices =
     let view : ClassView = class_after question history in
     let keep : ClassMove → List ℕ = keeping layouts view indices in
     let whole : ℕ → ℕ = λ index. length (continued (suc more) question (counts_at layouts index) history) in
-    let below : ℕ → ℕ = λ index. length (if class_decided view then [] else flat_map (λ move. continued more question (counts_at layouts index) (history ++ move ∷ [])) (class_moves view (counts_at layouts index))) in
-    let after : (move : ClassMove) → pairs_from more layouts (class_step view move) (keep move) ≡ sum_by (λ index. goes_on more question layouts history index move) (keep move) =
+    let below : ℕ → ℕ = λ index. length (if class_decided view then []
+    else flat_map (λ move. continued more question (counts_at layouts index) (history ++ move ∷ []))
+    (class_moves view (counts_at layouts index))) in
+    let after : (move : ClassMove)
+    → pairs_from more layouts (class_step view move) (keep move)
+    ≡ sum_by (λ index. goes_on more question layouts history index move) (keep move) =
     λ move.
     ap (λ (v : ClassView). pairs_from more layouts v (keep move)) (sym (class_after_move question history move))
     ∙ pairs_counted more question (history ++ move ∷ []) layouts (keep move) in
@@ -135,7 +172,8 @@ pairs_counted (suc more) question history layouts indices =
 
 -- the pairs from the start on, of all indices, are all pairs
 pub all_pairs_counted : (question : Question)
-    → pairs_from 52 (class_layouts question (sizes_of question)) (class_start question) (layout_indices (class_layouts question (sizes_of question))) ≡ node_count question
+    → pairs_from 52 (class_layouts question (sizes_of question)) (class_start question)
+    (layout_indices (class_layouts question (sizes_of question))) ≡ node_count question
 unfolding node_count counted_histories
 all_pairs_counted question =
     let layouts : List (List ℕ × ℕ) = class_layouts question (sizes_of question) in

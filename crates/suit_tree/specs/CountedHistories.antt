@@ -1,4 +1,5 @@
--- The class histories that count for a class layout, which it allows and which go past no decided position, and the number of pairs of the two.
+-- The class histories that count for a class layout, which it allows and which go past no decided position, and the
+-- number of pairs of the two.
 use Rattle.std.specs.Prelude.{ℕ, zero, suc, List, [], ◌∷◌, ◌++◌, length, sum_by, if◌then◌else◌}
 use Rattle.std.specs.List.{flat_map}
 use Rattle.suit_cards.specs.Cards.{Counts}
@@ -15,7 +16,8 @@ continued zero question counts history = history ∷ []
 continued (suc more) question counts history =
     history
     ∷ (if class_decided (class_after question history) then []
-    else flat_map (λ move. continued more question counts (history ++ move ∷ [])) (class_moves (class_after question history) counts))
+    else flat_map (λ move. continued more question counts (history ++ move ∷ []))
+    (class_moves (class_after question history) counts))
 
 -- the class histories that counts of West's allow and that go past no decided position; none has more than 52 moves
 unfoldable pub counted_histories : Question → Counts → List ClassHistory
@@ -23,4 +25,5 @@ counted_histories question counts = continued MOST_MOVES question counts []
 
 -- the number of pairs of a class layout of positive weight and a class history that is counted for it
 unfoldable pub node_count : Question → ℕ
-node_count question = sum_by (λ layout. length (counted_histories question layout.0)) (class_layouts question (sizes_of question))
+node_count question = sum_by (λ layout. length (counted_histories question layout.0))
+    (class_layouts question (sizes_of question))

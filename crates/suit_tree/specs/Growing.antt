@@ -1,6 +1,8 @@
--- An equal telling of the tree by positions alone, whatever came before, for the contracts of private functions; the lemma
+-- An equal telling of the tree by positions alone, whatever came before, for the contracts of private functions; the
+-- lemma
 -- that ties it to the tree of a question is grown_is_tree of proofs/GrownTrees.
-use Rattle.std.specs.Prelude.{◌≡◌, ◌≤◌, ◌<◌, ◌+◌, ℕ, zero, suc, Bool, true, false, List, [], ◌∷◌, Some, length, get_or, map, filter, ◌++◌, sum_by, if◌then◌else◌, nat_lt}
+use Rattle.std.specs.Prelude.{◌≡◌, ◌≤◌, ◌<◌, ◌+◌, ℕ, zero, suc, Bool, true, false, List, [], ◌∷◌, Some, length, get_or}
+use Rattle.std.specs.Prelude.{map, filter, ◌++◌, sum_by, if◌then◌else◌, nat_lt}
 use Rattle.suit_cards.specs.Cards.{Counts, Indices}
 use Rattle.suit_game.specs.declared.question.Question.{Question}
 use Rattle.suit_game.specs.declared.limits.TheConstants.{MOST_MOVES}
@@ -11,7 +13,8 @@ use Rattle.suit_classes.specs.declared.class_turn.ClassTurn.TheVariants as turns
 use Rattle.suit_classes.specs.AllowedHistories.{is_among, every_move}
 use Rattle.suit_classes.specs.ClassMoves.{ClassHistory}
 use Rattle.suit_classes.specs.declared.class_view.ClassView.{ClassView}
-use Rattle.suit_classes.specs.ClassPlaces.{class_after, class_decided, class_moves, class_numbers, class_payoff, class_step, class_turn}
+use Rattle.suit_classes.specs.ClassPlaces.{class_after, class_decided, class_moves, class_numbers, class_payoff}
+use Rattle.suit_classes.specs.ClassPlaces.{class_step, class_turn}
 use Rattle.suit_tree.specs.declared.branch.Branch.{Branch}
 use Rattle.suit_tree.specs.declared.node.Node.{Node}
 use Rattle.suit_tree.specs.declared.offers.Offers.{Offers}
@@ -39,7 +42,8 @@ unfoldable pub moves_within : ℕ → List (Counts × ℕ) → ClassView → Ind
 moves_within zero layouts view indices = []
 moves_within (suc more) layouts view indices = moves_from layouts view indices
 
--- a node says who is on turn at a position, holds these indices, and says what the tricks won are worth where it is decided,
+-- a node says who is on turn at a position, holds these indices, and says what the tricks won are worth where it is
+-- decided,
 -- and 0 elsewhere
 pub record StandsFor (view : ClassView) (indices : Indices) (node : Node) : Type 0 where
   pub turn : turn_at node ≡ class_turn view
@@ -51,7 +55,8 @@ unfoldable pub IsGrown : ℕ → List (Counts × ℕ) → ClassView → Indices 
 IsGrown zero layouts view indices node = StandsFor view indices node × (children_of node ≡ [])
 IsGrown (suc more) layouts view indices node =
     StandsFor view indices node
-    × AllFit (λ move child. (move_to child ≡ Some move) × IsGrown more layouts (class_step view move) (keeping layouts view indices move) child)
+    × AllFit (λ move child. (move_to child ≡ Some move)
+    × IsGrown more layouts (class_step view move) (keeping layouts view indices move) child)
     (moves_from layouts view indices) (children_of node)
 
 -- how many pairs of a node and an index that it holds there are, cut off after so many moves
@@ -59,7 +64,8 @@ unfoldable pub pairs_from : ℕ → List (Counts × ℕ) → ClassView → Indic
 pairs_from zero layouts view indices = length indices
 pairs_from (suc more) layouts view indices =
     length indices
-    + sum_by (λ move. pairs_from more layouts (class_step view move) (keeping layouts view indices move)) (moves_from layouts view indices)
+    + sum_by (λ move. pairs_from more layouts (class_step view move) (keeping layouts view indices move))
+    (moves_from layouts view indices)
 
 -- ---- the moves by which a position goes on
 
@@ -76,7 +82,8 @@ branch_seen branch = (branch.mv, branch.indices.now)
 
 -- the branches of a position, seen so
 abbrev pub branched : ℕ → List (Counts × ℕ) → ClassView → Indices → List (ClassMove × Indices)
-branched more layouts view indices = map (λ move. (move, keeping layouts view indices move)) (moves_within more layouts view indices)
+branched more layouts view indices =
+    map (λ move. (move, keeping layouts view indices move)) (moves_within more layouts view indices)
 
 -- the moves of a defender, in their order
 unfoldable pub their_moves : List ClassMove

@@ -1,5 +1,6 @@
 -- What holds of the counted class histories and the tree of every question.
-use Rattle.std.specs.Prelude.{◌≡◌, ◌≢◌, ℕ, ◌<◌, ◌↔◌, true, false, List, [], ◌∷◌, Some, length, map, filter, AllPairs, Contains}
+use Rattle.std.specs.Prelude.{◌≡◌, ◌≢◌, ℕ, ◌<◌, ◌↔◌, true, false, List, [], ◌∷◌, Some, length, map, filter, AllPairs}
+use Rattle.std.specs.Prelude.{Contains}
 use Rattle.suit_cards.specs.Cards.{Cards, Counts}
 use Rattle.suit_game.specs.declared.question.Question.{Question}
 use Rattle.suit_game.specs.Histories.{History}
@@ -26,38 +27,48 @@ listed_counts question = map (λ (layout : Counts × ℕ). layout.0) (class_layo
 
 -- they are told to allow the class histories that they allow
 abbrev pub AllowsIsAllowed : Type 0
-AllowsIsAllowed = (question : Question) (counts : Counts) (history : ClassHistory) → IsValid question → Contains (listed_counts question) counts
+AllowsIsAllowed = (question : Question) (counts : Counts) (history : ClassHistory) → IsValid question
+    → Contains (listed_counts question) counts
     → (allows question counts history ≡ true) ↔ Allows question counts history
 
 -- exactly the histories that they allow and that go past no decided position are counted for them
 abbrev pub CountedExactly : Type 0
-CountedExactly = (question : Question) (counts : Counts) (history : ClassHistory) → IsValid question → Contains (listed_counts question) counts
+CountedExactly = (question : Question) (counts : Counts) (history : ClassHistory) → IsValid question
+    → Contains (listed_counts question) counts
     → Contains (counted_histories question counts) history ↔ IsCounted question counts history
 
 -- each once
 abbrev pub CountedOnce : Type 0
-CountedOnce = (question : Question) (counts : Counts) → AllPairs (λ here there. here ≢ there) (counted_histories question counts)
+CountedOnce = (question : Question) (counts : Counts)
+    → AllPairs (λ here there. here ≢ there) (counted_histories question counts)
 
 -- the indices that go with a history, which a node at it holds, are those of exactly the class layouts that allow it
 abbrev pub KeptLayouts : Type 0
 KeptLayouts = (question : Question) (history : ClassHistory) (index : ℕ) → IsValid question
-    → Contains (allowing question history) index ↔ ((index < length (class_layouts question (sizes_of question))) × Allows question (counts_at (class_layouts question (sizes_of question)) index) history)
+    → Contains (allowing question history) index
+    ↔ ((index < length (class_layouts question (sizes_of question)))
+    × Allows question (counts_at (class_layouts question (sizes_of question)) index) history)
 
 -- at the path of each history that is counted for some class layout stands one node
 abbrev pub OneNodeAtEachPath : Type 0
-OneNodeAtEachPath = (question : Question) (counts : Counts) (history : ClassHistory) (root : Node) → IsValid question → Contains (listed_counts question) counts
-    → IsCounted question counts history → IsTreeAt MOST_MOVES question [] root → (node : Node) × (nodes_at history root ≡ node ∷ []) × StandsAt question history node
+OneNodeAtEachPath = (question : Question) (counts : Counts) (history : ClassHistory) (root : Node) → IsValid question
+    → Contains (listed_counts question) counts
+    → IsCounted question counts history → IsTreeAt MOST_MOVES question [] root → (node : Node)
+    × (nodes_at history root ≡ node ∷ []) × StandsAt question history node
 
 -- and at no other path any
 abbrev pub NoOtherNode : Type 0
 NoOtherNode = (question : Question) (history : ClassHistory) (root : Node) → IsValid question
-    → ((counts : Counts) → Contains (listed_counts question) counts → IsCounted question counts history → ⊥) → IsTreeAt MOST_MOVES question [] root → nodes_at history root ≡ []
+    → ((counts : Counts) → Contains (listed_counts question) counts → IsCounted question counts history → ⊥)
+    → IsTreeAt MOST_MOVES question [] root → nodes_at history root ≡ []
 
 -- what a node says of the play of single cards: of a legal history under a layout that merges to the node's path
 pub record TellsPlay (question : Question) (west : Cards) (history : History) (node : Node) : Type 0 where
   pub turn : turn_at node ≡ class_turn_at question (after question history)
-  pub payoff : is_decided question (after question history) ≡ true → payoff_at node ≡ payoff question.goal (after question history).won
-  -- to the nodes below that hold the class layout of this layout lead the merges of its legal moves, in their order, each once
+  pub payoff : is_decided question (after question history) ≡ true
+      → payoff_at node ≡ payoff question.goal (after question history).won
+  -- to the nodes below that hold the class layout of this layout lead the merges of its legal moves, in their order,
+  -- each once
   pub moves : is_decided question (after question history) ≡ false
       → (index : ℕ) → index < length (class_layouts question (sizes_of question))
       → counts_at (class_layouts question (sizes_of question)) index ≡ counts_of (hands_of question) west
@@ -65,7 +76,8 @@ pub record TellsPlay (question : Question) (west : Cards) (history : History) (n
 
 -- each node says so, for who will not read how positions are counted
 abbrev pub NodesTellPlay : Type 0
-NodesTellPlay = (question : Question) (west : Cards) (history : History) (root node : Node) → IsPlay question west history
+NodesTellPlay = (question : Question) (west : Cards) (history : History) (root node : Node)
+    → IsPlay question west history
     → IsTreeAt MOST_MOVES question [] root → Contains (nodes_at (merged (hands_of question) history) root) node
     → TellsPlay question west history node
 

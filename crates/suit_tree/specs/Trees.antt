@@ -1,5 +1,7 @@
--- The tree of all class histories of a question that are counted, with the class layouts of positive weight that allow each.
-use Rattle.std.specs.Prelude.{⊤, ◌≡◌, ℕ, zero, suc, List, [], ◌∷◌, ◌++◌, Some, None, length, filter, get_or, if◌then◌else◌, nat_lt}
+-- The tree of all class histories of a question that are counted, with the class layouts of positive weight that allow
+-- each.
+use Rattle.std.specs.Prelude.{⊤, ◌≡◌, ℕ, zero, suc, List, [], ◌∷◌, ◌++◌, Some, None, length, filter, get_or}
+use Rattle.std.specs.Prelude.{if◌then◌else◌, nat_lt}
 use Rattle.std.specs.List.{range_with_len}
 use Rattle.suit_cards.specs.Cards.{Counts, Indices}
 use Rattle.suit_game.specs.declared.question.Question.{Question}
@@ -29,14 +31,16 @@ allowing question history =
     filter (λ index. allows question (counts_at (class_layouts question (sizes_of question)) index) history)
     (layout_indices (class_layouts question (sizes_of question)))
 
--- the moves by which the tree goes on from a class history: none where it is decided, else in order those with which some
+-- the moves by which the tree goes on from a class history: none where it is decided, else in order those with which
+-- some
 -- class layout of positive weight allows it
 unfoldable pub moves_on : Question → ClassHistory → List ClassMove
 moves_on question history =
     if class_decided (class_after question history) then []
     else filter (λ move. nat_lt 0 (length (allowing question (history ++ move ∷ [])))) every_move
 
--- a node says who is on turn after a class history, which class layouts of positive weight allow it, and what the tricks
+-- a node says who is on turn after a class history, which class layouts of positive weight allow it, and what the
+-- tricks
 -- won are worth where it is decided, and 0 elsewhere
 pub record StandsAt (question : Question) (history : ClassHistory) (node : Node) : Type 0 where
   pub turn : turn_at node ≡ class_turn (class_after question history)

@@ -25,7 +25,8 @@ pub(crate) fn own_branches<'a>(
     position: &ClassPlace,
     indices: &'a [u8],
 ) -> Result<Vec<Branch<'a>>, AllocError>
-    ensures { IfOk result (λ branches. map branch_seen branches.items ≡ map (λ move. (move, indices.now)) (class_moves position.now [])) }
+    ensures { IfOk result (λ branches. map branch_seen branches.items
+        ≡ map (λ move. (move, indices.now)) (class_moves position.now [])) }
 {
     let moves = position.moves(&[]);
     let mut branches = Vec::with_capacity(alloc, moves.len())?;
@@ -45,7 +46,9 @@ pub(crate) fn their_branches<'a>(
 ) -> Result<Vec<Branch<'a>>, AllocError>
     requires turn { is_theirs (class_turn position.now) ≡ true }
     requires indices { All (λ index. index < length layouts.now) indices.now }
-    ensures { IfOk result (λ branches. map branch_seen branches.items ≡ map (λ move. (move, keeping layouts.now position.now indices.now move)) (moves_from layouts.now position.now indices.now)) }
+    ensures { IfOk result (λ branches. map branch_seen branches.items
+        ≡ map (λ move. (move, keeping layouts.now position.now indices.now move))
+        (moves_from layouts.now position.now indices.now)) }
 {
     let offers = offers_at(alloc, layouts, position, indices)?;
     let mut branches = Vec::new(alloc);
@@ -81,7 +84,8 @@ fn offers_at(
     indices: &[u8],
 ) -> Result<Vec<Offers>, AllocError>
     requires { All (λ index. index < length layouts.now) indices.now }
-    ensures { IfOk result (λ offers. AllZip (λ index told. Tells told (class_moves position.now (counts_at layouts.now index))) indices.now offers.items) }
+    ensures { IfOk result (λ offers. AllZip
+        (λ index told. Tells told (class_moves position.now (counts_at layouts.now index))) indices.now offers.items) }
 {
     let mut offers = Vec::with_capacity(alloc, indices.len())?;
     for index in indices {

@@ -1,5 +1,6 @@
 //! How the tree of a question is grown.
-ghost use Rattle.std.specs.Prelude.{◌≡◌, ◌+◌, ◌<◌, ◌≤◌, [], All, IfOk, IfErr, OnOk, length, map, vec_len, if◌then◌else◌};
+ghost use Rattle.std.specs.Prelude.{◌≡◌, ◌+◌, ◌<◌, ◌≤◌, [], All, IfOk, IfErr, OnOk, length, map, vec_len};
+ghost use Rattle.std.specs.Prelude.{if◌then◌else◌};
 ghost use Rattle.std.specs.List.{range_with_len};
 ghost use Rattle.suit_tree.specs.declared.tree_end.TreeEnd.TheVariants.{Nodes, Memory};
 ghost use Rattle.suit_game.specs.Validity.{IsValid};
@@ -103,9 +104,11 @@ impl<'a> Growth<'a, '_> {
         requires within { pairs.old ≤ self.now.budget }
         ensures last { IfOk result (λ node. move_to node ≡ by) }
         ensures grown { IfOk result (λ node. IsGrown more self.now.layouts.now position indices.now node) }
-        ensures counted { OnOk result (pairs.new ≡ pairs.old + pairs_from more self.now.layouts.now position indices.now) }
+        ensures counted { OnOk result (pairs.new
+            ≡ pairs.old + pairs_from more self.now.layouts.now position indices.now) }
         ensures within { OnOk result (pairs.new ≤ self.now.budget) }
-        ensures end { IfErr result (λ end. IsPastBudget (pairs.old + pairs_from more self.now.layouts.now position indices.now) self.now.budget end) }
+        ensures end { IfErr result (λ end. IsPastBudget (pairs.old
+            + pairs_from more self.now.layouts.now position indices.now) self.now.budget end) }
     {
         self.count(indices.len(), pairs)?;
         let branches = self.branches(&position, indices, more)?;
@@ -133,7 +136,8 @@ impl<'a> Growth<'a, '_> {
     ) -> Result<Vec<Branch<'a>>, AllocError>
         requires some { 0 < length indices.now }
         requires indices { All (λ index. index < length self.now.layouts.now) indices.now }
-        ensures { IfOk result (λ branches. map branch_seen branches.items ≡ branched more self.now.layouts.now position.now indices.now) }
+        ensures { IfOk result (λ branches. map branch_seen branches.items
+            ≡ branched more self.now.layouts.now position.now indices.now) }
     {
         if more == 0 {
             return Ok(Vec::new(self.alloc));

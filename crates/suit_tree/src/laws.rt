@@ -1,5 +1,6 @@
 //! Laws of the counted class histories and of the tree: each is the contract of an empty function.
-ghost use Rattle.suit_tree.specs.TreeLaws.{AllowsIsAllowed, ChildrenRise, CountedExactly, CountedOnce, KeptLayouts, NoOtherNode, NodesTellPlay, OneNodeAtEachPath};
+ghost use Rattle.suit_tree.specs.TreeLaws.{AllowsIsAllowed, ChildrenRise, CountedExactly, CountedOnce, KeptLayouts};
+ghost use Rattle.suit_tree.specs.TreeLaws.{NoOtherNode, NodesTellPlay, OneNodeAtEachPath};
 
 /// The class layouts of positive weight are told to allow the class histories that they allow.
 pub fn allows_is_allowed()
@@ -31,7 +32,8 @@ pub fn no_other_node()
     ensures { NoOtherNode }
 {}
 
-/// A node at the path to which a legal history of single cards merges says what that play does: who is on turn, what the
+/// A node at the path to which a legal history of single cards merges says what that play does: who is on turn, what
+/// the
 /// tricks won are worth where nothing can change it, and which moves come next under the layout.
 pub fn nodes_tell_play()
     ensures { NodesTellPlay }

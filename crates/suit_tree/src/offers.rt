@@ -30,7 +30,9 @@ impl Offers {
 
     // One move more.
     fn add(&mut self, mv: ClassMove)
-        ensures follows { (class : ℕ) → class < 13 → get_or self.new.follows class false ≡ (get_or self.old.follows class false || same_class_move (Follow class) mv) }
+        ensures follows { (class : ℕ) → class < 13
+            → get_or self.new.follows class false
+            ≡ (get_or self.old.follows class false || same_class_move (Follow class) mv) }
         ensures shows_out { self.new.shows_out ≡ (self.old.shows_out || same_class_move ShowOut mv) }
     {
         match mv {

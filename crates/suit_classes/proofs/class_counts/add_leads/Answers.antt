@@ -12,10 +12,14 @@ push-requires c =
     let room =
     moves_room (Lead c.args.seat) (λ class. nat_lt 0 (slice_index c.args.left.now class)) c.loop-class.class
     (omega arith) (counts_some _ c.if-left-class-gt0.true) in
-    let long : length c.loop-class.leads.items ≡ length c.args.leads.now.items + length (map (Lead c.args.seat) (filter (λ class. nat_lt 0 (slice_index c.args.left.now class)) (range_with_len 0 c.loop-class.class))) =
+    let long : length c.loop-class.leads.items
+    ≡ length c.args.leads.now.items
+    + length (map (Lead c.args.seat)
+    (filter (λ class. nat_lt 0 (slice_index c.args.left.now class)) (range_with_len 0 c.loop-class.class))) =
     ap length c.loop-class.invariant
     ∙ length-append c.args.leads.now.items
-    (map (Lead c.args.seat) (filter (λ class. nat_lt 0 (slice_index c.args.left.now class)) (range_with_len 0 c.loop-class.class))) in
+    (map (Lead c.args.seat) (filter (λ class. nat_lt 0 (slice_index c.args.left.now class))
+    (range_with_len 0 c.loop-class.class))) in
     (omega arith, omega (arith, long, room, c.requires))
 
 pub loop-class-preserved : goal.loop-class-preserved

@@ -19,11 +19,14 @@ loop-class-preserved c =
           filled_next
           (held_by c.args.classes.now c.args.owner) c.loop-class.dealt c.loop-class.class c.if-is.dealt w.size.result
           (omega (arith, c.count-class-end.ensures.most)) c.loop-class.invariant w.dealt-is
-          (w.size.ensures.value ∙ ap (λ (b : Bool). if b then class_size c.args.classes.now c.loop-class.class else 0) (sym w.if-is.true ∙ told))
+          (w.size.ensures.value ∙ ap (λ (b : Bool). if b then class_size c.args.classes.now c.loop-class.class
+          else 0) (sym w.if-is.true ∙ told))
       | else-is w ↦
           filled_kept
-          (held_by c.args.classes.now c.args.owner) c.loop-class.dealt c.loop-class.class c.if-is.dealt c.loop-class.invariant w.dealt-is
-          (ap (λ (b : Bool). if b then class_size c.args.classes.now c.loop-class.class else 0) (sym told ∙ w.if-is.false))
+          (held_by c.args.classes.now c.args.owner) c.loop-class.dealt c.loop-class.class c.if-is.dealt
+          c.loop-class.invariant w.dealt-is
+          (ap (λ (b : Bool). if b then class_size c.args.classes.now c.loop-class.class else 0) (sym told
+          ∙ w.if-is.false))
     ]
 
 pub returns : goal.returns

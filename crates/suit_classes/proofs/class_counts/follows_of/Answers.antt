@@ -4,7 +4,8 @@ use Rattle.std.proofs.lemmas.Bool.{eqb-true, eqb-false}
 use Rattle.suit_classes.specs.declared.class_moves.ClassMove.{ClassMove}
 use Rattle.suit_classes.specs.declared.class_moves.ClassMove.TheVariants.{Follow, ShowOut}
 use Rattle.suit_classes.specs.ClassPlaces.{counted_classes}
-use Rattle.suit_classes.proofs.CountedLists.{moves_next, moves_room, class_numbers-all, counts_some, counts_none, counted_classes-most, or_show_out-none, or_show_out-some}
+use Rattle.suit_classes.proofs.CountedLists.{moves_next, moves_room, class_numbers-all, counts_some, counts_none}
+use Rattle.suit_classes.proofs.CountedLists.{counted_classes-most, or_show_out-none, or_show_out-some}
 use Rattle.suit_classes.proofs.class_counts.follows_of.Goals as goal
 use Rattle.suit_classes.proofs.class_counts.follows_of.Goals.{then-left-class-gt0, else-left-class-gt0}
 
@@ -46,4 +47,5 @@ returns-else-is_empty c =
     ∙ ap (map Follow)
     (class_numbers-all (λ class. nat_lt 0 (slice_index c.args.left.now class)) c.loop-class.class (omega arith)) in
     all ∙ or_show_out-some (map Follow (counted_classes c.args.left.now))
-    (λ none. eqb-false (length c.loop-class.follows.items) 0 (sym c.is_empty.ensures ∙ c.if-is_empty.false) (ap length all ∙ none))
+    (λ none. eqb-false (length c.loop-class.follows.items) 0 (sym c.is_empty.ensures
+    ∙ c.if-is_empty.false) (ap length all ∙ none))

@@ -11,5 +11,6 @@ use Rattle.suit_game.proofs.examples.known_west_gains.Goals as goal
 use Rattle.suit_game.specs.Question.{plain}
 
 pub returns : goal.returns
-unfolding suit next_row binomial_row binomial choices_of layouts without legal_in step_in same_play number_of by_rows by_defence_rows weighed total_weight weighted_sum pay_within plain from_south known_west ace_on_two split_honours
+unfolding suit next_row binomial_row binomial choices_of layouts without legal_in step_in same_play number_of by_rows
+    by_defence_rows weighed total_weight weighted_sum pay_within plain from_south known_west ace_on_two split_honours
 returns c = (refl, refl, refl)

@@ -19,13 +19,21 @@ returns-clause-few c =
     let all = class_layouts c.args.question.now c.args.sizes.now in
     let few = class_layouts_few c.args.question.now c.args.sizes.now c.requires.blocks in
     let value = items_from_collect c.collect.result c.collect.ensures.ran
-    (YieldsList-from_first (λ (layout : List ℕ × ℕ). layout) (λ (walk : List (List ℕ × ℕ)). walk) all c.new.ensures.value) in
-    if_ok_gives (λ list. list.items ≡ all) (λ list. vec_len list ≤ 162) c.collect.result value (λ list is. omega (arith, ap length is, few))
+    (YieldsList-from_first (λ (layout : List ℕ × ℕ). layout) (λ (walk : List (List ℕ × ℕ)). walk) all
+    c.new.ensures.value) in
+    if_ok_gives (λ list. list.items ≡ all) (λ list. vec_len list ≤ 162) c.collect.result value (λ list is. omega (
+      arith,
+      ap length is,
+      few,
+    ))
 
 pub returns-clause-total : goal.returns-clause-total
 returns-clause-total c =
     let all = class_layouts c.args.question.now c.args.sizes.now in
     let value = items_from_collect c.collect.result c.collect.ensures.ran
-    (YieldsList-from_first (λ (layout : List ℕ × ℕ). layout) (λ (walk : List (List ℕ × ℕ)). walk) all c.new.ensures.value) in
-    if_ok_gives (λ list. list.items ≡ all) (λ list. sum_by (λ layout. layout.1) list.items ≡ total c.args.question.now) c.collect.result value
-    (λ list is. ap (λ (layouts : List (List ℕ × ℕ)). sum_by (λ layout. layout.1) layouts) is ∙ class_weights_add_up c.args.question.now c.args.sizes.now c.requires.blocks.filled)
+    (YieldsList-from_first (λ (layout : List ℕ × ℕ). layout) (λ (walk : List (List ℕ × ℕ)). walk) all
+    c.new.ensures.value) in
+    if_ok_gives (λ list. list.items ≡ all) (λ list. sum_by (λ layout. layout.1) list.items
+    ≡ total c.args.question.now) c.collect.result value
+    (λ list is. ap (λ (layouts : List (List ℕ × ℕ)). sum_by (λ layout. layout.1) layouts) is
+    ∙ class_weights_add_up c.args.question.now c.args.sizes.now c.requires.blocks.filled)

@@ -9,5 +9,6 @@ use Rattle.suit_layouts.specs.ClassLayouts.{class_layouts, class_weight, counts_
 use Rattle.suit_layouts.proofs.examples.two_apart.Goals as goal
 
 pub returns : goal.returns
-unfolding suit next_row binomial_row binomial choices_of layouts plain from_south eleven_cards tenace blocks_of class_layouts class_weight counts_up_to weighed
+unfolding suit next_row binomial_row binomial choices_of layouts plain from_south eleven_cards tenace blocks_of
+    class_layouts class_weight counts_up_to weighed
 returns c = refl

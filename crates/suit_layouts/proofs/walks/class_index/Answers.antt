@@ -11,11 +11,14 @@ position-requires-clause-fits c =
 
 pub returns-clause-index : goal.returns-clause-index
 returns-clause-index c =
-    position_from_yields_List (λ (layout : List ℕ × ℕ). same_counts layout.0 c.args.counts.now) _ _ _ c.position.ensures.ran
-    (YieldsList-from_first (λ (layout : List ℕ × ℕ). layout) (λ (walk : List (List ℕ × ℕ)). walk) (class_layouts c.args.question.now c.args.sizes.now) c.new.ensures.value)
+    position_from_yields_List (λ (layout : List ℕ × ℕ). same_counts layout.0 c.args.counts.now) _ _ _
+    c.position.ensures.ran
+    (YieldsList-from_first (λ (layout : List ℕ × ℕ). layout) (λ (walk : List (List ℕ × ℕ)). walk)
+    (class_layouts c.args.question.now c.args.sizes.now) c.new.ensures.value)
     (λ x b q k. search (rules, tests))
 
-if_below : (most least : ℕ) (index : Option ℕ) → IfSome index (λ n. n < least) → least ≤ most → IfSome index (λ n. n < most)
+if_below : (most least : ℕ) (index : Option ℕ) → IfSome index (λ n. n < least) → least ≤ most
+    → IfSome index (λ n. n < most)
 if_below most least None is few = tt
 if_below most least (Some index) is few = omega (arith, is)
 

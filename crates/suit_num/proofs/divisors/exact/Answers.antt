@@ -7,5 +7,6 @@ use Rattle.suit_num.proofs.divisors.exact.Goals as goal
 
 pub returns : goal.returns
 returns c =
-    ap (λ (z : ℤ). z *ℤ c.args.divisor) (quot_is w128 _ _ c.ranges.a c.ranges.divisor (quot_fits w128 _ _ c.ranges.a c.requires.positive))
+    ap (λ (z : ℤ). z *ℤ c.args.divisor)
+    (quot_is w128 _ _ c.ranges.a c.ranges.divisor (quot_fits w128 _ _ c.ranges.a c.requires.positive))
     ∙ div-mul _ _ c.requires.divides

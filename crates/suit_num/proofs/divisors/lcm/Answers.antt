@@ -18,6 +18,7 @@ returns c =
     let b_fits : FitsSigned w128 c.args.b = c.ranges.b in
     let divisor_fits : FitsSigned w128 c.gcd.result = search rules in
     let exact_fits : FitsSigned w128 c.exact.result = search rules in
-    let is = signed_lcm c.args.a c.args.b c.gcd.result c.exact.result c.requires.positive_a c.requires.positive_b (simp to_z-of_z at c.gcd.ensures.greatest) c.gcd.ensures.positive (simp to_z-of_z at c.exact.ensures) in
+    let is = signed_lcm c.args.a c.args.b c.gcd.result c.exact.result c.requires.positive_a c.requires.positive_b
+    (simp to_z-of_z at c.gcd.ensures.greatest) c.gcd.ensures.positive (simp to_z-of_z at c.exact.ensures) in
     let product = simp to_z-of_z at c.mul.ensures in
     record { value = rw is.0 at product; least = some_least _ _ c.mul.result _ _ product is.1 }

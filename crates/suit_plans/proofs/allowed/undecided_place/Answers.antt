@@ -6,18 +6,25 @@ use Rattle.suit_plans.proofs.AllowedWalks.{undecided_last, undecided_next, undec
 use Rattle.suit_plans.proofs.allowed.undecided_place.Goals as goal
 
 pub loop-index-init : goal.loop-index-init
-loop-index-init c = record { at = c.start-place.ensures; left = ap (λ v. goes_undecided v c.args.history.now) c.start-place.ensures }
+loop-index-init c = record {
+  at = c.start-place.ensures;
+  left = ap (λ v. goes_undecided v c.args.history.now) c.start-place.ensures;
+}
 
 pub returns-then-decided : goal.returns-then-decided
 returns-then-decided c =
-    sym (undecided_on c.args.question.now c.args.history.now c.loop-index.index (Lead N 0) c.loop-index.place true c.loop-index-test.true c.loop-index.invariant c.if-decided.ensures.value)
+    sym (undecided_on c.args.question.now c.args.history.now c.loop-index.index (Lead N 0) c.loop-index.place true
+    c.loop-index-test.true c.loop-index.invariant c.if-decided.ensures.value)
 
 pub loop-index-preserved : goal.loop-index-preserved
 loop-index-preserved c =
     let index = c.loop-index.index in
-    let short : length (take index c.args.history.now) ≤ 52 = omega (arith, length-take index c.args.history.now, c.loop-index-test.true, c.requires) in
-    undecided_next c.args.question.now c.args.history.now index (Lead N 0) c.loop-index.place c.step-place.result c.loop-index-test.true c.loop-index.invariant c.if-decided.ensures.value
+    let short : length (take index c.args.history.now) ≤ 52 =
+    omega (arith, length-take index c.args.history.now, c.loop-index-test.true, c.requires) in
+    undecided_next c.args.question.now c.args.history.now index (Lead N 0) c.loop-index.place c.step-place.result
+    c.loop-index-test.true c.loop-index.invariant c.if-decided.ensures.value
     (c.step-place.ensures c.args.question.now (take index c.args.history.now) short c.loop-index.invariant.at)
 
 pub returns : goal.returns
-returns c = undecided_last c.args.question.now c.args.history.now c.loop-index.index c.loop-index.place c.loop-index-test.false c.loop-index.invariant
+returns c = undecided_last c.args.question.now c.args.history.now c.loop-index.index c.loop-index.place
+    c.loop-index-test.false c.loop-index.invariant

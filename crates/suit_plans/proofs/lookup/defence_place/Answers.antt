@@ -9,6 +9,7 @@ use Rattle.suit_plans.proofs.lookup.defence_place.Goals as goal
 pub returns : goal.returns
 returns c =
     let earlier = λ (row : DefenceRow). key_before row.west row.history c.args.counts.now c.args.history.now in
-    let parted = parted_by defence_row_before earlier (λ (row : DefenceRow). bytes_eq row.west c.args.counts.now && same_class_history row.history c.args.history.now) c.args.rows.now
+    let parted = parted_by defence_row_before earlier (λ (row : DefenceRow). bytes_eq row.west c.args.counts.now
+    && same_class_history row.history c.args.history.now) c.args.rows.now
     (Keyed-defences c.args.counts.now c.args.history.now) c.requires in
     IsPartitionPoint-from_clause earlier _ _ c.partition_point.ensures.partitioned parted (λ a r q k. search rules)

@@ -24,7 +24,8 @@ returns-in_err-row c =
     let history = c.args.history.now in
     rw c.from_residual.ensures
     (sym (ap counts_of
-    (found_none defence_row_before (earlier counts history) (here counts history) c.args.rows.now c.defence_place.result (Keyed-defences counts history) c.defence_place.ensures c.in_err-row.ensures.lookup.3)))
+    (found_none defence_row_before (earlier counts history) (here counts history) c.args.rows.now c.defence_place.result
+    (Keyed-defences counts history) c.defence_place.ensures c.in_err-row.ensures.lookup.3)))
 
 pub returns-then-is_row_of : goal.returns-then-is_row_of
 unfolding defence_shares_at
@@ -32,7 +33,8 @@ returns-then-is_row_of c =
     let counts = c.args.counts.now in
     let history = c.args.history.now in
     sym (ap counts_of
-    (found_row defence_row_before (earlier counts history) (here counts history) c.args.rows.now c.defence_place.result c.in_ok-row.row.now true (Keyed-defences counts history) c.requires c.defence_place.ensures
+    (found_row defence_row_before (earlier counts history) (here counts history) c.args.rows.now c.defence_place.result
+    c.in_ok-row.row.now true (Keyed-defences counts history) c.requires c.defence_place.ensures
     c.in_ok-row.ensures.lookup.3.0 c.in_ok-row.ensures.lookup.1 c.if-is_row_of.ensures))
 
 pub returns-else-is_row_of : goal.returns-else-is_row_of
@@ -41,5 +43,6 @@ returns-else-is_row_of c =
     let counts = c.args.counts.now in
     let history = c.args.history.now in
     sym (ap counts_of
-    (found_row defence_row_before (earlier counts history) (here counts history) c.args.rows.now c.defence_place.result c.in_ok-row.row.now false (Keyed-defences counts history) c.requires c.defence_place.ensures
+    (found_row defence_row_before (earlier counts history) (here counts history) c.args.rows.now c.defence_place.result
+    c.in_ok-row.row.now false (Keyed-defences counts history) c.requires c.defence_place.ensures
     c.in_ok-row.ensures.lookup.3.0 c.in_ok-row.ensures.lookup.1 c.if-is_row_of.ensures))

@@ -21,20 +21,25 @@ unfolding plan_shares_at
 returns-in_err-row c =
     let history = c.args.history.now in
     rw c.from_residual.ensures
-    (sym (ap counts_of (found_none plan_row_before (earlier history) (here history) c.args.rows.now c.plan_place.result (Keyed-histories history) c.plan_place.ensures c.in_err-row.ensures.lookup.3)))
+    (sym (ap counts_of (found_none plan_row_before (earlier history) (here history) c.args.rows.now c.plan_place.result
+    (Keyed-histories history) c.plan_place.ensures c.in_err-row.ensures.lookup.3)))
 
 pub returns-then-is_same_history : goal.returns-then-is_same_history
 unfolding plan_shares_at
 returns-then-is_same_history c =
     let history = c.args.history.now in
     sym (ap counts_of
-    (found_row plan_row_before (earlier history) (here history) c.args.rows.now c.plan_place.result c.in_ok-row.row.now true (Keyed-histories history) c.requires c.plan_place.ensures
-    c.in_ok-row.ensures.lookup.3.0 c.in_ok-row.ensures.lookup.1 (c.if-is_same_history.ensures ∙ ap (λ (h : List ClassMove). same_class_history h history) c.items.ensures)))
+    (found_row plan_row_before (earlier history) (here history) c.args.rows.now c.plan_place.result c.in_ok-row.row.now
+    true (Keyed-histories history) c.requires c.plan_place.ensures
+    c.in_ok-row.ensures.lookup.3.0 c.in_ok-row.ensures.lookup.1 (c.if-is_same_history.ensures
+    ∙ ap (λ (h : List ClassMove). same_class_history h history) c.items.ensures)))
 
 pub returns-else-is_same_history : goal.returns-else-is_same_history
 unfolding plan_shares_at
 returns-else-is_same_history c =
     let history = c.args.history.now in
     sym (ap counts_of
-    (found_row plan_row_before (earlier history) (here history) c.args.rows.now c.plan_place.result c.in_ok-row.row.now false (Keyed-histories history) c.requires c.plan_place.ensures
-    c.in_ok-row.ensures.lookup.3.0 c.in_ok-row.ensures.lookup.1 (c.if-is_same_history.ensures ∙ ap (λ (h : List ClassMove). same_class_history h history) c.items.ensures)))
+    (found_row plan_row_before (earlier history) (here history) c.args.rows.now c.plan_place.result c.in_ok-row.row.now
+    false (Keyed-histories history) c.requires c.plan_place.ensures
+    c.in_ok-row.ensures.lookup.3.0 c.in_ok-row.ensures.lookup.1 (c.if-is_same_history.ensures
+    ∙ ap (λ (h : List ClassMove). same_class_history h history) c.items.ensures)))

@@ -5,4 +5,5 @@ use Rattle.suit_plans.proofs.EarlierLists.{cmp_earlier}
 use Rattle.suit_plans.proofs.order.counts_are_before.Goals as goal
 
 pub returns : goal.returns
-returns c = c.lt.ensures ∙ cmp_earlier (λ (a b : ℕ). Some (nat_cmp a b)) nat_lt (λ (a b : ℕ). a == b) (λ a b. refl) c.args.here.now c.args.there.now
+returns c = c.lt.ensures ∙ cmp_earlier (λ (a b : ℕ). Some (nat_cmp a b)) nat_lt (λ (a b : ℕ). a == b) (λ a b. refl)
+    c.args.here.now c.args.there.now

@@ -7,4 +7,5 @@ use Rattle.suit_plans.proofs.EarlierLists.{cmp_earlier}
 use Rattle.suit_plans.proofs.order.history_is_before.Goals as goal
 
 pub returns : goal.returns
-returns c = c.lt.ensures ∙ cmp_earlier order.ghosts.partial_cmp stands_before same_class_move cmp_stands c.args.here.now c.args.there.now
+returns c = c.lt.ensures ∙ cmp_earlier order.ghosts.partial_cmp stands_before same_class_move cmp_stands c.args.here.now
+    c.args.there.now

@@ -17,14 +17,16 @@ pub returns-then-not-is_den : goal.returns-then-not-is_den
 unfolding defence_verdict
 returns-then-not-is_den c =
     let fits : SFits w128 c.args.defence.now.den = search rules in
-    den_first c.args.defence.now.den _ (c.if-not-is_den.ensures ∙ ap is_within (to_z-of_z w128 c.args.defence.now.den fits))
+    den_first c.args.defence.now.den _ (c.if-not-is_den.ensures
+    ∙ ap is_within (to_z-of_z w128 c.args.defence.now.den fits))
 
 pub loop-index-init : goal.loop-index-init
 loop-index-init c = none_first (defence_row_fault c.args.question.now c.args.defence.now.den) c.items-rows.result.now
 
 pub defence_row_fault-fault-requires-clause-order : goal.defence_row_fault-fault-requires-clause-order
 defence_row_fault-fault-requires-clause-order c =
-    faultless_in_order defence_row_before (defence_row_fault c.args.question.now c.args.defence.now.den) (take c.loop-index.index c.items-rows.result.now) IsRowOrder-defences
+    faultless_in_order defence_row_before (defence_row_fault c.args.question.now c.args.defence.now.den)
+    (take c.loop-index.index c.items-rows.result.now) IsRowOrder-defences
     (told_order c.args.question.now c.args.defence.now.den) c.loop-index.invariant.faultless
 
 pub returns-in-Some : goal.returns-in-Some
@@ -34,11 +36,15 @@ returns-in-Some c =
     let fits : SFits w128 den = search rules in
     let fault = defence_row_fault c.args.question.now den in
     let rows = c.items-rows.result.now in
-    let told = c.in-Some.ensures ∙ ap (λ (d : ℤ). defence_row_fault c.args.question.now d (take c.loop-index.index rows) c.index-rows-index.result) (to_z-of_z w128 den fits) in
-    seen_row fault rows c.loop-index.index c.index-rows-index.result (Some c.in-Some.kind) c.loop-index-test.true c.loop-index.invariant
+    let told = c.in-Some.ensures ∙ ap
+    (λ (d : ℤ). defence_row_fault c.args.question.now d (take c.loop-index.index rows)
+    c.index-rows-index.result) (to_z-of_z w128 den fits) in
+    seen_row fault rows c.loop-index.index c.index-rows-index.result (Some c.in-Some.kind) c.loop-index-test.true
+    c.loop-index.invariant
     (told ∙ ap (fault (take c.loop-index.index rows)) c.index-rows-index.is)
     ∙ ap (first_fault fault []) c.items-rows.ensures.value
-    ∙ rows_tell den (first_fault fault [] c.args.defence.now.rows) (c.if-not-is_den.ensures ∙ ap is_within (to_z-of_z w128 den fits))
+    ∙ rows_tell den (first_fault fault [] c.args.defence.now.rows) (c.if-not-is_den.ensures
+    ∙ ap is_within (to_z-of_z w128 den fits))
 
 pub defence_row_fault-fault-requires-clause-den : goal.defence_row_fault-fault-requires-clause-den
 defence_row_fault-fault-requires-clause-den c =
@@ -52,7 +58,9 @@ loop-index-preserved c =
     let fits : SFits w128 den = search rules in
     let fault = defence_row_fault c.args.question.now den in
     let rows = c.items-rows.result.now in
-    let told = c.in_default.ensures ∙ ap (λ (d : ℤ). defence_row_fault c.args.question.now d (take c.loop-index.index rows) c.index-rows-index.result) (to_z-of_z w128 den fits) in
+    let told = c.in_default.ensures
+    ∙ ap (λ (d : ℤ). defence_row_fault c.args.question.now d (take c.loop-index.index rows)
+    c.index-rows-index.result) (to_z-of_z w128 den fits) in
     none_next fault rows c.loop-index.index c.index-rows-index.result c.loop-index-test.true c.loop-index.invariant
     (told ∙ ap (fault (take c.loop-index.index rows)) c.index-rows-index.is)
 
@@ -64,4 +72,5 @@ returns c =
     let fault = defence_row_fault c.args.question.now den in
     none_last fault c.items-rows.result.now c.loop-index.index c.loop-index-test.false c.loop-index.invariant
     ∙ ap (first_fault fault []) c.items-rows.ensures.value
-    ∙ rows_tell den (first_fault fault [] c.args.defence.now.rows) (c.if-not-is_den.ensures ∙ ap is_within (to_z-of_z w128 den fits))
+    ∙ rows_tell den (first_fault fault [] c.args.defence.now.rows) (c.if-not-is_den.ensures
+    ∙ ap is_within (to_z-of_z w128 den fits))

@@ -22,7 +22,8 @@ loop-index-init c = none_first (plan_row_fault c.args.question.now c.args.plan.n
 
 pub plan_row_fault-fault-requires-clause-order : goal.plan_row_fault-fault-requires-clause-order
 plan_row_fault-fault-requires-clause-order c =
-    faultless_in_order plan_row_before (plan_row_fault c.args.question.now c.args.plan.now.den) (take c.loop-index.index c.items-rows.result.now) IsRowOrder-histories
+    faultless_in_order plan_row_before (plan_row_fault c.args.question.now c.args.plan.now.den)
+    (take c.loop-index.index c.items-rows.result.now) IsRowOrder-histories
     (told_order c.args.question.now c.args.plan.now.den) c.loop-index.invariant.faultless
 
 pub returns-in-Some : goal.returns-in-Some
@@ -32,11 +33,15 @@ returns-in-Some c =
     let fits : SFits w128 den = search rules in
     let fault = plan_row_fault c.args.question.now den in
     let rows = c.items-rows.result.now in
-    let told = c.in-Some.ensures ∙ ap (λ (d : ℤ). plan_row_fault c.args.question.now d (take c.loop-index.index rows) c.index-rows-index.result) (to_z-of_z w128 den fits) in
-    seen_row fault rows c.loop-index.index c.index-rows-index.result (Some c.in-Some.kind) c.loop-index-test.true c.loop-index.invariant
+    let told = c.in-Some.ensures ∙ ap
+    (λ (d : ℤ). plan_row_fault c.args.question.now d (take c.loop-index.index rows) c.index-rows-index.result)
+    (to_z-of_z w128 den fits) in
+    seen_row fault rows c.loop-index.index c.index-rows-index.result (Some c.in-Some.kind) c.loop-index-test.true
+    c.loop-index.invariant
     (told ∙ ap (fault (take c.loop-index.index rows)) c.index-rows-index.is)
     ∙ ap (first_fault fault []) c.items-rows.ensures.value
-    ∙ rows_tell den (first_fault fault [] c.args.plan.now.rows) (c.if-not-is_den.ensures ∙ ap is_within (to_z-of_z w128 den fits))
+    ∙ rows_tell den (first_fault fault [] c.args.plan.now.rows) (c.if-not-is_den.ensures
+    ∙ ap is_within (to_z-of_z w128 den fits))
 
 pub loop-index-preserved : goal.loop-index-preserved
 loop-index-preserved c =
@@ -44,7 +49,9 @@ loop-index-preserved c =
     let fits : SFits w128 den = search rules in
     let fault = plan_row_fault c.args.question.now den in
     let rows = c.items-rows.result.now in
-    let told = c.in_default.ensures ∙ ap (λ (d : ℤ). plan_row_fault c.args.question.now d (take c.loop-index.index rows) c.index-rows-index.result) (to_z-of_z w128 den fits) in
+    let told = c.in_default.ensures
+    ∙ ap (λ (d : ℤ). plan_row_fault c.args.question.now d (take c.loop-index.index rows)
+    c.index-rows-index.result) (to_z-of_z w128 den fits) in
     none_next fault rows c.loop-index.index c.index-rows-index.result c.loop-index-test.true c.loop-index.invariant
     (told ∙ ap (fault (take c.loop-index.index rows)) c.index-rows-index.is)
 
@@ -56,4 +63,5 @@ returns c =
     let fault = plan_row_fault c.args.question.now den in
     none_last fault c.items-rows.result.now c.loop-index.index c.loop-index-test.false c.loop-index.invariant
     ∙ ap (first_fault fault []) c.items-rows.ensures.value
-    ∙ rows_tell den (first_fault fault [] c.args.plan.now.rows) (c.if-not-is_den.ensures ∙ ap is_within (to_z-of_z w128 den fits))
+    ∙ rows_tell den (first_fault fault [] c.args.plan.now.rows) (c.if-not-is_den.ensures
+    ∙ ap is_within (to_z-of_z w128 den fits))

@@ -7,6 +7,8 @@ use Rattle.suit_plans.proofs.proper.stands_after.Goals as goal
 
 pub returns-in-len1-up : goal.returns-in-len1-up
 returns-in-len1-up c =
-    c.history_is_before.ensures ∙ ap (λ (h : List ClassMove). history_before h c.items-in-len1-up.result.now) c.items.ensures
+    c.history_is_before.ensures ∙ ap (λ (h : List ClassMove). history_before h c.items-in-len1-up.result.now)
+    c.items.ensures
     ∙ ap (history_before c.last-item.result.history) c.items-in-len1-up.ensures
-    ∙ sym (last_asked (λ (last : Row). plan_row_before last c.args.row.now) c.args.before.now c.last-item.result c.in-len1-up.len_at_least c.last-item.is)
+    ∙ sym (last_asked (λ (last : Row). plan_row_before last c.args.row.now) c.args.before.now c.last-item.result
+    c.in-len1-up.len_at_least c.last-item.is)

@@ -7,15 +7,22 @@ use Rattle.suit_plans.proofs.row_faults.are_legal.Goals as goal
 
 pub returns-then-not-is_among : goal.returns-then-not-is_among
 returns-then-not-is_among c =
-    sym (all_from (λ count. is_among c.args.legal.now count.0) c.args.shares.now c.loop-count.count-index (Lead N 0, pos 0) false c.loop-count-test.true c.if-not-is_among.ensures)
+    sym (all_from (λ count. is_among c.args.legal.now count.0) c.args.shares.now c.loop-count.count-index (
+      Lead N 0,
+      pos 0,
+    ) false c.loop-count-test.true c.if-not-is_among.ensures)
     ∙ c.loop-count.invariant ∙ sym (all_mapped (is_among c.args.legal.now) (λ count. count.0) c.args.shares.now)
 
 pub loop-count-preserved : goal.loop-count-preserved
 loop-count-preserved c =
-    sym (all_from (λ count. is_among c.args.legal.now count.0) c.args.shares.now c.loop-count.count-index (Lead N 0, pos 0) true c.loop-count-test.true c.if-not-is_among.ensures)
+    sym (all_from (λ count. is_among c.args.legal.now count.0) c.args.shares.now c.loop-count.count-index (
+      Lead N 0,
+      pos 0,
+    ) true c.loop-count-test.true c.if-not-is_among.ensures)
     ∙ c.loop-count.invariant
 
 pub returns : goal.returns
 returns c =
-    sym (all_past (λ count. is_among c.args.legal.now count.0) c.args.shares.now c.loop-count.count-index c.loop-count-test.false)
+    sym (all_past (λ count. is_among c.args.legal.now count.0) c.args.shares.now c.loop-count.count-index
+    c.loop-count-test.false)
     ∙ c.loop-count.invariant ∙ sym (all_mapped (is_among c.args.legal.now) (λ count. count.0) c.args.shares.now)

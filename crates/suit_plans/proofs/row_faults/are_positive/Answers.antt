@@ -10,15 +10,24 @@ pub returns-then-not-is_positive : goal.returns-then-not-is_positive
 returns-then-not-is_positive c =
     let count = (get_or c.args.shares.now c.loop-count.count-index (Lead N 0, pos 0)).1 in
     let fits : SFits w128 count = search rules in
-    sym (all_from (λ count. int_le (pos 0) count.1) c.args.shares.now c.loop-count.count-index (Lead N 0, pos 0) false c.loop-count-test.true (c.if-not-is_positive.ensures ∙ ap (int_le (pos 0)) (to_z-of_z w128 count fits)))
+    sym (all_from (λ count. int_le (pos 0) count.1) c.args.shares.now c.loop-count.count-index (
+      Lead N 0,
+      pos 0,
+    ) false c.loop-count-test.true (c.if-not-is_positive.ensures
+    ∙ ap (int_le (pos 0)) (to_z-of_z w128 count fits)))
     ∙ c.loop-count.invariant
 
 pub loop-count-preserved : goal.loop-count-preserved
 loop-count-preserved c =
     let count = (get_or c.args.shares.now c.loop-count.count-index (Lead N 0, pos 0)).1 in
     let fits : SFits w128 count = search rules in
-    sym (all_from (λ count. int_le (pos 0) count.1) c.args.shares.now c.loop-count.count-index (Lead N 0, pos 0) true c.loop-count-test.true (c.if-not-is_positive.ensures ∙ ap (int_le (pos 0)) (to_z-of_z w128 count fits)))
+    sym (all_from (λ count. int_le (pos 0) count.1) c.args.shares.now c.loop-count.count-index (
+      Lead N 0,
+      pos 0,
+    ) true c.loop-count-test.true (c.if-not-is_positive.ensures
+    ∙ ap (int_le (pos 0)) (to_z-of_z w128 count fits)))
     ∙ c.loop-count.invariant
 
 pub returns : goal.returns
-returns c = sym (all_past (λ count. int_le (pos 0) count.1) c.args.shares.now c.loop-count.count-index c.loop-count-test.false) ∙ c.loop-count.invariant
+returns c = sym (all_past (λ count. int_le (pos 0) count.1) c.args.shares.now c.loop-count.count-index
+    c.loop-count-test.false) ∙ c.loop-count.invariant

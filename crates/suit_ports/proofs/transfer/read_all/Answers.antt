@@ -15,7 +15,8 @@ returns-then-count-limit-clause-taken g c = (
 pub returns-in_err-extend_from_slice-clause-taken :
     goal.returns-in_err-extend_from_slice-clause-taken
 returns-in_err-extend_from_slice-clause-taken g c =
-    let end = err_from_is_err_and c.from_residual-in_err-extend_from_slice.result c.from_residual-in_err-extend_from_slice.ensures.1 in
+    let end = err_from_is_err_and c.from_residual-in_err-extend_from_slice.result
+    c.from_residual-in_err-extend_from_slice.ensures.1 in
     rw (end.1, end.2) (
       c.loop-bytes.bytes.items ++ take c.in_ok-count.count c.take.new.into,
       omega (arith, length-append {A = ℕ}, length-take {A = ℕ}, c.in_ok-count.ensures.bound, c.take.auto.into),

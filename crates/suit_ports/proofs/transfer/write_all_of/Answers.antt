@@ -1,5 +1,6 @@
 -- What a put took comes after what was sent before it.
-use Rattle.std.proofs.Common.{◌≡◌, ◌++◌, ◌-◌, ◌+◌, ◌<◌, ◌≤◌, ℕ, Result, Ok, List, length, take, drop, sym, ap, ◌∙◌, subst, arith, rules}
+use Rattle.std.proofs.Common.{◌≡◌, ◌++◌, ◌-◌, ◌+◌, ◌<◌, ◌≤◌, ℕ, Result, Ok, List, length, take, drop, sym, ap, ◌∙◌}
+use Rattle.std.proofs.Common.{subst, arith, rules}
 use Rattle.std.proofs.Math.Seq.{take-add}
 use Rattle.std.proofs.lemmas.List.{take-take}
 use Rattle.std.proofs.KnownBytes.{Appends-trans}
@@ -17,8 +18,14 @@ pub loop-sent-preserved : goal.loop-sent-preserved
 loop-sent-preserved g c =
     let sent = c.loop-sent.sent in
     let bytes = c.args.bytes.now in
-    let joined : take (sent + c.in-Ok.count) bytes ≡ take sent bytes ++ take c.in-Ok.count (take (length bytes - sent) (drop sent bytes)) =
-    take-add sent c.in-Ok.count bytes ∙ ap (λ (l : List ℕ). take sent bytes ++ l) (sym (take-take c.in-Ok.count (length bytes - sent) (drop sent bytes) (omega (arith, c.in-Ok.ensures.bound)))) in
+    let joined : take (sent + c.in-Ok.count) bytes ≡ take sent bytes
+    ++ take c.in-Ok.count (take (length bytes - sent) (drop sent bytes)) =
+    take-add sent c.in-Ok.count bytes
+    ∙ ap (λ (l : List ℕ). take sent bytes
+    ++ l) (sym (take-take c.in-Ok.count (length bytes - sent) (drop sent bytes) (omega (
+      arith,
+      c.in-Ok.ensures.bound,
+    )))) in
     let no_rise : g.K.Sink.empties c.loop-sent.sink < g.K.Sink.empties c.put.new.self → ⊥ =
     λ rose. c.in-Ok.count-test.1 (one_count c.put.result _ _ c.in-Ok.is (c.put.ensures.only_empty rose).0) in
     record {

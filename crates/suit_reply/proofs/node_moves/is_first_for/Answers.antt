@@ -15,13 +15,16 @@ returns-then-holds c =
     let found =
     kept_on (holds_layout index) nodes at child c.loop-node-test.true
     (c.if-holds.ensures ∙ ap (holds_layout index) (sym (at_itself c.args.nodes.now c.loop-node.node-index no_node))) in
-    c.is_same.ensures ∙ ap (λ m. same_class_move m c.args.mv) (c.move_of.ensures ∙ ap move_of (sym (at_itself c.args.nodes.now c.loop-node.node-index no_node)))
+    c.is_same.ensures ∙ ap (λ m. same_class_move m c.args.mv) (c.move_of.ensures
+    ∙ ap move_of (sym (at_itself c.args.nodes.now c.loop-node.node-index no_node)))
     ∙ ap (λ (l : List Node). is_first_of l c.args.mv) (sym found ∙ c.loop-node.invariant)
 
 pub loop-node-preserved : goal.loop-node-preserved
 loop-node-preserved c =
-    sym (kept_past (holds_layout c.args.index) c.args.nodes.now c.loop-node.node-index (node_at c.args.nodes.now c.loop-node.node-index)
-    c.loop-node-test.true (c.if-holds.ensures ∙ ap (holds_layout c.args.index) (sym (at_itself c.args.nodes.now c.loop-node.node-index no_node))))
+    sym (kept_past (holds_layout c.args.index) c.args.nodes.now c.loop-node.node-index
+    (node_at c.args.nodes.now c.loop-node.node-index)
+    c.loop-node-test.true (c.if-holds.ensures
+    ∙ ap (holds_layout c.args.index) (sym (at_itself c.args.nodes.now c.loop-node.node-index no_node))))
     ∙ c.loop-node.invariant
 
 pub returns : goal.returns

@@ -13,4 +13,6 @@ returns c =
     let best_entry_fits : FitsSigned w128 c.args.best_entry = c.ranges.best_entry in
     let ratio_fits : FitsSigned w128 c.in_ok-ratio.ratio = search rules in
     let least_fits : FitsSigned w128 c.in_ok-least.least = search rules in
-    before_is (c.args.bound *ℤ c.args.best_entry) (c.args.best_bound *ℤ c.args.entry) c.in_ok-ratio.ratio c.in_ok-least.least c.args.lower c.precedes.result (simp to_z-of_z at c.in_ok-ratio.ensures) (simp to_z-of_z at c.in_ok-least.ensures) (simp to_z-of_z at c.precedes.ensures)
+    before_is (c.args.bound *ℤ c.args.best_entry) (c.args.best_bound *ℤ c.args.entry) c.in_ok-ratio.ratio
+    c.in_ok-least.least c.args.lower c.precedes.result (simp to_z-of_z at c.in_ok-ratio.ensures)
+    (simp to_z-of_z at c.in_ok-least.ensures) (simp to_z-of_z at c.precedes.ensures)

@@ -12,6 +12,9 @@ make_primitive-requires-clause-some c =
     let own_fits : FitsSigned w128 c.shares-own.result.0 = search rules in
     let other_fits : FitsSigned w128 c.shares-own.result.1 = search rules in
     let own : c.shares-own.result.0 ≡ share c.args.pivot c.args.entry = simp to_z-of_z at c.shares-own.ensures.pivot in
-    let other : c.shares-own.result.1 ≡ share c.args.entry c.args.pivot = simp to_z-of_z at c.shares-own.ensures.entry in
-    let value : c.combine.new.row ≡ combined c.shares-own.result.0 c.args.numbers.now c.shares-own.result.1 c.args.leaver.now = simp to_z-of_z at c.in_ok-combine.ensures.value in
+    let other : c.shares-own.result.1 ≡ share c.args.entry c.args.pivot =
+    simp to_z-of_z at c.shares-own.ensures.entry in
+    let value : c.combine.new.row
+    ≡ combined c.shares-own.result.0 c.args.numbers.now c.shares-own.result.1 c.args.leaver.now =
+    simp to_z-of_z at c.in_ok-combine.ensures.value in
     rw (value, own, other) c.requires.some

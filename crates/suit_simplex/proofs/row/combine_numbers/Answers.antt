@@ -13,4 +13,6 @@ returns c =
     let leaver_fits : FitsSigned w128 c.args.leaver = c.ranges.leaver in
     let first_fits : FitsSigned w128 c.in_ok-mul.field-0 = search rules in
     let second_fits : FitsSigned w128 c.in_ok-mul-2.field-0 = search rules in
-    combine_is c.args.own c.args.number c.args.other c.args.leaver c.in_ok-mul.field-0 c.in_ok-mul-2.field-0 _ (simp to_z-of_z at c.in_ok-mul.ensures) (simp to_z-of_z at c.in_ok-mul-2.ensures) (simp to_z-of_z at c.sub.ensures)
+    combine_is c.args.own c.args.number c.args.other c.args.leaver c.in_ok-mul.field-0 c.in_ok-mul-2.field-0 _
+    (simp to_z-of_z at c.in_ok-mul.ensures) (simp to_z-of_z at c.in_ok-mul-2.ensures)
+    (simp to_z-of_z at c.sub.ensures)

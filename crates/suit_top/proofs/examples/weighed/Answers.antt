@@ -18,5 +18,6 @@ use Rattle.suit_top.proofs.examples.weighed.Goals as goal
 
 pub returns : goal.returns
 unfolding digits suit letters spots_from holding_read next_row binomial_row binomial blocks_of choices_of layouts
-    without keyword_named pieces_of first_saying asked_by words_of class_below class_layouts class_weight counts_up_to weighed count_text layout_line weights_text
+    without keyword_named pieces_of first_saying asked_by words_of class_below class_layouts class_weight counts_up_to
+    weighed count_text layout_line weights_text
 returns c = record { two_cards = refl }

@@ -6,4 +6,5 @@ use Rattle.suit_tree.specs.Trees.{counts_at}
 use Rattle.suit_tree.proofs.branch.offers_at.Given as goal
 
 abbrev pub invariant-loop-index : goal.invariant-loop-index
-invariant-loop-index l = AllZip (λ index told. Tells told (class_moves l.position (counts_at l.layouts index))) (take l.index-index l.indices) l.offers.items
+invariant-loop-index l = AllZip (λ index told. Tells told (class_moves l.position (counts_at l.layouts index)))
+    (take l.index-index l.indices) l.offers.items

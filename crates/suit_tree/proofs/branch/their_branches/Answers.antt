@@ -7,7 +7,8 @@ use Rattle.suit_tree.proofs.branch.their_branches.Goals as goal
 use Rattle.suit_tree.proofs.branch.their_branches.Goals.{then-not-is_empty+in_ok-push, else-not-is_empty}
 
 pub kept-requires : goal.kept-requires
-kept-requires c = zip_length _ c.args.indices.now c.in_ok-offers.offers.items c.in_ok-offers.ensures ∙ ap length (sym c.deref.ensures.value)
+kept-requires c = zip_length _ c.args.indices.now c.in_ok-offers.offers.items c.in_ok-offers.ensures
+    ∙ ap length (sym c.deref.ensures.value)
 
 pub loop-mv-preserved : goal.loop-mv-preserved
 loop-mv-preserved c =
@@ -15,17 +16,21 @@ loop-mv-preserved c =
     let view = c.args.position.now in
     let indices = c.args.indices.now in
     let moves = c.as_slice-mv-items.result.now in
-    let theirs = their_at moves c.loop-mv.mv-index _ (c.as_slice-mv-items.ensures.value ∙ c.their_moves.ensures) c.loop-mv-test.true in
+    let theirs = their_at moves c.loop-mv.mv-index _ (c.as_slice-mv-items.ensures.value
+    ∙ c.their_moves.ensures) c.loop-mv-test.true in
     let kept_is =
     rw c.deref.ensures.value at c.in_ok-kept.ensures
     ∙ kept_keeping layouts view _ indices c.in_ok-offers.offers.items c.in_ok-offers.ensures (offered_tells _ theirs) in
     elim c.if-not-is_empty.branch [
       | then-not-is_empty+in_ok-push w ↦
-          branch_more layouts view indices c.loop-mv.branches.items c.if-not-is_empty.branches.items _ moves c.loop-mv.mv-index _ c.loop-mv-test.true
-          (ap (λ v. v.items) w.branches-is ∙ w.in_ok-push.ensures.items) refl kept_is (is_some _ w.if-not-is_empty.ensures)
+          branch_more layouts view indices c.loop-mv.branches.items c.if-not-is_empty.branches.items _ moves
+          c.loop-mv.mv-index _ c.loop-mv-test.true
+          (ap (λ v. v.items) w.branches-is
+          ∙ w.in_ok-push.ensures.items) refl kept_is (is_some _ w.if-not-is_empty.ensures)
           c.loop-mv.invariant
       | else-not-is_empty w ↦
-          branch_none layouts view indices c.loop-mv.branches.items c.if-not-is_empty.branches.items moves c.loop-mv.mv-index _ _ c.loop-mv-test.true
+          branch_none layouts view indices c.loop-mv.branches.items c.if-not-is_empty.branches.items moves
+          c.loop-mv.mv-index _ _ c.loop-mv-test.true
           kept_is (is_none _ w.if-not-is_empty.ensures) (ap (λ v. v.items) w.branches-is) c.loop-mv.invariant
     ]
 
@@ -35,5 +40,10 @@ returns c =
     let view = c.args.position.now in
     let indices = c.args.indices.now in
     let moves = c.as_slice-mv-items.result.now in
-    rw (take_all c.loop-mv.mv-index moves (omega arith), c.as_slice-mv-items.ensures.value, c.their_moves.ensures, their_made layouts view indices c.requires.turn)
+    rw (
+      take_all c.loop-mv.mv-index moves (omega arith),
+      c.as_slice-mv-items.ensures.value,
+      c.their_moves.ensures,
+      their_made layouts view indices c.requires.turn,
+    )
     at c.loop-mv.invariant

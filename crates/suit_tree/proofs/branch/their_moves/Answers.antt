@@ -12,7 +12,8 @@ use Rattle.suit_tree.proofs.branch.their_moves.Goals as goal
 pub loop-class-preserved : goal.loop-class-preserved
 loop-class-preserved c = record {
   so_far =
-      c.push.ensures.items ∙ ap (λ (l : List ClassMove). l ++ Follow c.loop-class.class ∷ []) c.loop-class.invariant.so_far
+      c.push.ensures.items ∙ ap (λ (l : List ClassMove). l ++ Follow c.loop-class.class
+      ∷ []) c.loop-class.invariant.so_far
       ∙ sym (map-range_with_len_more Follow 0 c.loop-class.class c.loop-class.class (omega arith));
   long =
       ap length c.push.ensures.items ∙ length-append c.loop-class.moves.items (Follow c.loop-class.class ∷ [])
@@ -23,4 +24,5 @@ pub returns : goal.returns
 unfolding their_moves class_numbers
 returns c =
     let thirteen : c.loop-class.class ≡ 13 = omega arith in
-    c.push-2.ensures.items ∙ ap (λ (l : List ClassMove). l ++ ShowOut ∷ []) (rw thirteen at c.loop-class.invariant.so_far)
+    c.push-2.ensures.items ∙ ap (λ (l : List ClassMove). l ++ ShowOut
+    ∷ []) (rw thirteen at c.loop-class.invariant.so_far)

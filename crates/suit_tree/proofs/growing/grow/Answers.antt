@@ -14,7 +14,8 @@ use Rattle.suit_tree.proofs.growing.grow.Goals as goal
 use Rattle.suit_layouts.specs.ClassLayouts.{class_layouts}
 
 pub node-requires-clause-room : goal.node-requires-clause-room
-node-requires-clause-room c = record { question = c.args.question.now; history = []; short = omega arith; after = c.start-start.ensures }
+node-requires-clause-room c =
+    record { question = c.args.question.now; history = []; short = omega arith; after = c.start-start.ensures }
 
 pub node-requires-clause-indices : goal.node-requires-clause-indices
 node-requires-clause-indices c =
@@ -25,23 +26,60 @@ pub node-requires-clause-some : goal.node-requires-clause-some
 node-requires-clause-some c =
     let some = some_listed c.args.question.now c.requires in
     let many : 0 < length (range_with_len 0 c.len.result) =
-    omega (arith, length-range_with_len 0 c.len.result, c.len.ensures, c.in_ok-layouts.layouts.ok.0, ap length c.in_ok-layouts.ensures.layouts, some) in
+    omega (
+      arith,
+      length-range_with_len 0 c.len.result,
+      c.len.ensures,
+      c.in_ok-layouts.layouts.ok.0,
+      ap length c.in_ok-layouts.ensures.layouts,
+      some,
+    ) in
     rw c.in_ok-all.ensures.indices many
 
 pub returns-in_err-root-clause-end : goal.returns-in_err-root-clause-end
 returns-in_err-root-clause-end c =
-    let indices : c.in_ok-all.all.now ≡ layout_indices (class_layouts c.args.question.now (sizes_of c.args.question.now)) =
-    c.in_ok-all.ensures.indices ∙ ap (range_with_len 0) (omega (arith, c.len.ensures, c.in_ok-layouts.layouts.ok.0, ap length c.in_ok-layouts.ensures.layouts)) in
-    let told = rw (c.deref.ensures.value, c.in_ok-layouts.ensures.layouts, indices, c.start-start.ensures, all_pairs_counted c.args.question.now) at c.in_err-root.ensures.end in
-    let past : IsPastBudget (node_count c.args.question.now) c.args.question.now.nodes c.in_err-root.field-0.0 = past_more _ _ _ c.in_err-root.field-0.0 (omega arith) told in
+    let indices : c.in_ok-all.all.now
+    ≡ layout_indices (class_layouts c.args.question.now (sizes_of c.args.question.now)) =
+    c.in_ok-all.ensures.indices ∙ ap (range_with_len 0) (omega (
+      arith,
+      c.len.ensures,
+      c.in_ok-layouts.layouts.ok.0,
+      ap length c.in_ok-layouts.ensures.layouts,
+    )) in
+    let told = rw (
+      c.deref.ensures.value,
+      c.in_ok-layouts.ensures.layouts,
+      indices,
+      c.start-start.ensures,
+      all_pairs_counted c.args.question.now,
+    ) at c.in_err-root.ensures.end in
+    let past : IsPastBudget (node_count c.args.question.now) c.args.question.now.nodes c.in_err-root.field-0.0 =
+    past_more _ _ _ c.in_err-root.field-0.0 (omega arith) told in
     search rules
 
 pub returns-clause-tree : goal.returns-clause-tree
 returns-clause-tree c =
-    let indices : c.in_ok-all.all.now ≡ layout_indices (class_layouts c.args.question.now (sizes_of c.args.question.now)) =
-    c.in_ok-all.ensures.indices ∙ ap (range_with_len 0) (omega (arith, c.len.ensures, c.in_ok-layouts.layouts.ok.0, ap length c.in_ok-layouts.ensures.layouts)) in
-    let grown = rw (c.deref.ensures.value, c.in_ok-layouts.ensures.layouts, indices, c.start-start.ensures) at c.in_ok-root.ensures.grown in
-    let counted = rw (c.deref.ensures.value, c.in_ok-layouts.ensures.layouts, indices, c.start-start.ensures, all_pairs_counted c.args.question.now) at c.in_ok-root.ensures.counted in
+    let indices : c.in_ok-all.all.now
+    ≡ layout_indices (class_layouts c.args.question.now (sizes_of c.args.question.now)) =
+    c.in_ok-all.ensures.indices ∙ ap (range_with_len 0) (omega (
+      arith,
+      c.len.ensures,
+      c.in_ok-layouts.layouts.ok.0,
+      ap length c.in_ok-layouts.ensures.layouts,
+    )) in
+    let grown = rw (
+      c.deref.ensures.value,
+      c.in_ok-layouts.ensures.layouts,
+      indices,
+      c.start-start.ensures,
+    ) at c.in_ok-root.ensures.grown in
+    let counted = rw (
+      c.deref.ensures.value,
+      c.in_ok-layouts.ensures.layouts,
+      indices,
+      c.start-start.ensures,
+      all_pairs_counted c.args.question.now,
+    ) at c.in_ok-root.ensures.counted in
     record {
       layouts = c.in_ok-layouts.ensures.layouts;
       top = c.in_ok-root.ensures.last;
@@ -51,7 +89,19 @@ returns-clause-tree c =
 
 pub returns-clause-within : goal.returns-clause-within
 returns-clause-within c =
-    let indices : c.in_ok-all.all.now ≡ layout_indices (class_layouts c.args.question.now (sizes_of c.args.question.now)) =
-    c.in_ok-all.ensures.indices ∙ ap (range_with_len 0) (omega (arith, c.len.ensures, c.in_ok-layouts.layouts.ok.0, ap length c.in_ok-layouts.ensures.layouts)) in
-    let counted = rw (c.deref.ensures.value, c.in_ok-layouts.ensures.layouts, indices, c.start-start.ensures, all_pairs_counted c.args.question.now) at c.in_ok-root.ensures.counted in
+    let indices : c.in_ok-all.all.now
+    ≡ layout_indices (class_layouts c.args.question.now (sizes_of c.args.question.now)) =
+    c.in_ok-all.ensures.indices ∙ ap (range_with_len 0) (omega (
+      arith,
+      c.len.ensures,
+      c.in_ok-layouts.layouts.ok.0,
+      ap length c.in_ok-layouts.ensures.layouts,
+    )) in
+    let counted = rw (
+      c.deref.ensures.value,
+      c.in_ok-layouts.ensures.layouts,
+      indices,
+      c.start-start.ensures,
+      all_pairs_counted c.args.question.now,
+    ) at c.in_ok-root.ensures.counted in
     omega (arith, counted, c.in_ok-root.ensures.within)

@@ -6,7 +6,8 @@ use Rattle.suit_cards.proofs.holdings.Holding.has.Goals as goal
 
 pub returns-clause-value : goal.returns-clause-value
 returns-clause-value c =
-    rw (← c.self.view_is) (holds-ranks_of c.self.inside.mask c.index.result c.args.rank c.index.ensures.value c.index.ensures.below)
+    rw (← c.self.view_is) (holds-ranks_of c.self.inside.mask c.index.result c.args.rank c.index.ensures.value
+    c.index.ensures.below)
 
 pub returns-clause-held : goal.returns-clause-held
 returns-clause-held c = rw (returns-clause-value c) (holds_tells c.args.self c.args.rank)

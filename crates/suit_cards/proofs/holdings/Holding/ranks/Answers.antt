@@ -27,7 +27,8 @@ loop-index-preserved c = record {
 
 pub returns-clause-value : goal.returns-clause-value
 returns-clause-value c =
-    run-over c.self.inside.mask c.loop-index.index c.loop-index.ranks.items _ (omega arith) c.loop-index.invariant.so_far
+    run-over c.self.inside.mask c.loop-index.index c.loop-index.ranks.items _ (omega arith)
+    c.loop-index.invariant.so_far
     ∙ c.self.view_is
 
 pub returns-clause-holding : goal.returns-clause-holding

@@ -2,25 +2,29 @@ use Rattle.std.proofs.Common.{arith, sym, ◌∙◌, drop, length-drop, drop-dro
 use Rattle.std.proofs.Math.ListN.{drop_of_length-le}
 use Rattle.suit_cards.specs.Reading.{BeginsNoRank, BeginsRank}
 use Rattle.suit_cards.proofs.SuitRuns.{IsHolding-filter_suit}
-use Rattle.suit_cards.proofs.ReadingWhole.{read_whole, read_dash, rest_is, read_on-none_begins, read_on-held_begins, read_on-new_begins, read_on-end}
+use Rattle.suit_cards.proofs.ReadingWhole.{read_whole, read_dash, rest_is, read_on-none_begins, read_on-held_begins}
+use Rattle.suit_cards.proofs.ReadingWhole.{read_on-new_begins, read_on-end}
 use Rattle.suit_cards.proofs.holdings.Holding.read.Goals as goal
 
 pub returns-then-eq-clause-value : goal.returns-then-eq-clause-value
 returns-then-eq-clause-value c =
-    rw c.default-held.ensures (sym (read_dash c.args.text.now (rw c.as_slice.ensures at (sym c.eq.ensures ∙ c.if-eq.true))))
+    rw c.default-held.ensures (sym (read_dash c.args.text.now (rw c.as_slice.ensures at (sym c.eq.ensures
+    ∙ c.if-eq.true))))
 
 pub loop-at-init : goal.loop-at-init
 loop-at-init c = record {
   inside = omega arith;
   is_holding = rw c.default-held.ensures tt;
-  goes_on = rw c.default-held.ensures (read_whole c.args.text.now (rw c.as_slice.ensures at (sym c.eq.ensures ∙ c.if-eq.false)));
+  goes_on = rw c.default-held.ensures (read_whole c.args.text.now (rw c.as_slice.ensures at (sym c.eq.ensures
+      ∙ c.if-eq.false)));
 }
 
 pub returns-in_default-clause-value : goal.returns-in_default-clause-value
 returns-in_default-clause-value c =
     let none : BeginsNoRank (drop c.loop-at.at c.args.text.now) =
     rw (rest_is c.args.text.now c.loop-at.at) at c.in_default.ensures.none in
-    sym (read_on-none_begins c.loop-at.held (drop c.loop-at.at c.args.text.now) c.loop-at.at none) ∙ c.loop-at.invariant.goes_on
+    sym (read_on-none_begins c.loop-at.held (drop c.loop-at.at c.args.text.now) c.loop-at.at none)
+    ∙ c.loop-at.invariant.goes_on
 
 pub returns-then-has-clause-value : goal.returns-then-has-clause-value
 returns-then-has-clause-value c =
@@ -43,4 +47,5 @@ loop-at-preserved c =
 
 pub returns-clause-value : goal.returns-clause-value
 returns-clause-value c =
-    sym (read_on-end c.loop-at.held _ c.loop-at.at (drop_of_length-le c.args.text.now c.loop-at-test.false)) ∙ c.loop-at.invariant.goes_on
+    sym (read_on-end c.loop-at.held _ c.loop-at.at (drop_of_length-le c.args.text.now c.loop-at-test.false))
+    ∙ c.loop-at.invariant.goes_on

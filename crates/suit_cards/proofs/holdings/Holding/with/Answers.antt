@@ -6,4 +6,5 @@ invariant_of-result c = set_small c.self.inside.mask c.index.result c.self.invar
 
 pub returns-clause-value : goal.returns-clause-value
 returns-clause-value c =
-    rw (← c.self.view_is) (ranks_of-set c.self.inside.mask c.index.result c.args.rank c.index.ensures.value c.index.ensures.below)
+    rw (← c.self.view_is) (ranks_of-set c.self.inside.mask c.index.result c.args.rank c.index.ensures.value
+    c.index.ensures.below)

@@ -27,7 +27,8 @@ add_leads-requires-then-may_lead-2 c =
 
 pub returns-then-may_lead-2 : goal.returns-then-may_lead-2
 returns-then-may_lead-2 c =
-    let items : c.if-may_lead.leads.items ≡ (if may_lead c.self.inside.view.lead c.self.inside.view.entries_n N then map (Lead N) (counted_classes c.self.inside.view.north) else []) =
+    let items : c.if-may_lead.leads.items ≡ (if may_lead c.self.inside.view.lead c.self.inside.view.entries_n N
+    then map (Lead N) (counted_classes c.self.inside.view.north) else []) =
     elim c.if-may_lead.branch [
       | then-may_lead w ↦
           ap (λ v. v.items) w.leads-is ∙ w.add_leads.ensures
@@ -43,14 +44,16 @@ returns-then-may_lead-2 c =
     c.add_leads-then-may_lead-2.ensures
     ∙ ap (λ (l : List ClassMove). l ++ map (Lead S) (counted_classes c.self.inside.view.south)) items
     ∙ ap
-    (λ (b : Bool). (if may_lead c.self.inside.view.lead c.self.inside.view.entries_n N then map (Lead N) (counted_classes c.self.inside.view.north) else [])
+    (λ (b : Bool). (if may_lead c.self.inside.view.lead c.self.inside.view.entries_n N
+    then map (Lead N) (counted_classes c.self.inside.view.north) else [])
     ++ (if b then map (Lead S) (counted_classes c.self.inside.view.south) else [])) (sym c.if-may_lead-2.true
     ∙ c.may_lead-2.ensures)
     ∙ ap class_leads c.self.view_is
 
 pub returns-else-may_lead-2 : goal.returns-else-may_lead-2
 returns-else-may_lead-2 c =
-    let items : c.if-may_lead.leads.items ≡ (if may_lead c.self.inside.view.lead c.self.inside.view.entries_n N then map (Lead N) (counted_classes c.self.inside.view.north) else []) =
+    let items : c.if-may_lead.leads.items ≡ (if may_lead c.self.inside.view.lead c.self.inside.view.entries_n N
+    then map (Lead N) (counted_classes c.self.inside.view.north) else []) =
     elim c.if-may_lead.branch [
       | then-may_lead w ↦
           ap (λ v. v.items) w.leads-is ∙ w.add_leads.ensures
@@ -65,9 +68,11 @@ returns-else-may_lead-2 c =
     ] in
     items
     ∙ sym
-    (append-nil (if may_lead c.self.inside.view.lead c.self.inside.view.entries_n N then map (Lead N) (counted_classes c.self.inside.view.north) else []))
+    (append-nil (if may_lead c.self.inside.view.lead c.self.inside.view.entries_n N
+    then map (Lead N) (counted_classes c.self.inside.view.north) else []))
     ∙ ap
-    (λ (b : Bool). (if may_lead c.self.inside.view.lead c.self.inside.view.entries_n N then map (Lead N) (counted_classes c.self.inside.view.north) else [])
+    (λ (b : Bool). (if may_lead c.self.inside.view.lead c.self.inside.view.entries_n N
+    then map (Lead N) (counted_classes c.self.inside.view.north) else [])
     ++ (if b then map (Lead S) (counted_classes c.self.inside.view.south) else [])) (sym c.if-may_lead-2.false
     ∙ c.may_lead-2.ensures)
     ∙ ap class_leads c.self.view_is

@@ -2,7 +2,8 @@ use Rattle.std.proofs.Common.{◌≡◌, ◌∙◌, ◌-◌, ℕ, true, false, a
 use Rattle.std.specs.Prelude.{slice_index}
 use Rattle.suit_cards.specs.declared.seats.Seat.TheVariants.{W}
 use Rattle.suit_classes.specs.ClassPlaces.{ClassView, is_defence_class, left, west_count}
-use Rattle.suit_classes.proofs.CountedLists.{filled_none, filled_next, filled_kept, index_next, left_west-some, left_west-none, counts_some, counts_none, index_few}
+use Rattle.suit_classes.proofs.CountedLists.{filled_none, filled_next, filled_kept, index_next, left_west-some}
+use Rattle.suit_classes.proofs.CountedLists.{left_west-none, counts_some, counts_none, index_few}
 use Rattle.suit_classes.proofs.class_place.ClassPlace.left_to_west.Goals as goal
 use Rattle.suit_classes.proofs.class_place.ClassPlace.left_to_west.Goals.{then-self-class-gt0, else-self-class-gt0}
 
@@ -21,16 +22,19 @@ loop-class-preserved c = elim c.if-self-class-gt0.branch [
       ∙ counts_some _ w.if-self-class-gt0.true in
       record {
         filled = filled_next
-            (left c.args.self.now c.args.counts.now W) c.loop-class.left c.loop-class.class c.if-self-class-gt0.left w.saturating_sub.result
+            (left c.args.self.now c.args.counts.now W) c.loop-class.left c.loop-class.class c.if-self-class-gt0.left
+            w.saturating_sub.result
             (omega arith) c.loop-class.invariant.filled w.left-is
             (left_west-some c.args.self.now c.args.counts.now c.loop-class.class w.saturating_sub.result is
             (w.saturating_sub.ensures
             ∙ ap (λ (n : ℕ). n - slice_index c.self.inside.view.gone_w c.loop-class.class)
             (w.count_at.ensures ∙ ap (slice_index c.args.counts.now) c.loop-class.invariant.index)
             ∙ ap
-            (λ (view : ClassView). west_count c.args.self.now c.args.counts.now c.loop-class.class - slice_index view.gone_w c.loop-class.class) c.self.view_is));
+            (λ (view : ClassView). west_count c.args.self.now c.args.counts.now c.loop-class.class - slice_index
+            view.gone_w c.loop-class.class) c.self.view_is));
         index = index_next
-            (is_defence_class c.args.self.now) c.loop-class.class c.loop-class.index c.if-self-class-gt0.index true c.loop-class.invariant.index is w.index-is;
+            (is_defence_class c.args.self.now) c.loop-class.class c.loop-class.index c.if-self-class-gt0.index true
+            c.loop-class.invariant.index is w.index-is;
       }
   | else-self-class-gt0 w ↦
       let is : is_defence_class c.args.self.now c.loop-class.class ≡ false =
@@ -38,10 +42,12 @@ loop-class-preserved c = elim c.if-self-class-gt0.branch [
       ∙ counts_none _ w.if-self-class-gt0.false in
       record {
         filled = filled_kept
-            (left c.args.self.now c.args.counts.now W) c.loop-class.left c.loop-class.class c.if-self-class-gt0.left c.loop-class.invariant.filled w.left-is
+            (left c.args.self.now c.args.counts.now W) c.loop-class.left c.loop-class.class c.if-self-class-gt0.left
+            c.loop-class.invariant.filled w.left-is
             (left_west-none c.args.self.now c.args.counts.now c.loop-class.class is);
         index = index_next
-            (is_defence_class c.args.self.now) c.loop-class.class c.loop-class.index c.if-self-class-gt0.index false c.loop-class.invariant.index is w.index-is;
+            (is_defence_class c.args.self.now) c.loop-class.class c.loop-class.index c.if-self-class-gt0.index false
+            c.loop-class.invariant.index is w.index-is;
       }
 ]
 

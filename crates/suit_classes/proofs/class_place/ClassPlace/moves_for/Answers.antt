@@ -15,7 +15,8 @@ returns-in-W c =
     ∙ ap (λ (l : Indices). or_show_out (map Follow l))
     (counted_is_left c.args.self.now c.args.counts.now W _ c.left_to_west.ensures)
     ∙ follows_at c.args.self.now c.args.counts.now W _ _ _
-    (sym (ap (λ (view : ClassView). view.trick) c.self.view_is) ∙ c.in-Open.is ∙ ap (λ (seat : Seat). Open seat c.in-Open.after c.in-Open.winner c.in-Open.highest) c.in-W.is)
+    (sym (ap (λ (view : ClassView). view.trick) c.self.view_is) ∙ c.in-Open.is
+    ∙ ap (λ (seat : Seat). Open seat c.in-Open.after c.in-Open.winner c.in-Open.highest) c.in-W.is)
 
 pub returns-in-E : goal.returns-in-E
 returns-in-E c =
@@ -23,4 +24,5 @@ returns-in-E c =
     ∙ ap (λ (l : Indices). or_show_out (map Follow l))
     (counted_is_left c.args.self.now c.args.counts.now E _ c.left_to_east.ensures)
     ∙ follows_at c.args.self.now c.args.counts.now E _ _ _
-    (sym (ap (λ (view : ClassView). view.trick) c.self.view_is) ∙ c.in-Open.is ∙ ap (λ (seat : Seat). Open seat c.in-Open.after c.in-Open.winner c.in-Open.highest) c.in-E.is)
+    (sym (ap (λ (view : ClassView). view.trick) c.self.view_is) ∙ c.in-Open.is
+    ∙ ap (λ (seat : Seat). Open seat c.in-Open.after c.in-Open.winner c.in-Open.highest) c.in-E.is)

@@ -7,5 +7,12 @@ invariant_of-result c = rw (c.dealt_to.ensures, c.dealt_to-2.ensures) (apart_dea
 
 pub returns : goal.returns
 returns c =
-    rw
-    (c.dealt_to.ensures, c.dealt_to-2.ensures, c.dealt_to-3.ensures, c.len.ensures.value, c.len-2.ensures.value, c.requires, ← none_played_is) refl
+    rw (
+      c.dealt_to.ensures,
+      c.dealt_to-2.ensures,
+      c.dealt_to-3.ensures,
+      c.len.ensures.value,
+      c.len-2.ensures.value,
+      c.requires,
+      ← none_played_is,
+    ) refl

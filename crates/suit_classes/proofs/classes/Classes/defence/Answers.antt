@@ -20,7 +20,8 @@ push-requires c =
 pub loop-class-preserved : goal.loop-class-preserved
 loop-class-preserved c =
     filter_range-next
-    (λ class. same_owner (class_owner c.args.self.now class) Defence) c.loop-class.class c.is.result c.loop-class.classes.items c.if-is.classes.items
+    (λ class. same_owner (class_owner c.args.self.now class) Defence) c.loop-class.class c.is.result
+    c.loop-class.classes.items c.if-is.classes.items
     c.loop-class.invariant (c.is.ensures ∙ ap (λ (owner : Owner). same_owner owner Defence) c.owner.ensures)
     (elim c.if-is.branch [
       | then-is w ↦ rw w.if-is.true (ap (λ v. v.items) w.classes-is ∙ w.push.ensures.items)

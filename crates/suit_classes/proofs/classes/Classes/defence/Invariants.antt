@@ -6,4 +6,5 @@ use Rattle.suit_classes.specs.Classes.{class_owner, same_owner}
 use Rattle.suit_classes.proofs.classes.Classes.defence.Given as goal
 
 abbrev pub invariant-loop-class : goal.invariant-loop-class
-invariant-loop-class l = l.classes.items ≡ filter (λ class. same_owner (class_owner l.self class) Defence) (range_with_len 0 l.class)
+invariant-loop-class l = l.classes.items
+    ≡ filter (λ class. same_owner (class_owner l.self class) Defence) (range_with_len 0 l.class)

@@ -22,8 +22,13 @@ loop-index-init c = record {
 
 pub loop-index-preserved : goal.loop-index-preserved
 loop-index-preserved c =
-    let chosen : c.if-starts_class.class ≡ (if c.starts_class.result then c.loop-index.class + 1 else c.loop-index.class) =
-    elim c.if-starts_class.branch [ then-starts_class w ↦ rw w.if-starts_class.true w.class-is | else-starts_class w ↦ rw w.if-starts_class.false w.class-is ] in
+    let chosen : c.if-starts_class.class ≡ (if c.starts_class.result then c.loop-index.class + 1
+    else c.loop-index.class) =
+    elim c.if-starts_class.branch [
+      | then-starts_class w ↦ rw w.if-starts_class.true w.class-is
+      | else-starts_class w ↦ rw w.if-starts_class.false
+          w.class-is
+    ] in
     let here : c.if-starts_class.class ≡ class_below (hands_of c.args.question.now) c.loop-index.index =
     class_below-later (hands_of c.args.question.now)
     (c.loop-index.index - 1) c.loop-index.index c.loop-index.class c.if-starts_class.class c.starts_class.result
@@ -32,7 +37,8 @@ loop-index-preserved c =
     record {
       long = length-set c.loop-index.numbers c.loop-index.index c.if-starts_class.class ∙ c.loop-index.invariant.long;
       numbered = λ k low. rw here
-          (fill_by_more (class_below (hands_of c.args.question.now)) c.loop-index.numbers c.loop-index.index 0 (omega (arith, c.loop-index.invariant.long))
+          (fill_by_more (class_below (hands_of c.args.question.now)) c.loop-index.numbers c.loop-index.index 0
+          (omega (arith, c.loop-index.invariant.long))
           c.loop-index.invariant.numbered k low);
       class = here ∙ ap (class_below (hands_of c.args.question.now)) (omega arith);
     }

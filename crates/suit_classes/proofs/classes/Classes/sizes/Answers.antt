@@ -2,7 +2,8 @@ use Rattle.std.proofs.Common.{◌≡◌, ◌∙◌, ◌<◌, ◌≤◌, List, �
 use Rattle.std.specs.Prelude.{All, map, sum}
 use Rattle.std.proofs.lemmas.List.{take_all}
 use Rattle.suit_classes.specs.Classes.{class_count, class_size, defence_classes}
-use Rattle.suit_classes.proofs.DefenceSizes.{defence_classes-below, defence_sizes-some, sum-defence_sizes, length-defence_sizes}
+use Rattle.suit_classes.proofs.DefenceSizes.{defence_classes-below, defence_sizes-some, sum-defence_sizes}
+use Rattle.suit_classes.proofs.DefenceSizes.{length-defence_sizes}
 use Rattle.suit_classes.proofs.classes.Classes.sizes.Goals as goal
 
 pub size-requires : goal.size-requires

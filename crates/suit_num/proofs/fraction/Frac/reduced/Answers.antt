@@ -26,7 +26,9 @@ invariant_of-result c =
     let divisor_fits : FitsSigned w128 c.gcd-divisor.result = search rules in
     let exact_fits : FitsSigned w128 c.exact.result = search rules in
     let exact_fits-2 : FitsSigned w128 c.exact-2.result = search rules in
-    let is = lowest_terms c.args.num c.args.den c.gcd-divisor.result c.exact.result c.exact-2.result c.requires.positive c.requires.narrow (simp to_z-of_z at c.gcd-divisor.ensures.greatest) c.gcd-divisor.ensures.positive (simp to_z-of_z at c.exact.ensures) (simp to_z-of_z at c.exact-2.ensures) in
+    let is = lowest_terms c.args.num c.args.den c.gcd-divisor.result c.exact.result c.exact-2.result c.requires.positive
+    c.requires.narrow (simp to_z-of_z at c.gcd-divisor.ensures.greatest) c.gcd-divisor.ensures.positive
+    (simp to_z-of_z at c.exact.ensures) (simp to_z-of_z at c.exact-2.ensures) in
     record { positive = simp to_z-of_z is.positive; coprime = simp to_z-of_z is.coprime }
 
 pub returns-clause-value : goal.returns-clause-value
@@ -36,5 +38,7 @@ returns-clause-value c =
     let divisor_fits : FitsSigned w128 c.gcd-divisor.result = search rules in
     let exact_fits : FitsSigned w128 c.exact.result = search rules in
     let exact_fits-2 : FitsSigned w128 c.exact-2.result = search rules in
-    let is = lowest_terms c.args.num c.args.den c.gcd-divisor.result c.exact.result c.exact-2.result c.requires.positive c.requires.narrow (simp to_z-of_z at c.gcd-divisor.ensures.greatest) c.gcd-divisor.ensures.positive (simp to_z-of_z at c.exact.ensures) (simp to_z-of_z at c.exact-2.ensures) in
+    let is = lowest_terms c.args.num c.args.den c.gcd-divisor.result c.exact.result c.exact-2.result c.requires.positive
+    c.requires.narrow (simp to_z-of_z at c.gcd-divisor.ensures.greatest) c.gcd-divisor.ensures.positive
+    (simp to_z-of_z at c.exact.ensures) (simp to_z-of_z at c.exact-2.ensures) in
     simp to_z-of_z is.value

@@ -17,7 +17,8 @@ loop-index-init c =
     record {
       place = c.start-place.ensures;
       mass = ap (λ (m : ℤ). mass_from c.args.question.now (side_of c.args.self.now) [] m c.args.history.now)
-          (to_z-of_z w128 c.args.self.now.whole fits ∙ sym (begins_with c.args.self.now.rows c.args.self.now.counts.now c.args.self.now.whole));
+          (to_z-of_z w128 c.args.self.now.whole fits
+          ∙ sym (begins_with c.args.self.now.rows c.args.self.now.counts.now c.args.self.now.whole));
     }
 
 pub loop-index-preserved : goal.loop-index-preserved
@@ -29,7 +30,8 @@ loop-index-preserved c =
     let fits : SFits w128 c.let_through-mass.result = search rules in
     let short : length (take index history) ≤ 52 = omega (arith, length-take index history, below, c.requires.short) in
     record {
-      place = c.step-place.ensures c.args.question.now (take index history) short so_far.place ∙ sym (ap (class_after c.args.question.now) (take_more history index (Lead N 0) below));
+      place = c.step-place.ensures c.args.question.now (take index history) short so_far.place
+          ∙ sym (ap (class_after c.args.question.now) (take_more history index (Lead N 0) below));
       mass = mass_walked c.args.question.now (side_of c.args.self.now) history index (Lead N 0) _ _ below
           (to_z-of_z w128 c.let_through-mass.result fits ∙ c.let_through-mass.ensures c.args.question.now so_far.place)
           ∙ so_far.mass;
@@ -38,4 +40,5 @@ loop-index-preserved c =
 pub returns : goal.returns
 returns c =
     let so_far = c.loop-index.invariant in
-    sym (mass_ended c.args.question.now (side_of c.args.self.now) c.args.history.now c.loop-index.index _ c.loop-index-test.false) ∙ so_far.mass
+    sym (mass_ended c.args.question.now (side_of c.args.self.now) c.args.history.now c.loop-index.index _
+    c.loop-index-test.false) ∙ so_far.mass

@@ -11,4 +11,5 @@ pub record SoFar (place-is mass-is : Type 0) : Type 0 where
 abbrev pub invariant-loop-index : goal.invariant-loop-index
 invariant-loop-index l =
     SoFar (l.place ≡ class_after l.question (take l.index l.history))
-    (mass_from l.question (side_of l.self) (take l.index l.history) l.mass (drop l.index l.history) ≡ mass_of l.question (side_of l.self) l.history)
+    (mass_from l.question (side_of l.self) (take l.index l.history) l.mass (drop l.index l.history)
+    ≡ mass_of l.question (side_of l.self) l.history)

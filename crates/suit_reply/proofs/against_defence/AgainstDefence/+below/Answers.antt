@@ -84,7 +84,8 @@ below-requires t c =
     let step =
     step_from layouts rows history masses node index child c.push.new.self.items c.deref-in-loop-child.result.now
     c.children-child-items.result.now c.loop-child.history.items c.deref.result.now
-    c.move_of-mv.result c.children-child-items.ensures c.loop-child-test.true (sym (at_itself c.children-child-items.result.now c.loop-child.child-index no_node))
+    c.move_of-mv.result c.children-child-items.ensures c.loop-child-test.true
+    (sym (at_itself c.children-child-items.result.now c.loop-child.child-index no_node))
     c.loop-child.invariant.kept c.deref.ensures.value c.move_of-mv.ensures c.in_ok-push.ensures.items
     share in
     let gathers : Some c.in-Some.rule ≡ most_gathers (turn_at node) =
@@ -113,7 +114,8 @@ join-requires-clause-sum t c =
     let step =
     step_from layouts rows history masses node index child c.push.new.self.items c.deref-in-loop-child.result.now
     c.children-child-items.result.now c.loop-child.history.items c.deref.result.now
-    c.move_of-mv.result c.children-child-items.ensures c.loop-child-test.true (sym (at_itself c.children-child-items.result.now c.loop-child.child-index no_node))
+    c.move_of-mv.result c.children-child-items.ensures c.loop-child-test.true
+    (sym (at_itself c.children-child-items.result.now c.loop-child.child-index no_node))
     c.loop-child.invariant.kept c.deref.ensures.value c.move_of-mv.ensures c.in_ok-push.ensures.items
     share in
     let gathers : Some c.in-Some.rule ≡ most_gathers (turn_at node) =
@@ -137,7 +139,8 @@ loop-child-preserved t c =
     let step =
     step_from layouts rows history masses node index child c.push.new.self.items c.deref-in-loop-child.result.now
     c.children-child-items.result.now c.loop-child.history.items c.deref.result.now
-    c.move_of-mv.result c.children-child-items.ensures c.loop-child-test.true (sym (at_itself c.children-child-items.result.now c.loop-child.child-index no_node))
+    c.move_of-mv.result c.children-child-items.ensures c.loop-child-test.true
+    (sym (at_itself c.children-child-items.result.now c.loop-child.child-index no_node))
     c.loop-child.invariant.kept c.deref.ensures.value c.move_of-mv.ensures c.in_ok-push.ensures.items
     share in
     let before = c.loop-child.so_far in

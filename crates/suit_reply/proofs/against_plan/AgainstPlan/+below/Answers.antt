@@ -84,13 +84,16 @@ below-requires t c =
     let part = to_z w128 (of_z w128 c.share-share.result) in
     let fits : SFits w128 c.args.mass = search rules in
     let still : SFits w128 c.share-share.result = search rules in
-    let on : Goes c.match-turn.rule rows c.args.index history mass node c.loop-child.child-index (node_at c.children-child-items.result.now c.loop-child.child-index)
+    let on : Goes c.match-turn.rule rows c.args.index history mass node c.loop-child.child-index
+    (node_at c.children-child-items.result.now c.loop-child.child-index)
     c.move_of-mv.result part =
     goes_at c.match-turn.rule rows c.args.index history mass c.args.mass node c.loop-child.child-index
     (node_at c.children-child-items.result.now c.loop-child.child-index) c.move_of-mv.result part c.share-share.result
     c.children-child-items.result.now c.turn-in-loop-child.result c.deref.result.now c.loop-child.history.items
     c.requires (to_z-of_z w128 c.args.mass fits) c.loop-child.invariant.gathers
-    c.children-child-items.ensures c.loop-child-test.true (sym (at_itself c.children-child-items.result.now c.loop-child.child-index no_node)) c.turn-in-loop-child.ensures
+    c.children-child-items.ensures c.loop-child-test.true
+    (sym (at_itself c.children-child-items.result.now c.loop-child.child-index no_node))
+    c.turn-in-loop-child.ensures
     c.if-goes_to.ensures c.move_of-mv.ensures (to_z-of_z w128 c.share-share.result still)
     c.share-share.ensures c.deref.ensures.value c.loop-child.invariant.kept in
     let pushed : c.push.new.self.items ≡ history ++ c.move_of-mv.result ∷ [] =
@@ -100,9 +103,11 @@ below-requires t c =
         arith,
         c.decreases,
         goes_shorter c.match-turn.rule rows c.args.index history mass node
-            c.loop-child.child-index (node_at c.children-child-items.result.now c.loop-child.child-index) c.move_of-mv.result part on c.push.new.self.items pushed,
+            c.loop-child.child-index (node_at c.children-child-items.result.now c.loop-child.child-index)
+            c.move_of-mv.result part on c.push.new.self.items pushed,
       ),
-      goes_asked c.match-turn.rule rows c.args.index history mass node c.loop-child.child-index (node_at c.children-child-items.result.now c.loop-child.child-index)
+      goes_asked c.match-turn.rule rows c.args.index history mass node c.loop-child.child-index
+          (node_at c.children-child-items.result.now c.loop-child.child-index)
           c.move_of-mv.result part on c.push.new.self.items pushed,
     )
 
@@ -127,22 +132,27 @@ join-requires-clause-sum t c =
     let part = to_z w128 (of_z w128 c.share-share.result) in
     let fits : SFits w128 c.args.mass = search rules in
     let still : SFits w128 c.share-share.result = search rules in
-    let on : Goes c.match-turn.rule rows c.args.index history mass node c.loop-child.child-index (node_at c.children-child-items.result.now c.loop-child.child-index)
+    let on : Goes c.match-turn.rule rows c.args.index history mass node c.loop-child.child-index
+    (node_at c.children-child-items.result.now c.loop-child.child-index)
     c.move_of-mv.result part =
     goes_at c.match-turn.rule rows c.args.index history mass c.args.mass node c.loop-child.child-index
     (node_at c.children-child-items.result.now c.loop-child.child-index) c.move_of-mv.result part c.share-share.result
     c.children-child-items.result.now c.turn-in-loop-child.result c.deref.result.now c.loop-child.history.items
     c.requires (to_z-of_z w128 c.args.mass fits) c.loop-child.invariant.gathers
-    c.children-child-items.ensures c.loop-child-test.true (sym (at_itself c.children-child-items.result.now c.loop-child.child-index no_node)) c.turn-in-loop-child.ensures
+    c.children-child-items.ensures c.loop-child-test.true
+    (sym (at_itself c.children-child-items.result.now c.loop-child.child-index no_node))
+    c.turn-in-loop-child.ensures
     c.if-goes_to.ensures c.move_of-mv.ensures (to_z-of_z w128 c.share-share.result still)
     c.share-share.ensures c.deref.ensures.value c.loop-child.invariant.kept in
     let pushed : c.push.new.self.items ≡ history ++ c.move_of-mv.result ∷ [] =
     added_to history c.loop-child.history.items c.push.new.self.items c.move_of-mv.result c.in_ok-push.ensures.items
     c.loop-child.invariant.kept in
     let told =
-    goes_told c.match-turn.rule rows c.args.index history mass node c.loop-child.child-index (node_at c.children-child-items.result.now c.loop-child.child-index)
+    goes_told c.match-turn.rule rows c.args.index history mass node c.loop-child.child-index
+    (node_at c.children-child-items.result.now c.loop-child.child-index)
     c.move_of-mv.result part on c.push.new.self.items c.in_ok-reply.reply pushed c.in_ok-reply.ensures.reply in
-    goes_sum c.match-turn.rule rows c.args.index history mass node c.loop-child.child-index (node_at c.children-child-items.result.now c.loop-child.child-index)
+    goes_sum c.match-turn.rule rows c.args.index history mass node c.loop-child.child-index
+    (node_at c.children-child-items.result.now c.loop-child.child-index)
     c.move_of-mv.result part c.loop-child.so_far c.in_ok-reply.reply on
     (subst (λ (l : List Node). c.loop-child.so_far
     ≡ first_gathered c.match-turn.rule rows c.args.index history mass node l c.loop-child.child-index)
@@ -155,8 +165,12 @@ loop-child-preserved t c =
     let mass = to_z w128 (of_z w128 c.args.mass) in
     let node = c.args.node.now in
     let fits : SFits w128 c.args.mass = search rules in
-    let at : (node_at c.children-child-items.result.now c.loop-child.child-index) ≡ get_or (children_of node) c.loop-child.child-index (node_at c.children-child-items.result.now c.loop-child.child-index) =
-    (sym (at_itself c.children-child-items.result.now c.loop-child.child-index no_node)) ∙ ap (λ (l : List Node). get_or l c.loop-child.child-index (node_at c.children-child-items.result.now c.loop-child.child-index))
+    let at : (node_at c.children-child-items.result.now c.loop-child.child-index)
+    ≡ get_or (children_of node) c.loop-child.child-index
+    (node_at c.children-child-items.result.now c.loop-child.child-index) =
+    (sym (at_itself c.children-child-items.result.now c.loop-child.child-index no_node))
+    ∙ ap (λ (l : List Node). get_or l c.loop-child.child-index
+    (node_at c.children-child-items.result.now c.loop-child.child-index))
     c.children-child-items.ensures in
     let within : c.loop-child.child-index < length (children_of node) =
     subst (λ (l : List Node). c.loop-child.child-index < length l) c.children-child-items.ensures
@@ -173,17 +187,21 @@ loop-child-preserved t c =
           let on : Goes c.match-turn.rule rows c.args.index history mass node c.loop-child.child-index
           (node_at c.children-child-items.result.now c.loop-child.child-index) w.move_of-mv.result part =
           goes_at c.match-turn.rule rows c.args.index history mass c.args.mass node c.loop-child.child-index
-          (node_at c.children-child-items.result.now c.loop-child.child-index) w.move_of-mv.result part w.share-share.result
+          (node_at c.children-child-items.result.now c.loop-child.child-index) w.move_of-mv.result part
+          w.share-share.result
           c.children-child-items.result.now c.turn-in-loop-child.result w.deref.result.now c.loop-child.history.items
           c.requires (to_z-of_z w128 c.args.mass fits) c.loop-child.invariant.gathers
-          c.children-child-items.ensures c.loop-child-test.true (sym (at_itself c.children-child-items.result.now c.loop-child.child-index no_node)) c.turn-in-loop-child.ensures
+          c.children-child-items.ensures c.loop-child-test.true
+          (sym (at_itself c.children-child-items.result.now c.loop-child.child-index no_node))
+          c.turn-in-loop-child.ensures
           w.if-goes_to.ensures w.move_of-mv.ensures (to_z-of_z w128 w.share-share.result still)
           w.share-share.ensures w.deref.ensures.value c.loop-child.invariant.kept in
           let pushed : w.push.new.self.items ≡ history ++ w.move_of-mv.result ∷ [] =
           added_to history c.loop-child.history.items w.push.new.self.items w.move_of-mv.result
           w.in_ok-push.ensures.items c.loop-child.invariant.kept in
           let told =
-          goes_told c.match-turn.rule rows c.args.index history mass node c.loop-child.child-index (node_at c.children-child-items.result.now c.loop-child.child-index)
+          goes_told c.match-turn.rule rows c.args.index history mass node c.loop-child.child-index
+          (node_at c.children-child-items.result.now c.loop-child.child-index)
           w.move_of-mv.result part on w.push.new.self.items w.in_ok-reply.reply pushed w.in_ok-reply.ensures.reply in
           let joins : w.in_ok-so_far.so_far
           ≡ joined c.match-turn.rule c.loop-child.so_far w.move_of-mv.result w.in_ok-reply.reply =
@@ -195,7 +213,8 @@ loop-child-preserved t c =
                 ≡ first_gathered c.match-turn.rule rows c.args.index history mass node l (c.loop-child.child-index + 1))
                 (sym c.children-child-items.ensures)
                 (goes_joined c.match-turn.rule rows c.args.index history mass node c.loop-child.child-index
-                (node_at c.children-child-items.result.now c.loop-child.child-index) w.move_of-mv.result part on c.loop-child.so_far w.in_ok-so_far.so_far
+                (node_at c.children-child-items.result.now c.loop-child.child-index) w.move_of-mv.result part on
+                c.loop-child.so_far w.in_ok-so_far.so_far
                 w.in_ok-reply.reply was told joins);
             many = omega (
               arith,
@@ -208,8 +227,10 @@ loop-child-preserved t c =
                 (w.in_ok-reply.ensures.kept ∙ pushed) w.below.new.history.ok.0 w.pop.ensures.rest;
           }
       | else-goes_to w ↦
-          let stays : goes_to (turn_at node) c.args.index (node_at c.children-child-items.result.now c.loop-child.child-index) ≡ false =
-          ap (λ (turn : ClassTurn). goes_to turn c.args.index (node_at c.children-child-items.result.now c.loop-child.child-index)) (sym c.turn-in-loop-child.ensures)
+          let stays : goes_to (turn_at node) c.args.index
+          (node_at c.children-child-items.result.now c.loop-child.child-index) ≡ false =
+          ap (λ (turn : ClassTurn). goes_to turn c.args.index
+          (node_at c.children-child-items.result.now c.loop-child.child-index)) (sym c.turn-in-loop-child.ensures)
           ∙ sym w.if-goes_to.ensures in
           record {
             gathers = c.loop-child.invariant.gathers;
@@ -218,7 +239,8 @@ loop-child-preserved t c =
                 ≡ first_gathered c.match-turn.rule rows c.args.index history mass node l (c.loop-child.child-index + 1))
                 (sym c.children-child-items.ensures)
                 (passed_by c.match-turn.rule rows c.args.index history mass node c.loop-child.child-index
-                (node_at c.children-child-items.result.now c.loop-child.child-index) c.loop-child.so_far within at stays was);
+                (node_at c.children-child-items.result.now c.loop-child.child-index) c.loop-child.so_far within at stays
+                was);
             many = omega (arith, ap (λ (so_far : TurnView). so_far.many) w.so_far-is, c.loop-child.invariant.many);
             kept = ap (λ v. v.items) w.history-is ∙ c.loop-child.invariant.kept;
           }

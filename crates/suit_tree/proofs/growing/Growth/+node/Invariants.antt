@@ -8,6 +8,8 @@ decreases-node l = l.more
 
 abbrev pub invariant-loop-branch : goal.invariant-loop-branch
 invariant-loop-branch l = record {
-  grown : AreGrown (l.more - 1) l.self.layouts.now l.position l.indices (take l.branch-index (moves_within l.more l.self.layouts.now l.position l.indices)) l.children.items (l.fn.pairs + length l.indices) l.pairs;
+  grown : AreGrown (l.more - 1) l.self.layouts.now l.position l.indices
+      (take l.branch-index (moves_within l.more l.self.layouts.now l.position l.indices)) l.children.items (l.fn.pairs
+      + length l.indices) l.pairs;
   within : l.pairs ≤ l.self.budget;
 }

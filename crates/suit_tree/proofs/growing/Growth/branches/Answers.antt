@@ -6,23 +6,28 @@ use Rattle.suit_tree.proofs.growing.Growth.branches.Goals as goal
 
 pub returns-then-more-eq0 : goal.returns-then-more-eq0
 returns-then-more-eq0 c =
-    ap (map branch_seen) c.new.ensures.items ∙ sym (none_within c.args.self.now.layouts.now c.args.position.now c.args.indices.now c.args.more (omega arith))
+    ap (map branch_seen) c.new.ensures.items
+    ∙ sym (none_within c.args.self.now.layouts.now c.args.position.now c.args.indices.now c.args.more (omega arith))
 
 pub returns-in-Lead : goal.returns-in-Lead
 returns-in-Lead c =
-    rw (own_within c.args.self.now.layouts.now c.args.position.now c.args.indices.now c.args.more (omega arith) (ap is_own (sym c.turn.ensures.value ∙ c.in-Lead.is)) c.requires.some)
+    rw (own_within c.args.self.now.layouts.now c.args.position.now c.args.indices.now c.args.more (omega arith)
+    (ap is_own (sym c.turn.ensures.value ∙ c.in-Lead.is)) c.requires.some)
     at c.own_branches.ensures
 
 pub returns-in-Declarer : goal.returns-in-Declarer
 returns-in-Declarer c =
-    rw (own_within c.args.self.now.layouts.now c.args.position.now c.args.indices.now c.args.more (omega arith) (ap is_own (sym c.turn.ensures.value ∙ c.in-Declarer.is)) c.requires.some)
+    rw (own_within c.args.self.now.layouts.now c.args.position.now c.args.indices.now c.args.more (omega arith)
+    (ap is_own (sym c.turn.ensures.value ∙ c.in-Declarer.is)) c.requires.some)
     at c.own_branches-in-Declarer.ensures
 
 pub returns-in-Defence : goal.returns-in-Defence
 returns-in-Defence c =
-    rw (their_within c.args.self.now.layouts.now c.args.position.now c.args.indices.now c.args.more (omega arith)) at c.their_branches.ensures
+    rw (their_within c.args.self.now.layouts.now c.args.position.now c.args.indices.now c.args.more (omega arith)) at
+    c.their_branches.ensures
 
 pub returns-in-Decided : goal.returns-in-Decided
 returns-in-Decided c =
     ap (map branch_seen) c.new-in-Decided.ensures.items
-    ∙ sym (none_made c.args.self.now.layouts.now c.args.position.now c.args.indices.now c.args.more (sym c.turn.ensures.value ∙ c.in-Decided.is))
+    ∙ sym (none_made c.args.self.now.layouts.now c.args.position.now c.args.indices.now c.args.more
+    (sym c.turn.ensures.value ∙ c.in-Decided.is))
