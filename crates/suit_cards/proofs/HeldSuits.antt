@@ -73,7 +73,7 @@ pub IsRank-held : (ranks : List ℕ) (rank : ℕ) → IsHolding ranks → holds 
 IsRank-held ranks rank is held = let within = held_within 15 ranks rank is held in (within.0, omega (arith, within.1))
 
 -- what falls below a top falls below a higher one
-FallsBelow-later : (low top : ℕ) (ranks : List ℕ) → low ≤ top → FallsBelow low ranks → FallsBelow top ranks
+pub FallsBelow-later : (low top : ℕ) (ranks : List ℕ) → low ≤ top → FallsBelow low ranks → FallsBelow top ranks
 FallsBelow-later low top [] le falls = tt
 FallsBelow-later low top (first ∷ rest) le falls = (falls.0, omega (arith, falls.1), falls.2)
 

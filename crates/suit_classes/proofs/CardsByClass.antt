@@ -13,7 +13,7 @@ use Rattle.suit_game.specs.declared.question.Question.{Question}
 use Rattle.suit_game.specs.Positions.{without}
 use Rattle.suit_game.specs.Question.{missing}
 use Rattle.suit_game.proofs.EachElement.{Contains-cons_cases, Contains-filter, Contains-nil, Contains-range, each_at}
-use Rattle.suit_game.proofs.HeldCards.{each_held}
+use Rattle.suit_game.proofs.HeldCards.{each_held, length-left_and_gone}
 use Rattle.suit_game.proofs.ListSums.{sum_by_none, sum_by_same}
 use Rattle.suit_classes.specs.declared.classes.Owner.TheVariants as owners
 use Rattle.suit_classes.specs.Classes.{Hands, hands_of, class_count, class_of, class_owner, defence_classes, same_owner}
@@ -21,8 +21,8 @@ use Rattle.suit_classes.specs.ClassGame.{cards_in, counts_of}
 use Rattle.suit_classes.proofs.ClassNumbers.{class_of-below}
 use Rattle.suit_classes.proofs.DealtClasses.{cards_left_of_class, missing_holder}
 use Rattle.suit_classes.proofs.DefenceClasses.{class_owner-class_of}
-use Rattle.suit_classes.proofs.DistinctMoves.{IsOnce, once_filter, once_range}
-use Rattle.suit_classes.proofs.StartCounts.{length-parts}
+use Rattle.suit_classes.proofs.DistinctMoves.{once_range}
+use Rattle.suit_game.proofs.DistinctElements.{IsOnce, once_filter}
 
 one_more : (b : Bool) (card : ℕ) (cards : Cards)
     → length (cond b (card ∷ cards) cards) ≡ (if b then 1 else 0) + length cards
@@ -60,7 +60,7 @@ cards_in-left_and_gone hands cards gone class =
     omega (
       arith,
       ap length (cards_left_of_class hands cards gone class),
-      length-parts (filter (λ card. class_of hands card == class) cards) gone,
+      length-left_and_gone (filter (λ card. class_of hands card == class) cards) gone,
     )
 
 -- the class of a missing card is one of the defenders'

@@ -1,6 +1,7 @@
 -- When two class moves are the same, and when one is among some.
-use Rattle.std.proofs.Common.{◌≡◌, true, List, [], ◌∷◌, refl, sym, ap, ◌∙◌, subst, inl, inr}
+use Rattle.std.proofs.Common.{◌≡◌, ◌&&◌, Bool, true, false, List, [], ◌∷◌, refl, sym, ap, ◌∙◌, subst, inl, inr}
 use Rattle.std.specs.Prelude.{◌==◌, Contains}
+use Rattle.std.specs.Bool.{Decides}
 use Rattle.std.proofs.lemmas.Bool.{and_parts, eq-eqb, eqb-true, false≢true, or_cases, or_left, or_right}
 use Rattle.suit_cards.specs.declared.seats.Seat.{Seat}
 use Rattle.suit_cards.specs.declared.seats.Seat.TheVariants.{N, E, S, W}
@@ -56,3 +57,13 @@ among-Contains (first ∷ moves) move among = elim (or_cases (same_class_move mo
       (Contains-first first moves)
   | inr there ↦ Contains-later first moves move (among-Contains moves move there)
 ]
+
+-- so the test of being among some tells what a list contains
+pub among_decides : (moves : List ClassMove) (move : ClassMove) → Decides (is_among moves move) (Contains moves move)
+among_decides moves move = (among-Contains moves move, among_contained moves move)
+
+-- where the second test passes alone if the first does, both pass where the second does
+pub both_second : (b c : Bool) → (c ≡ true → b ≡ true) → (b && c) ≡ c
+both_second true c gives = refl
+both_second false true gives = gives refl
+both_second false false gives = refl

@@ -12,7 +12,7 @@ use Rattle.suit_cards.proofs.HeldSuits.{IsHolding-filter, IsHolding-others_of, h
 use Rattle.suit_game.specs.declared.question.Question.{Question}
 use Rattle.suit_game.specs.Positions.{dealt, without}
 use Rattle.suit_game.specs.Question.{missing}
-use Rattle.suit_game.proofs.HeldCards.{without-none}
+use Rattle.suit_game.proofs.HeldCards.{length-left_and_gone, without-none}
 use Rattle.suit_classes.specs.declared.classes.Owner.TheVariants as owners
 use Rattle.suit_classes.specs.Classes.{Hands, hands_of, same_owner, class_of, class_count, class_owner, class_size}
 use Rattle.suit_classes.specs.ClassGame.{cards_in, counts_of}
@@ -95,15 +95,6 @@ kept_or_held : (b : Bool) (x : ℕ) (xs ys : List ℕ) (n : ℕ) → length xs +
 kept_or_held true x xs ys n both = omega arith
 kept_or_held false x xs ys n both = omega arith
 
--- cards are those not gone and those gone
-pub length-parts : (cards gone : Cards)
-    → length (without cards gone) + length (filter (holds gone) cards) ≡ length cards
-unfolding without
-length-parts [] gone = omega arith
-length-parts (card ∷ cards) gone =
-    kept_or_held (holds gone card) card (without cards gone) (filter (holds gone) cards) (length cards)
-    (length-parts cards gone)
-
 part_test : (missing west test : Bool) → (west ≡ true → missing ≡ true) → ((missing && test) && west) ≡ (west && test)
 part_test true true true within = refl
 part_test true true false within = refl
@@ -131,7 +122,7 @@ cards_in-parts question west class is =
     omega (
       arith,
       ap length (cards_left_of_class (hands_of question) (missing question) west class),
-      length-parts (filter test (missing question)) west,
+      length-left_and_gone (filter test (missing question)) west,
       ap length those,
     )
 

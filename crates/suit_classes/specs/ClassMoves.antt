@@ -1,7 +1,6 @@
 -- Class moves: moves of single cards, told by their classes alone, histories of them, and the order in which they
 -- stand.
-use Rattle.std.specs.Prelude.{ℕ, ◌==◌, ◌&&◌, ◌||◌, nat_lt, Bool, true, false, List, map}
-use Rattle.suit_cards.specs.declared.seats.Seat.TheVariants.{N, E, S, W}
+use Rattle.std.specs.Prelude.{◌==◌, ◌&&◌, Bool, true, false, List, map}
 use Rattle.suit_game.specs.Histories.{History}
 use Rattle.suit_game.specs.Strategies.{same_seat}
 use Rattle.suit_game.specs.declared.moves.Move.{Move}

@@ -5,7 +5,8 @@ use Rattle.std.specs.Prelude.{Contains}
 use Rattle.std.specs.List.{AllByRecursion, filter, flat_map, range_with_len}
 use Rattle.std.proofs.lemmas.Bool.{cases_eq}
 use Rattle.std.proofs.lemmas.List.Elements.{All-contains, All-contains_itself, All-filter, All-from_recursion}
-use Rattle.std.proofs.lemmas.List.Elements.{Contains-append_left, Contains-append_right, recursion_from_All}
+use Rattle.std.proofs.lemmas.List.Elements.{Contains-append_left, Contains-append_right, filter_passes}
+use Rattle.std.proofs.lemmas.List.Elements.{recursion_from_All}
 
 -- an element of a list with a first one is the first, or one of the others
 pub Contains-cons_cases : {X : Type 0} (x : X) (xs : List X) (y : X) → Contains (x ∷ xs) y → (x ≡ y) ⊎ Contains xs y
@@ -118,6 +119,14 @@ pub Contains-filter : {X : Type 0} (test : X → Bool) (xs : List X) (y : X) →
 Contains-filter test [] y found passes = found
 Contains-filter test (x ∷ xs) y found passes =
     Contains-kept test x xs (test x) refl y passes found (λ there. Contains-filter test xs y there passes)
+
+-- what a filter keeps was there, and passes
+pub kept_parts : {X : Type 0} (test : X → Bool) (xs : List X) (x : X) → Contains (filter test xs) x → Contains xs x
+    × (test x ≡ true)
+kept_parts {X} test xs x found = (
+  All-contains (Contains xs) (filter test xs) x (All-filter test (Contains xs) xs (All-contains_itself xs)) found,
+  All-contains (λ (y : X). test y ≡ true) (filter test xs) x (filter_passes test xs) found,
+)
 
 -- a number of a run is in it
 pub Contains-range : (a n count : ℕ) → a ≤ count → count < a + n → Contains (range_with_len a n) count

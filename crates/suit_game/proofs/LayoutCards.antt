@@ -7,7 +7,7 @@ use Rattle.std.specs.List.{AllByRecursion, list_any}
 use Rattle.suit_cards.specs.declared.seats.Seat.{Seat}
 use Rattle.suit_cards.specs.declared.seats.Seat.TheVariants.{N, E, S, W}
 use Rattle.suit_cards.specs.Holdings.{FallsBelow, IsHolding, holds, suit}
-use Rattle.suit_cards.proofs.HeldSuits.{IsHolding-filter, IsHolding-others_of, holds-others_of}
+use Rattle.suit_cards.proofs.HeldSuits.{FallsBelow-later, IsHolding-filter, IsHolding-others_of, holds-others_of}
 use Rattle.suit_game.specs.declared.question.Question.{Question}
 use Rattle.suit_game.specs.Deals.{IsDeal}
 use Rattle.suit_game.specs.Question.{missing}
@@ -15,11 +15,6 @@ use Rattle.suit_game.specs.Layouts.{choices_of, layouts, is_west_length}
 use Rattle.suit_game.specs.Positions.{without, dealt}
 use Rattle.suit_game.proofs.EachElement.{each_at, each_gives, each_map, each_append, each_filter}
 use Rattle.suit_game.proofs.HeldCards.{holds-from_filter, holds-from_without}
-
--- what falls below a top falls below a higher one
-FallsBelow-higher : (top higher : ℕ) (cards : List ℕ) → top ≤ higher → FallsBelow top cards → FallsBelow higher cards
-FallsBelow-higher top higher [] up falls = tt
-FallsBelow-higher top higher (first ∷ cards) up falls = (falls.0, omega (arith, falls.1), falls.2)
 
 -- some of the cards, in their order, falling below a top
 pub record IsPart (top : ℕ) (cards taken : List ℕ) : Type 0 where
@@ -39,7 +34,7 @@ part_with top first cards taken least below part = record {
 part_without : (top first : ℕ) (cards taken : List ℕ) → first < top → IsPart first cards taken
     → IsPart top (first ∷ cards) taken
 part_without top first cards taken below part = record {
-  falls = FallsBelow-higher first top taken (omega arith) part.falls;
+  falls = FallsBelow-later first top taken (omega arith) part.falls;
   held = λ card held. or_right (nat_eq card first) (holds cards card) (part.held card held);
 }
 

@@ -1,11 +1,11 @@
 -- Layouts and their counts.
-use Rattle.std.proofs.Common.{◌≡◌, ℕ, ◌*◌, ◌≤◌, ◌<◌, Bool, true, false, cond, nat_eq, List, [], ◌∷◌, length, refl, ap}
+use Rattle.std.proofs.Common.{◌≡◌, ℕ, ◌*◌, ◌<◌, Bool, true, false, cond, nat_eq, List, length, refl, ap}
 use Rattle.std.proofs.Common.{◌∙◌, inl, inr, arith}
-use Rattle.std.specs.Prelude.{bytes_eq, ◌==◌, slice_index_or, Contains, IsTrue, if◌then◌else◌}
-use Rattle.std.specs.List.{filter, sum, sum_by}
-use Rattle.std.proofs.lemmas.Bool.{cases_eq, cases_lt, eq-eqb, ne_eqb}
+use Rattle.std.specs.Prelude.{◌==◌, Contains, IsTrue, if◌then◌else◌}
+use Rattle.std.specs.List.{filter, sum}
+use Rattle.std.proofs.lemmas.Bool.{cases_eq, eq-eqb, ne_eqb}
 use Rattle.std.proofs.lemmas.List.Elements.{All-contains, All-contains_itself, All-filter, filter_passes}
-use Rattle.std.proofs.lemmas.List.Sums.{get_or-le-sum_by, length-filter, sum_by-cons}
+use Rattle.std.proofs.lemmas.List.Sums.{length-filter}
 use Rattle.std.proofs.lemmas.Slice.Eq.{bytes_eq-Decides}
 use Rattle.suit_cards.specs.Cards.{Cards, Counts, Sizes}
 use Rattle.suit_cards.proofs.HeldSuits.{IsHolding-others_of}
@@ -13,7 +13,7 @@ use Rattle.suit_game.specs.declared.question.Question.{Question}
 use Rattle.suit_game.specs.Layouts.{choices_of, is_west_length, layouts, weight}
 use Rattle.suit_game.specs.Question.{missing}
 use Rattle.suit_game.proofs.ListSums.{sum_by_filter, sum_by_none, sum_by_same, term_small, some_term}
-use Rattle.suit_game.proofs.EachElement.{Contains-first, Contains-later, Contains-filter}
+use Rattle.suit_game.proofs.EachElement.{Contains-filter}
 use Rattle.suit_game.specs.Blocks.{counts_of}
 use Rattle.suit_layouts.specs.ClassLayouts.{class_weight, counts_up_to, same_counts, ways_of}
 use Rattle.suit_layouts.proofs.ClassWeights.{both_tests, selected}

@@ -1,6 +1,6 @@
 -- Sums over the choices of two lists of cards together.
-use Rattle.std.proofs.Common.{◌≡◌, ℕ, ◌*◌, Bool, true, false, cond, List, [], ◌∷◌, ◌++◌, map, length, refl, ap, arith}
-use Rattle.std.specs.List.{AllByRecursion, sum_by, count_by, flat_map}
+use Rattle.std.proofs.Common.{◌≡◌, ℕ, Bool, true, false, cond, List, [], ◌∷◌, ◌++◌, map, length, refl, ap, arith}
+use Rattle.std.specs.List.{AllByRecursion, sum_by, count_by}
 use Rattle.std.proofs.lemmas.Bool.{or_left, or_right}
 use Rattle.std.proofs.lemmas.List.Sums.{sum_by-append, sum_by-cons}
 use Rattle.std.proofs.Common.{nat_eq}

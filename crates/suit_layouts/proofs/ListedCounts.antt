@@ -1,18 +1,18 @@
 -- Which counts are listed.
-use Rattle.std.proofs.Common.{◌≡◌, ℕ, zero, suc, ◌+◌, ◌*◌, ◌≤◌, ◌<◌, Bool, true, false, cond, nat_lt, List, [], ◌∷◌}
-use Rattle.std.proofs.Common.{map, length, refl, sym, ap, ◌∙◌, subst, inl, inr, arith}
+use Rattle.std.proofs.Common.{◌≡◌, ℕ, zero, suc, ◌+◌, ◌*◌, ◌≤◌, ◌<◌, Bool, true, nat_lt, List, [], ◌∷◌}
+use Rattle.std.proofs.Common.{map, length, refl, sym, subst, inl, inr, arith}
 use Rattle.std.specs.Prelude.{◌↔◌, Contains}
-use Rattle.std.specs.List.{AllByRecursion, filter, flat_map, range_with_len, sum}
-use Rattle.std.proofs.lemmas.Bool.{cases_eq, cases_lt, ltb-true, lt-ltb}
-use Rattle.std.proofs.lemmas.List.Elements.{All-contains, All-filter, All-from_recursion, Contains-append_left}
-use Rattle.std.proofs.lemmas.List.Elements.{Contains-append_right, filter_passes}
+use Rattle.std.specs.List.{AllByRecursion, filter, range_with_len, sum}
+use Rattle.std.proofs.lemmas.Bool.{cases_lt, ltb-true, lt-ltb}
+use Rattle.std.proofs.lemmas.List.Elements.{All-contains, All-filter, All-from_recursion}
+use Rattle.std.proofs.lemmas.List.Elements.{filter_passes}
 use Rattle.suit_cards.specs.Cards.{Counts, Sizes}
 use Rattle.suit_num.specs.Binomials.{binomial}
 use Rattle.suit_num.proofs.BinomialLaws.{binomial_past}
 use Rattle.suit_game.specs.declared.question.Question.{Question}
 use Rattle.suit_game.specs.Question.{missing}
 use Rattle.suit_game.specs.Weights.{weight_in_range}
-use Rattle.suit_game.proofs.EachElement.{Contains-cons_cases, Contains-first, Contains-later, Contains-nil, each_map}
+use Rattle.suit_game.proofs.EachElement.{Contains-first, each_map}
 use Rattle.suit_game.proofs.EachElement.{each_of, Contains-flat_map, Contains-map, Contains-range, Contains-filter}
 use Rattle.suit_layouts.specs.ClassLayouts.{class_layouts, class_weight, counts_up_to, ways_of, weighed}
 use Rattle.suit_layouts.proofs.ClassWeights.{class_weight_counted}

@@ -14,7 +14,7 @@ use Rattle.suit_game.proofs.EachElement.{Contains-cons_cases, Contains-nil, map_
 use Rattle.suit_game.proofs.ListSums.{sum_by_none, sum_by_same}
 use Rattle.suit_classes.specs.Classes.{Hands, class_of}
 use Rattle.suit_classes.specs.ClassGame.{cards_in}
-use Rattle.suit_classes.proofs.DistinctMoves.{IsOnce}
+use Rattle.suit_game.proofs.DistinctElements.{IsOnce}
 use Rattle.suit_layouts.specs.ClassLayouts.{ways_of}
 use Rattle.suit_lift.proofs.FreeChoices.{choices_parted}
 use Rattle.suit_lift.proofs.HandParts.{cards_in-other, cards_in-same}

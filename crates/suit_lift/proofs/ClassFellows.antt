@@ -24,7 +24,7 @@ use Rattle.suit_classes.specs.ClassGame.{cards_in, each_once}
 use Rattle.suit_classes.specs.ClassMoves.{merge, merged, same_class_move}
 use Rattle.suit_classes.specs.ClassGame.{counts_of}
 use Rattle.suit_classes.proofs.AllowedHistories.{Contains-each_once, each_once-Contains}
-use Rattle.suit_classes.proofs.DistinctMoves.{IsOnce}
+use Rattle.suit_game.proofs.DistinctElements.{IsOnce}
 use Rattle.suit_classes.proofs.MovesOnce.{filter_of_map}
 use Rattle.suit_classes.proofs.SameMoves.{same_move-itself, same_move_is}
 use Rattle.suit_plans.specs.declared.defence.Defence.{Defence}

@@ -19,7 +19,8 @@ use Rattle.suit_classes.specs.ClassGame.{cards_in}
 use Rattle.suit_classes.specs.declared.classes.Owner.TheVariants as owners
 use Rattle.suit_classes.proofs.ClassNumbers.{class_of-below}
 use Rattle.suit_classes.proofs.DefenceClasses.{class_owner-class_of, missing_are}
-use Rattle.suit_classes.proofs.DistinctMoves.{IsOnce, once_filter, once_range}
+use Rattle.suit_classes.proofs.DistinctMoves.{once_range}
+use Rattle.suit_game.proofs.DistinctElements.{IsOnce, once_filter}
 use Rattle.suit_game.proofs.HeldCards.{holds-from_filter}
 
 -- the cards of a hand that are gone

@@ -19,7 +19,7 @@ use Rattle.suit_game.specs.Strategies.{same_move, same_seat}
 use Rattle.suit_game.proofs.EachElement.{each_gives, each_map, each_of}
 use Rattle.suit_game.proofs.TrickStates.{same_seat_is}
 use Rattle.suit_classes.proofs.DealtClasses.{IsDealt, IsHolding-dealt, IsHolding-without}
-use Rattle.suit_classes.proofs.DistinctMoves.{IsOnce, once_append, once_map}
+use Rattle.suit_game.proofs.DistinctElements.{IsOnce, once_append, once_map}
 use Rattle.suit_classes.proofs.MergedPlaces.{play_dealt}
 
 same_seat-itself : (seat : Seat) → same_seat seat seat ≡ true

@@ -14,7 +14,7 @@ use Rattle.suit_classes.specs.Classes.{Hands}
 use Rattle.suit_classes.specs.ClassGame.{each_once}
 use Rattle.suit_classes.specs.ClassMoves.{merge, same_class_move}
 use Rattle.suit_classes.proofs.AllowedHistories.{Contains-each_once, each_once-Contains}
-use Rattle.suit_classes.proofs.DistinctMoves.{IsOnce, once_filter}
+use Rattle.suit_game.proofs.DistinctElements.{IsOnce, once_filter}
 use Rattle.suit_classes.proofs.SameMoves.{among-Contains, among_contained, same_move-itself, same_move_is}
 use Rattle.suit_lift.specs.Lifts.{is_lowest}
 use Rattle.suit_lift.proofs.LegalMoves.{other_card_move, same_card_move-itself}

@@ -6,7 +6,7 @@ use Rattle.std.specs.List.{AllByRecursion, sum_by}
 use Rattle.std.proofs.Math.Nat.{mul-le-mul_left, mul-pos}
 use Rattle.std.proofs.lemmas.Int.{ints}
 use Rattle.std.proofs.lemmas.List.Sums.{sum_by-cons}
-use Rattle.suit_num.proofs.IntegerLaws.{mul_not_negative}
+use Rattle.suit_num.proofs.IntegerLaws.{mul_not_negative, int_le-true}
 use Rattle.suit_cards.specs.Cards.{Cards, Counts}
 use Rattle.suit_game.specs.declared.question.Question.{Question}
 use Rattle.suit_game.specs.Blocks.{counts_of as block_counts}
@@ -31,7 +31,6 @@ use Rattle.suit_plans.specs.declared.plan.Plan.{Plan}
 use Rattle.suit_plans.specs.Masses.{plan_mass, mass_from, mass_of}
 use Rattle.suit_plans.specs.Properness.{IsProperPlan}
 use Rattle.suit_plans.proofs.ProperPlans.{proper_plan}
-use Rattle.suit_plans.proofs.SharedSums.{int_le-true}
 use Rattle.suit_lift.specs.LiftLaws.{PlansEarn}
 use Rattle.suit_lift.specs.Lifts.{plan_way}
 use Rattle.suit_lift.proofs.PlanPays.{plans_pay}

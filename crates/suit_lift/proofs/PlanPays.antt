@@ -37,7 +37,8 @@ use Rattle.suit_plans.specs.Masses.{declarer, is_declarers, plan_shares_at, plan
 use Rattle.suit_plans.specs.Properness.{IsProperPlan, sum_of}
 use Rattle.suit_plans.proofs.MassSteps.{mass_kept}
 use Rattle.suit_plans.proofs.ProperPlans.{plans_are_realised}
-use Rattle.suit_plans.proofs.TurnMoves.{HasFirst, declarers_moves}
+use Rattle.suit_plans.proofs.TurnMoves.{declarers_moves}
+use Rattle.suit_classes.proofs.UndecidedMoves.{HasFirst}
 use Rattle.suit_lift.specs.Lifts.{RowCounts, class_share, common, is_lowest, plan_share, plan_way}
 use Rattle.suit_lift.proofs.DecidedPays.{decided_pay}
 use Rattle.suit_lift.proofs.LegalMoves.{declarers_legal, once_legal}

@@ -9,7 +9,7 @@ use Rattle.suit_game.proofs.EachElement.{Contains-cons_cases, Contains-nil, map_
 use Rattle.suit_classes.specs.declared.class_moves.ClassMove.{ClassMove}
 use Rattle.suit_plans.specs.BestReplies.{Reply, best_of, worth, worth_at, worth_within}
 use Rattle.suit_plans.specs.Properness.{sum_of}
-use Rattle.suit_plans.proofs.TurnMoves.{HasFirst}
+use Rattle.suit_classes.proofs.UndecidedMoves.{HasFirst}
 
 -- with fewer than 52 moves so far, a class history is worth what comes of the worths after each move
 pub worth_next : (reply : Reply) (history : List ClassMove) → length history < 52

@@ -1,5 +1,5 @@
 -- The derived equality of moves of single cards is that of their definition (`eq_same_card`).
-use Rattle.std.proofs.Common.{◌≡◌, Bool, refl}
+use Rattle.std.proofs.Common.{◌≡◌, refl}
 use Rattle.suit_cards.specs.declared.seats.Seat.TheVariants.{N, E, S, W}
 use Rattle.suit_game.specs.declared.moves.Move.{Move}
 use Rattle.suit_game.specs.declared.moves.Move.TheVariants.{Lead, Follow, ShowOut}

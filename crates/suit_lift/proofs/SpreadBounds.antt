@@ -27,7 +27,7 @@ use Rattle.suit_classes.specs.ClassGame.{cards_in}
 use Rattle.suit_classes.specs.ClassMoves.{same_class_move}
 use Rattle.suit_classes.specs.MoveOrder.{class_named}
 use Rattle.suit_classes.proofs.DealtClasses.{IsHolding-without}
-use Rattle.suit_classes.proofs.DistinctMoves.{IsOnce, once_map}
+use Rattle.suit_game.proofs.DistinctElements.{IsOnce, once_map}
 use Rattle.suit_classes.proofs.SameMoves.{same_move_is}
 use Rattle.suit_lift.specs.Lifts.{common}
 use Rattle.suit_lift.specs.Naming.{unplayed}

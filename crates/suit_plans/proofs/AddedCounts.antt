@@ -9,7 +9,7 @@ use Rattle.std.proofs.lemmas.Int.{ints}
 use Rattle.std.proofs.lemmas.List.{at_drop_more, drop_all}
 use Rattle.suit_classes.specs.declared.class_moves.ClassMove.{ClassMove}
 use Rattle.suit_plans.specs.Properness.{sum_of}
-use Rattle.suit_plans.proofs.SharedSums.{int_le-true}
+use Rattle.suit_num.proofs.IntegerLaws.{int_le-true}
 use Rattle.suit_plans.specs.Masses.{Shares}
 
 -- the sum of some counts

@@ -7,7 +7,7 @@ use Rattle.std.proofs.lemmas.Int.{ints}
 use Rattle.std.proofs.lemmas.List.Sums.{sum_by-cons}
 use Rattle.std.proofs.Math.IntN.{*ℤ_comm, zero-*ℤ}
 use Rattle.suit_cards.specs.Cards.{Counts}
-use Rattle.suit_num.proofs.IntegerLaws.{le-mul_right, mul-add_right, mul_left_comm, mul_not_negative}
+use Rattle.suit_num.proofs.IntegerLaws.{le-mul_right, mul-add_right, mul_left_comm, mul_not_negative, int_le-true}
 use Rattle.suit_game.specs.declared.question.Question.{Question}
 use Rattle.suit_game.specs.Layouts.{total}
 use Rattle.suit_game.specs.Validity.{IsValid}
@@ -33,7 +33,6 @@ use Rattle.suit_plans.proofs.PlanWorths.{plans_paid}
 use Rattle.suit_plans.proofs.ProperDefences.{proper_defence}
 use Rattle.suit_plans.proofs.ProperPlans.{proper_plan}
 use Rattle.suit_plans.proofs.PublicMoves.{allows_some, layout_weighs}
-use Rattle.suit_plans.proofs.SharedSums.{int_le-true}
 
 -- ---- the masses at the start
 

@@ -1,25 +1,21 @@
 -- The choices of a best reply stand in the order of their class histories (`plan_choices_rise`,
 -- `defence_choices_rise`).
-use Rattle.std.proofs.Common.{◌≡◌, ℕ, zero, suc, ◌<◌, Bool, true, false, List, [], ◌∷◌, ◌++◌, length, refl, sym, ap}
+use Rattle.std.proofs.Common.{◌≡◌, ℕ, zero, suc, Bool, true, false, List, [], ◌∷◌, ◌++◌, sym}
 use Rattle.std.proofs.Common.{◌∙◌, subst, arith, append-nil, append_assoc}
-use Rattle.std.specs.Prelude.{AllPairs, Contains, ◌&&◌, ◌||◌, filter, if◌then◌else◌}
+use Rattle.std.specs.Prelude.{AllPairs, ◌&&◌, filter, if◌then◌else◌}
 use Rattle.std.specs.List.{AllByRecursion, flat_map}
 use Rattle.std.proofs.lemmas.Bool.{and_from, or_left, or_right}
 use Rattle.std.proofs.lemmas.List.Elements.{recursion_from_All}
-use Rattle.suit_cards.specs.Cards.{Counts}
-use Rattle.suit_game.specs.declared.question.Question.{Question}
 use Rattle.suit_game.proofs.EachElement.{each_at, each_gives}
 use Rattle.suit_classes.specs.declared.class_moves.ClassMove.{ClassMove}
 use Rattle.suit_classes.specs.AllowedHistories.{every_move}
 use Rattle.suit_classes.specs.ClassMoves.{ClassHistory, same_class_move}
 use Rattle.suit_classes.specs.MoveOrder.{stands_before}
 use Rattle.suit_classes.specs.ClassPlaces.{class_after, class_decided, class_moves}
-use Rattle.suit_classes.proofs.DistinctMoves.{each_flat_map}
+use Rattle.suit_game.proofs.DistinctElements.{each_flat_map}
 use Rattle.suit_classes.proofs.RisingMoves.{Chained, chained_append, chained_filter, chained_pairs, class_moves_rise}
 use Rattle.suit_classes.proofs.RisingMoves.{every_move_rises}
 use Rattle.suit_classes.proofs.SameMoves.{same_move-itself}
-use Rattle.suit_plans.specs.declared.plan.Plan.{Plan}
-use Rattle.suit_plans.specs.declared.defence.Defence.{Defence}
 use Rattle.suit_plans.specs.BestReplies.{Reply, choices, has_choice, histories_within, is_reached, reply_to_defence}
 use Rattle.suit_plans.specs.BestReplies.{reply_to_plan}
 use Rattle.suit_plans.specs.Orders.{InOrder, history_before, is_earlier}

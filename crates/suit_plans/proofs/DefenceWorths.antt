@@ -23,7 +23,7 @@ use Rattle.suit_plans.proofs.PaidWorths.{none_paid, one_paid, paid_most, product
 use Rattle.suit_plans.proofs.ProperDefences.{defences_are_realised as defences_realised}
 use Rattle.suit_plans.proofs.PublicMoves.{allowing_parts, going_with, held_moves, layout_weighs, own_allows}
 use Rattle.suit_plans.proofs.PublicMoves.{public_allowed, public_short, some_layout, some_public}
-use Rattle.suit_plans.proofs.TurnMoves.{HasFirst}
+use Rattle.suit_classes.proofs.UndecidedMoves.{HasFirst}
 use Rattle.suit_plans.proofs.WhoseTurns.{Declarers, Defences, Over, WhoseTurn, own_turn, their_turn, whose_turn}
 use Rattle.suit_plans.proofs.WorthsAtTurns.{HasFirst-map, best_turn, ended_worth, left_after, most_of, summed_turn}
 

@@ -21,7 +21,7 @@ use Rattle.suit_plans.specs.ReplyLaws.{IsLeastOf, IsPaid, NoMassIsWorthNothing, 
 use Rattle.suit_plans.specs.ReplyLaws.{PlansAtDeclarers, PlansAtDefences, worths_with}
 use Rattle.suit_plans.proofs.PaidWorths.{none_paid, one_paid, paid_most, product_paid, sum_paid}
 use Rattle.suit_plans.proofs.ProperPlans.{plans_are_realised as plans_realised}
-use Rattle.suit_plans.proofs.TurnMoves.{HasFirst, some_move}
+use Rattle.suit_classes.proofs.UndecidedMoves.{HasFirst, some_move}
 use Rattle.suit_plans.proofs.WhoseTurns.{Declarers, Defences, Over, WhoseTurn, own_turn, their_turn, whose_turn}
 use Rattle.suit_plans.proofs.WorthsAtTurns.{HasFirst-map, best_turn, ended_worth, least_of, left_after, summed_turn}
 

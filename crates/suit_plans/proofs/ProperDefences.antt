@@ -6,7 +6,7 @@ use Rattle.std.proofs.lemmas.Bool.{and_from, and_parts, ltb-true, or_right}
 use Rattle.std.proofs.lemmas.Int.{ints}
 use Rattle.std.proofs.lemmas.Slice.Eq.{bytes_eq-Decides}
 use Rattle.suit_cards.specs.Cards.{Counts}
-use Rattle.suit_num.proofs.IntegerLaws.{mul_not_negative}
+use Rattle.suit_num.proofs.IntegerLaws.{mul_not_negative, int_le-true}
 use Rattle.suit_game.specs.declared.question.Question.{Question}
 use Rattle.suit_classes.specs.declared.class_moves.ClassMove.{ClassMove}
 use Rattle.suit_classes.specs.AllowedHistories.{allows}
@@ -28,7 +28,6 @@ use Rattle.suit_plans.proofs.MassSteps.{mass_of_same}
 use Rattle.suit_plans.proofs.ProperPlans.{option_map-from}
 use Rattle.suit_plans.proofs.RealisedSides.{IsSound, SharesMass, sound_realised}
 use Rattle.suit_plans.proofs.RowOrder.{FoundRow, FoundRow-from, IsRowOrder-defences, find_before}
-use Rattle.suit_plans.proofs.SharedSums.{int_le-true}
 
 -- whether a row of a defence stands after the last of some
 abbrev pub stands_after : DefenceRow → List DefenceRow → Bool

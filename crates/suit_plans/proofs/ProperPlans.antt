@@ -21,7 +21,7 @@ use Rattle.suit_plans.proofs.HistoryOrder.{IsStrict-moves, earlier-start, same_c
 use Rattle.suit_plans.proofs.MassSteps.{mass_of_same}
 use Rattle.suit_plans.proofs.RealisedSides.{IsSound, SharesMass, sound_realised}
 use Rattle.suit_plans.proofs.RowOrder.{FoundRow, FoundRow-from, IsRowOrder-histories, find_before}
-use Rattle.suit_plans.proofs.SharedSums.{int_le-true}
+use Rattle.suit_num.proofs.IntegerLaws.{int_le-true}
 use Rattle.suit_plans.proofs.TurnMoves.{declarers_moves}
 
 -- whether a row of a plan stands after the last of some

@@ -1,18 +1,18 @@
 -- The moves with which a class history goes on for declarer, against the class moves in a class layout that allows it
 -- (`held_moves`, `own_moves_on`).
-use Rattle.std.proofs.Common.{◌≡◌, ℕ, ◌<◌, ◌≤◌, Bool, true, false, cond, List, [], ◌∷◌, ◌++◌, length, refl, sym, ap}
+use Rattle.std.proofs.Common.{◌≡◌, ℕ, ◌<◌, ◌≤◌, Bool, true, false, List, [], ◌∷◌, ◌++◌, length, refl, sym, ap}
 use Rattle.std.proofs.Common.{◌∙◌, subst, inl, inr, arith}
 use Rattle.std.specs.Prelude.{◌&&◌, Contains, filter, if◌then◌else◌}
 use Rattle.std.specs.Bool.{Decides}
 use Rattle.std.specs.List.{list_any}
 use Rattle.std.proofs.lemmas.Bool.{false≢true, or_cases, or_left, or_right}
 use Rattle.std.proofs.lemmas.Bool.Decides.{same_from_decides}
-use Rattle.std.proofs.lemmas.List.Elements.{All-contains, All-contains_itself, All-filter, filter_agree, filter_passes}
+use Rattle.std.proofs.lemmas.List.Elements.{filter_agree}
 use Rattle.suit_cards.specs.Cards.{Counts}
 use Rattle.suit_game.specs.declared.question.Question.{Question}
 use Rattle.suit_game.specs.Validity.{IsValid}
 use Rattle.suit_game.proofs.EachElement.{Contains-cons_cases, Contains-filter, Contains-first, Contains-later}
-use Rattle.suit_game.proofs.EachElement.{Contains-nil}
+use Rattle.suit_game.proofs.EachElement.{Contains-nil, kept_parts}
 use Rattle.suit_classes.specs.declared.class_moves.ClassMove.{ClassMove}
 use Rattle.suit_classes.specs.AllowedHistories.{allows, every_move, is_among}
 use Rattle.suit_classes.specs.Classes.{defence_sizes, hands_of, sizes_of}
@@ -22,7 +22,8 @@ use Rattle.suit_classes.specs.ClassPlaces.{class_after, class_decided, class_mov
 use Rattle.suit_classes.proofs.AllowedHistories.{allowed_moves}
 use Rattle.suit_classes.proofs.AllowedLayouts.{allows_tells}
 use Rattle.suit_classes.proofs.DefenceSizes.{sum-defence_sizes}
-use Rattle.suit_classes.proofs.SameMoves.{among-Contains, among_contained}
+use Rattle.suit_cards.proofs.SuitRuns.{filter-filter}
+use Rattle.suit_classes.proofs.SameMoves.{among-Contains, among_contained, among_decides, both_second}
 use Rattle.suit_classes.proofs.ToldHistories.{allows-push}
 use Rattle.suit_layouts.proofs.ListedCounts.{class_layouts_exact}
 use Rattle.suit_layouts.specs.ClassLayouts.{class_layouts}
@@ -32,7 +33,8 @@ use Rattle.suit_plans.specs.Properness.{some_allows}
 use Rattle.suit_plans.proofs.AllowedWalks.{start_allows}
 use Rattle.suit_classes.proofs.EveryMove.{class_moves_listed}
 use Rattle.suit_plans.proofs.RowLimits.{some_allowed_short}
-use Rattle.suit_plans.proofs.TurnMoves.{HasFirst, declarers_moves, some_move}
+use Rattle.suit_plans.proofs.TurnMoves.{declarers_moves}
+use Rattle.suit_classes.proofs.UndecidedMoves.{HasFirst, some_move}
 
 -- ---- lists
 
@@ -53,41 +55,14 @@ passing_some test (first ∷ xs) x found passes = elim (Contains-cons_cases firs
   | inr there ↦ or_right (test first) (list_any test xs) (passing_some test xs x there passes)
 ]
 
--- what a filter keeps was there, and passes
-pub kept_parts : {X : Type 0} (test : X → Bool) (xs : List X) (x : X) → Contains (filter test xs) x → Contains xs x
-    × (test x ≡ true)
-kept_parts {X} test xs x found = (
-  All-contains (Contains xs) (filter test xs) x (All-filter test (Contains xs) xs (All-contains_itself xs)) found,
-  All-contains (λ (y : X). test y ≡ true) (filter test xs) x (filter_passes test xs) found,
-)
-
-filtered_either : {X : Type 0} (p : X → Bool) (x : X) (kept : List X) (b : Bool)
-    → filter p (cond b (x ∷ kept) kept) ≡ cond (b && p x) (x ∷ filter p kept) (filter p kept)
-filtered_either p x kept true = refl
-filtered_either p x kept false = refl
-
--- a filter after a filter keeps what passes both
-pub filter_both : {X : Type 0} (p q : X → Bool) (xs : List X) → filter p (filter q xs) ≡ filter (λ x. q x && p x) xs
-filter_both p q [] = refl
-filter_both {X} p q (x ∷ xs) =
-    filtered_either p x (filter q xs) (q x) ∙ ap (λ (l : List X). cond (q x && p x) (x ∷ l) l) (filter_both p q xs)
-
 -- a list with an element has a first one
 pub HasFirst-found : {X : Type 0} (xs : List X) (x : X) → Contains xs x → HasFirst xs
 HasFirst-found [] x found = absurd (Contains-nil x found)
 HasFirst-found (first ∷ xs) x found = record { first = first; more = xs; parts = refl }
 
-both_second : (b c : Bool) → (c ≡ true → b ≡ true) → (b && c) ≡ c
-both_second true c gives = refl
-both_second false true gives = gives refl
-both_second false false gives = refl
-
 and-true : (b c : Bool) → c ≡ true → (b && c) ≡ b
 and-true true c is = is
 and-true false c is = refl
-
-among_decides : (moves : List ClassMove) (move : ClassMove) → Decides (is_among moves move) (Contains moves move)
-among_decides moves move = (among-Contains moves move, among_contained moves move)
 
 module _ (question : Question) (valid : IsValid question) where
   -- a class layout that is listed has positive weight
@@ -172,7 +147,7 @@ module _ (question : Question) (valid : IsValid question) where
   going_with history move =
       let goes : Counts × ℕ → Bool = λ layout. is_among (class_moves (class_after question history) layout.0) move in
       let before : Counts × ℕ → Bool = λ layout. allows question layout.0 history in
-      filter_both goes before (class_layouts question (sizes_of question))
+      filter-filter before goes (class_layouts question (sizes_of question))
       ∙ filter_agree (λ layout. before layout
       && goes layout) (λ layout. allows question layout.0 (history ++ move ∷ []))
       (λ layout. sym (allows-push question layout.0 history move)) (class_layouts question (sizes_of question))
@@ -225,7 +200,7 @@ module _ (question : Question) (valid : IsValid question) where
         let among : ClassMove → Bool = is_among (class_moves (class_after question history) layout.0) in
         let some : ClassMove → Bool = λ move. some_allows question (history ++ move ∷ []) in
         ap (filter among) (public_going history going)
-        ∙ filter_both among some every_move
+        ∙ filter-filter some among every_move
         ∙ filter_agree (λ move. some move
         && among move) among (λ move. both_second (some move) (among move) (move_allowed move)) every_move
         ∙ sym (class_moves_listed (class_after question history) layout.0)

@@ -11,13 +11,15 @@ use Rattle.suit_classes.specs.declared.class_turn.ClassTurn.TheVariants as turns
 use Rattle.suit_classes.specs.AllowedHistories.{is_among}
 use Rattle.suit_classes.specs.ClassGame.{Allows}
 use Rattle.suit_classes.specs.ClassPlaces.{class_after, class_moves, class_turn}
-use Rattle.suit_classes.proofs.DistinctMoves.{IsOnce, once_class_moves}
+use Rattle.suit_classes.proofs.DistinctMoves.{once_class_moves}
+use Rattle.suit_game.proofs.DistinctElements.{IsOnce}
 use Rattle.suit_plans.specs.Masses.{Shares, Side, is_first, mass_from, mass_of, let_through, share}
 use Rattle.suit_plans.specs.PlanLaws.{AreRealised}
 use Rattle.suit_plans.specs.Properness.{are_rising, moves_of, sum_of}
 use Rattle.suit_plans.proofs.MassSteps.{mass_kept, mass_shared}
-use Rattle.suit_plans.proofs.SharedSums.{count_case, count_positive, int_le-true, sum_counts, sum_first}
-use Rattle.suit_plans.proofs.TurnMoves.{HasFirst, turn_move}
+use Rattle.suit_plans.proofs.SharedSums.{count_case, count_positive, sum_counts, sum_first}
+use Rattle.suit_num.proofs.IntegerLaws.{int_le-true}
+use Rattle.suit_classes.proofs.UndecidedMoves.{HasFirst, turn_move}
 
 -- counts share out the mass of a history among legal moves
 pub record SharesMass (question : Question) (side : Side) (history : List ClassMove) (shares : Shares) : Type 0 where
@@ -98,7 +100,7 @@ mass_adds question side counts history sound same allows plays =
     ap sum_of each
     ∙ shares_add question side history legal (side.shares_at history) (sound.rows history) same
     (once_class_moves (class_after question history) counts)
-    (turn_move question side counts history sound.decided allows plays)
+    (turn_move question side.plays counts history sound.decided allows plays)
 
 -- a sound side is realised where its moves are those for West's counts
 pub sound_realised : (question : Question) (side : Side) (counts : Counts) → IsSound question side

@@ -1,9 +1,9 @@
 -- The entries of a best reply are choices of its side, and its move there is one of the moves (`least_choices`,
 -- `most_choices`).
 use Rattle.std.proofs.Common.{◌≡◌, ◌⊎◌, ℕ, zero, suc, ◌<◌, Bool, true, false, cond, List, [], ◌∷◌, ◌++◌, length, get_or}
-use Rattle.std.proofs.Common.{map, refl, sym, ap, ◌∙◌, subst, inl, inr, arith}
-use Rattle.std.specs.Prelude.{Contains, ◌&&◌, filter, nat_lt, if◌then◌else◌, ℤ, pos, ◌<ℤ◌, int_lt}
-use Rattle.std.specs.List.{AllByRecursion, flat_map, list_any, range_with_len}
+use Rattle.std.proofs.Common.{refl, sym, ap, ◌∙◌, subst, inl, inr, arith}
+use Rattle.std.specs.Prelude.{Contains, ◌&&◌, filter, nat_lt, if◌then◌else◌, ℤ, pos, int_lt}
+use Rattle.std.specs.List.{AllByRecursion, flat_map, range_with_len}
 use Rattle.std.specs.Ordering.{int_eq}
 use Rattle.std.proofs.lemmas.Bool.{and_parts, false≢true, ltb-true}
 use Rattle.std.proofs.lemmas.Bool.Decides.{Decides-int_eq}
@@ -12,16 +12,16 @@ use Rattle.suit_cards.specs.Cards.{Counts}
 use Rattle.suit_num.proofs.IntegerLaws.{int_lt-true}
 use Rattle.suit_game.specs.declared.question.Question.{Question}
 use Rattle.suit_game.specs.Validity.{IsValid}
-use Rattle.suit_game.proofs.EachElement.{Contains-cons_cases, Contains-first, Contains-later, Contains-map_from}
+use Rattle.suit_game.proofs.EachElement.{Contains-cons_cases, Contains-first, Contains-later, Contains-map_from, kept_parts}
 use Rattle.suit_game.proofs.EachElement.{Contains-nil, each_at, each_in}
 use Rattle.suit_classes.specs.declared.class_moves.ClassMove.{ClassMove}
 use Rattle.suit_classes.specs.Classes.{sizes_of}
 use Rattle.suit_classes.specs.ClassGame.{Allows}
 use Rattle.suit_classes.specs.ClassMoves.{ClassHistory}
-use Rattle.suit_classes.specs.ClassPlaces.{class_after, class_decided, class_moves, class_turn}
+use Rattle.suit_classes.specs.ClassPlaces.{class_after, class_decided, class_moves}
 use Rattle.suit_classes.proofs.AllowedHistories.{allowed_moves}
 use Rattle.suit_classes.proofs.DefenceSizes.{range_below}
-use Rattle.suit_classes.proofs.DistinctMoves.{each_flat_map}
+use Rattle.suit_game.proofs.DistinctElements.{each_flat_map}
 use Rattle.suit_layouts.specs.ClassLayouts.{class_layouts}
 use Rattle.suit_plans.specs.declared.moves.DeclarerMove.{DeclarerMove}
 use Rattle.suit_plans.specs.declared.moves.DefenceMove.{DefenceMove}
@@ -30,7 +30,7 @@ use Rattle.suit_plans.specs.declared.defence.Defence.{Defence}
 use Rattle.suit_plans.specs.BestReplies.{Reply, allowing_layouts, best_of, choices, first_of, follows, has_choice}
 use Rattle.suit_plans.specs.BestReplies.{histories_within, is_reached, least_reply, least_reply_in, most_reply}
 use Rattle.suit_plans.specs.BestReplies.{public_moves, reply_move, reply_to_defence, reply_to_plan, worth}
-use Rattle.suit_plans.specs.Masses.{defence_mass, is_declarers, is_defences, plan_mass}
+use Rattle.suit_plans.specs.Masses.{defence_mass, plan_mass}
 use Rattle.suit_plans.specs.Properness.{some_allows}
 use Rattle.suit_plans.specs.ReplyLaws.{IsDeclarerChoice, IsDefenceChoice, LeastRepliesAreChoices, MostRepliesAreChoices}
 use Rattle.suit_plans.specs.ReplyLaws.{counts_at, worths_with}
@@ -38,8 +38,8 @@ use Rattle.suit_plans.proofs.AllowedWalks.{start_allows}
 use Rattle.suit_plans.proofs.BoundedReplies.{some_allow_none}
 use Rattle.suit_plans.proofs.DefenceWorths.{room as defence_room}
 use Rattle.suit_plans.proofs.PlanWorths.{moves_going, room as plan_room}
-use Rattle.suit_plans.proofs.PublicMoves.{kept_parts, layout_weighs, public_allowed, some_passing}
-use Rattle.suit_plans.proofs.TurnMoves.{HasFirst}
+use Rattle.suit_plans.proofs.PublicMoves.{layout_weighs, public_allowed, some_passing}
+use Rattle.suit_classes.proofs.UndecidedMoves.{HasFirst}
 use Rattle.suit_plans.proofs.WhoseTurns.{own_turn, their_turn}
 use Rattle.suit_plans.proofs.WorthsAtTurns.{best_attained, best_turn, max_picks, min_picks}
 

@@ -11,15 +11,12 @@ use Rattle.suit_classes.specs.declared.class_moves.ClassMove.{ClassMove}
 use Rattle.suit_classes.specs.AllowedHistories.{is_among}
 use Rattle.suit_classes.specs.ClassMoves.{same_class_move}
 use Rattle.suit_classes.specs.MoveOrder.{stands_before}
-use Rattle.suit_classes.proofs.DistinctMoves.{IsOnce}
+use Rattle.suit_game.proofs.DistinctElements.{IsOnce}
+use Rattle.suit_num.proofs.IntegerLaws.{int_le-true}
 use Rattle.suit_classes.proofs.SameMoves.{among-Contains, same_move-itself, same_move_is}
 use Rattle.suit_plans.specs.Masses.{Shares, count_of, is_first, share}
 use Rattle.suit_plans.specs.Properness.{are_rising, moves_of, sum_of}
 use Rattle.suit_plans.proofs.HistoryOrder.{IsStrict-moves}
-
--- the test of the order tells it
-pub int_le-true : (a b : ℤ) → int_le a b ≡ true → a ≤ℤ b
-int_le-true a b h = grind (arith, ints)
 
 -- in rising order all later moves stand after the first
 pub rising_parts : (move : ClassMove) (moves : List ClassMove) → are_rising (move ∷ moves) ≡ true

@@ -11,7 +11,7 @@ use Rattle.suit_classes.specs.declared.class_moves.ClassMove.{ClassMove}
 use Rattle.suit_plans.specs.BestReplies.{Reply, best_of, worth, worth_at, worth_within}
 use Rattle.suit_plans.specs.Properness.{sum_of}
 use Rattle.suit_plans.specs.ReplyLaws.{IsLeastOf, IsMostOf, WorthsUnfold, worths_with}
-use Rattle.suit_plans.proofs.TurnMoves.{HasFirst}
+use Rattle.suit_classes.proofs.UndecidedMoves.{HasFirst}
 
 -- one move less is left after a move more
 pub left_after : (history : List ClassMove) (move : ClassMove) (more : ℕ) → suc more ≡ 52 - length history

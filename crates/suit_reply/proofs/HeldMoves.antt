@@ -20,7 +20,8 @@ use Rattle.suit_classes.proofs.SameMoves.{among-Contains, among_contained}
 use Rattle.suit_classes.specs.Classes.{sizes_of}
 use Rattle.suit_classes.specs.ClassMoves.{ClassHistory}
 use Rattle.suit_plans.specs.Masses.{is_declarers, is_defences}
-use Rattle.suit_plans.proofs.TurnMoves.{HasFirst, declarers_moves, some_move as first_move}
+use Rattle.suit_plans.proofs.TurnMoves.{declarers_moves}
+use Rattle.suit_classes.proofs.UndecidedMoves.{HasFirst, some_move as first_move}
 use Rattle.suit_tree.specs.declared.node.Node.{Node}
 use Rattle.suit_tree.specs.Nodes.{move_to}
 use Rattle.suit_tree.specs.Trees.{AllFit, IsTreeAt, allowing, counts_at, moves_on}

@@ -10,7 +10,7 @@ use Rattle.std.proofs.lemmas.List.Concat.{flat_map-append}
 use Rattle.std.proofs.lemmas.List.FromFn.{map-range_with_len_more, take-map-range_with_len}
 use Rattle.std.proofs.lemmas.Simd.{map-map}
 use Rattle.std.proofs.Math.IntN.{*ℤ_comm}
-use Rattle.suit_num.proofs.IntegerLaws.{le-mul_right, mul_left_comm, mul_not_negative}
+use Rattle.suit_num.proofs.IntegerLaws.{le-mul_right, mul_left_comm, mul_not_negative, int_le-true}
 use Rattle.suit_cards.specs.Cards.{Counts, Indices}
 use Rattle.suit_game.specs.Layouts.{total as all_weights}
 use Rattle.suit_game.specs.declared.question.Question.{Question}
@@ -28,7 +28,6 @@ use Rattle.suit_plans.proofs.BoundedReplies.{first_mass, sum_weighed, weights_ad
 use Rattle.suit_plans.proofs.NumberSums.{first_sums}
 use Rattle.suit_plans.proofs.PaidWorths.{sum_paid}
 use Rattle.suit_plans.proofs.ProperPlans.{plans_are_realised, proper_plan}
-use Rattle.suit_plans.proofs.SharedSums.{int_le-true}
 use Rattle.suit_tree.specs.declared.node.Node.{Node}
 use Rattle.suit_tree.specs.declared.tree.Tree.{Tree}
 use Rattle.suit_tree.specs.Trees.{layout_indices}

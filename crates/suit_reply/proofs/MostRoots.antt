@@ -7,7 +7,7 @@ use Rattle.std.specs.Prelude.{Contains, cond, filter, ℤ, pos, ◌^◌, ◌*ℤ
 use Rattle.std.specs.List.{range_with_len}
 use Rattle.std.proofs.lemmas.Int.{ints}
 use Rattle.std.proofs.lemmas.List.Elements.{Contains-get_or}
-use Rattle.suit_num.proofs.IntegerLaws.{le-mul_right}
+use Rattle.suit_num.proofs.IntegerLaws.{le-mul_right, int_le-true}
 use Rattle.suit_cards.specs.Cards.{Counts, Indices}
 use Rattle.suit_game.specs.declared.question.Question.{Question}
 use Rattle.suit_game.specs.Layouts.{total as all_weights}
@@ -27,7 +27,6 @@ use Rattle.suit_plans.specs.declared.defence.Defence.{Defence}
 use Rattle.suit_plans.specs.declared.defence.DefenceRow.{DefenceRow}
 use Rattle.suit_plans.proofs.ProperDefences.{proper_defence}
 use Rattle.suit_plans.proofs.RowLimits.{weight_at_most}
-use Rattle.suit_plans.proofs.SharedSums.{int_le-true}
 use Rattle.suit_tree.specs.declared.node.Node.{Node}
 use Rattle.suit_tree.specs.declared.tree.Tree.{Tree}
 use Rattle.suit_tree.specs.Trees.{IsTreeAt, layout_indices}

@@ -90,7 +90,7 @@ no_lead view (Open turn after winner highest) counts seat class theirs =
 abbrev pub made_from : List (Counts × ℕ) → ClassView → Indices → List ClassMove → List ClassMove
 made_from layouts view indices moves = filter (λ move. nat_lt 0 (length (keeping layouts view indices move))) moves
 
-filter-true : (xs : List ℕ) → filter (λ x. true) xs ≡ xs
+pub filter-true : (xs : List ℕ) → filter (λ x. true) xs ≡ xs
 filter-true [] = refl
 filter-true (x ∷ xs) = ap (λ (l : List ℕ). x ∷ l) (filter-true xs)
 

@@ -1,15 +1,14 @@
 -- Which class layouts a node holds, and at which paths a tree has a node.
 use Rattle.std.proofs.Common.{◌≡◌, ℕ, zero, suc, ◌-◌, ◌<◌, Bool, true, false, cond, List, [], ◌∷◌, ◌++◌, length, get_or}
 use Rattle.std.proofs.Common.{map, refl, sym, ap, ◌∙◌, subst, inl, inr, arith}
-use Rattle.std.specs.Prelude.{◌↔◌, Contains, Some, filter, sum_by}
+use Rattle.std.specs.Prelude.{◌↔◌, Contains, Some, sum_by}
 use Rattle.std.specs.List.{AllByRecursion, flat_map, range_with_len}
 use Rattle.std.proofs.lemmas.Bool.{cases_lt}
 use Rattle.std.proofs.lemmas.List.{get_or-map, length-map}
-use Rattle.std.proofs.lemmas.List.Elements.{All-contains, All-contains_itself, All-filter, Contains-get_or}
-use Rattle.std.proofs.lemmas.List.Elements.{filter_passes}
+use Rattle.std.proofs.lemmas.List.Elements.{All-contains, Contains-get_or}
 use Rattle.suit_game.specs.declared.question.Question.{Question}
 use Rattle.suit_game.specs.Validity.{IsValid}
-use Rattle.suit_game.proofs.EachElement.{Contains-first, Contains-filter, Contains-range}
+use Rattle.suit_game.proofs.EachElement.{Contains-first, Contains-filter, Contains-range, kept_parts}
 use Rattle.suit_classes.specs.declared.class_moves.ClassMove.{ClassMove}
 use Rattle.suit_classes.specs.Classes.{hands_of, defence_sizes, sizes_of}
 use Rattle.suit_classes.specs.ClassGame.{Allows}
@@ -32,14 +31,6 @@ use Rattle.suit_tree.proofs.NodePaths.{IsOpen, no_node, one_node, tree_stands}
 pub in_range_below : (count index : ℕ) → Contains (range_with_len 0 count) index → index < count
 in_range_below count index found =
     All-contains (λ (k : ℕ). k < count) (range_with_len 0 count) index (range_below count) found
-
--- what a filter keeps was there, and passes
-pub kept_parts : {X : Type 0} (test : X → Bool) (xs : List X) (x : X) → Contains (filter test xs) x → Contains xs x
-    × (test x ≡ true)
-kept_parts {X} test xs x found = (
-  All-contains (Contains xs) (filter test xs) x (All-filter test (Contains xs) xs (All-contains_itself xs)) found,
-  All-contains (λ (y : X). test y ≡ true) (filter test xs) x (filter_passes test xs) found,
-)
 
 -- the counts at an index are those of a class layout
 counts_listed : (question : Question) (index : ℕ) → index < length (class_layouts question (sizes_of question))

@@ -1,7 +1,7 @@
 -- A tree grown on from a class history is the tree of all histories that count and go on from it.
-use Rattle.std.proofs.Common.{◌≡◌, ℕ, zero, suc, Bool, true, false, cond, ◌&&◌, List, [], ◌∷◌, ◌++◌, length, refl, sym}
+use Rattle.std.proofs.Common.{◌≡◌, ℕ, zero, suc, Bool, ◌&&◌, List, [], ◌∷◌, ◌++◌, length, sym}
 use Rattle.std.proofs.Common.{ap, ◌∙◌, subst}
-use Rattle.std.specs.Prelude.{filter, nat_lt, Some, if◌then◌else◌}
+use Rattle.std.specs.Prelude.{nat_lt, Some, if◌then◌else◌}
 use Rattle.std.proofs.lemmas.List.Elements.{filter_agree}
 use Rattle.suit_game.specs.declared.question.Question.{Question}
 use Rattle.suit_classes.specs.declared.class_moves.ClassMove.{ClassMove}
@@ -9,6 +9,8 @@ use Rattle.suit_classes.specs.declared.class_view.ClassView.{ClassView}
 use Rattle.suit_classes.specs.ClassPlaces.{class_after, class_decided, class_moves, class_step}
 use Rattle.suit_classes.proofs.SmallCounts.{class_after_move}
 use Rattle.suit_classes.proofs.ToldHistories.{allows-push}
+use Rattle.suit_cards.proofs.SuitRuns.{filter-filter}
+use Rattle.suit_tree.proofs.Branches.{filter-true}
 use Rattle.suit_tree.specs.declared.node.Node.{Node}
 use Rattle.suit_classes.specs.AllowedHistories.{allows, allows_from, is_among, every_move}
 use Rattle.suit_classes.specs.Classes.{sizes_of}
@@ -16,18 +18,6 @@ use Rattle.suit_tree.specs.Growing.{IsGrown, StandsFor, keeping, moves_from}
 use Rattle.suit_tree.specs.Nodes.{children_of, move_to}
 use Rattle.suit_tree.specs.Trees.{AllFit, IsTreeAt, StandsAt, allowing, counts_at, layout_indices, moves_on}
 use Rattle.suit_layouts.specs.ClassLayouts.{class_layouts}
-
-filtered_either : {X : Type 0} (p q : X → Bool) (x : X) (xs : List X) (b : Bool)
-    → filter p (cond b (x ∷ filter q xs) (filter q xs))
-    ≡ cond (b && p x) (x ∷ filter p (filter q xs)) (filter p (filter q xs))
-filtered_either p q x xs true = refl
-filtered_either p q x xs false = refl
-
--- what two filters keep is what both tests pass
-pub filter_both : {X : Type 0} (p q : X → Bool) (xs : List X) → filter p (filter q xs) ≡ filter (λ x. q x && p x) xs
-filter_both p q [] = refl
-filter_both {X} p q (x ∷ xs) =
-    filtered_either p q x xs (q x) ∙ ap (λ (l : List X). cond (q x && p x) (x ∷ l) l) (filter_both p q xs)
 
 -- of the indices that allow a history, those at which a move may be made allow it with this move
 pub kept_allowing : (question : Question) (history : List ClassMove) (move : ClassMove)
@@ -39,7 +29,7 @@ kept_allowing question history move =
     let may : ℕ → Bool = λ index. is_among (class_moves (class_after question history) (counts_at layouts index))
     move in
     let before : ℕ → Bool = λ index. allows question (counts_at layouts index) history in
-    filter_both may before (layout_indices layouts)
+    filter-filter before may (layout_indices layouts)
     ∙ filter_agree (λ index. before index
     && may index) (λ index. allows question (counts_at layouts index) (history ++ move ∷ []))
     (λ index. sym (allows-push question (counts_at layouts index) history move)) (layout_indices layouts)
@@ -100,12 +90,8 @@ grown_is_tree (suc more) question history node grown =
           (moves_from layouts view indices) (children_of node) grown.1),
     )
 
-filter-all : (xs : List ℕ) → filter (λ x. true) xs ≡ xs
-filter-all [] = refl
-filter-all (x ∷ xs) = ap (λ (l : List ℕ). x ∷ l) (filter-all xs)
-
 -- every class layout allows the empty history
 pub allowing_first : (question : Question)
     → allowing question [] ≡ layout_indices (class_layouts question (sizes_of question))
 unfolding allowing allows allows_from
-allowing_first question = filter-all (layout_indices (class_layouts question (sizes_of question)))
+allowing_first question = filter-true (layout_indices (class_layouts question (sizes_of question)))

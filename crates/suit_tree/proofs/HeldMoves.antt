@@ -1,5 +1,5 @@
 -- To the nodes that hold a class layout lead its class moves, in their order (held_moves).
-use Rattle.std.proofs.Common.{◌≡◌, ℕ, Bool, true, false, List, [], ◌∷◌, ◌++◌, length, refl, ap, sym, ◌∙◌, subst, inl}
+use Rattle.std.proofs.Common.{◌≡◌, ℕ, Bool, true, false, List, [], ◌∷◌, ◌++◌, length, ap, sym, ◌∙◌, subst, inl}
 use Rattle.std.proofs.Common.{inr, arith}
 use Rattle.std.specs.Prelude.{◌↔◌, ◌&&◌, ◌==◌, Contains, filter, nat_lt, if◌then◌else◌}
 use Rattle.std.specs.Bool.{Decides}
@@ -16,12 +16,12 @@ use Rattle.suit_classes.specs.ClassMoves.{ClassHistory}
 use Rattle.suit_classes.specs.ClassPlaces.{class_after, class_decided, class_moves}
 use Rattle.suit_classes.specs.Classes.{sizes_of}
 use Rattle.suit_classes.proofs.AllowedHistories.{allowed_moves}
-use Rattle.suit_classes.proofs.SameMoves.{among-Contains, among_contained}
+use Rattle.suit_cards.proofs.SuitRuns.{filter-filter}
+use Rattle.suit_classes.proofs.SameMoves.{among_decides, both_second}
 use Rattle.suit_layouts.specs.ClassLayouts.{class_layouts}
 use Rattle.suit_tree.specs.Nodes.{is_held}
 use Rattle.suit_tree.specs.Trees.{allowing, counts_at, moves_on}
 use Rattle.suit_tree.proofs.CountedNodes.{kept_layouts}
-use Rattle.suit_tree.proofs.GrownTrees.{filter_both}
 use Rattle.suit_classes.proofs.EveryMove.{class_moves_listed}
 
 -- an index is told to be one of some
@@ -39,14 +39,6 @@ held_decides index (other ∷ indices) =
         | inr there ↦ or_right (other == index) (is_held index indices) (later.1 there)
       ],
     )
-
-among_decides : (moves : List ClassMove) (move : ClassMove) → Decides (is_among moves move) (Contains moves move)
-among_decides moves move = (among-Contains moves move, among_contained moves move)
-
-both_second : (b c : Bool) → (c ≡ true → b ≡ true) → (b && c) ≡ c
-both_second true c gives = refl
-both_second false true gives = gives refl
-both_second false false gives = refl
 
 pub some_held : (indices : Indices) (index : ℕ) → Contains indices index → nat_lt 0 (length indices) ≡ true
 some_held indices index found = lt-ltb 0 (length indices) (omega (arith, found.1))
@@ -98,7 +90,7 @@ module _ (question : Question) (history : ClassHistory) where
       let some : ClassMove → Bool = λ move. nat_lt 0 (length (kept move)) in
       let holds : ClassMove → Bool = λ move. is_held index (kept move) in
       ap (filter holds) (going_on going)
-      ∙ filter_both holds some every_move
+      ∙ filter-filter some holds every_move
       ∙ filter_agree (λ move. some move && holds move) holds
       (λ move. both_second (some move) (holds move)
       (λ told. some_held (kept move) index ((held_decides index (kept move)).0 told))) every_move

@@ -18,7 +18,8 @@ use Rattle.suit_tree.specs.CountedHistories.{continued, counted_histories}
 use Rattle.suit_tree.specs.Paths.{IsCounted}
 use Rattle.suit_classes.proofs.SameMoves.{among-Contains, among_contained}
 use Rattle.suit_tree.proofs.ListedLayouts.{listed_tells}
-use Rattle.suit_classes.proofs.DistinctMoves.{IsOnce, each_flat_map, once_class_moves, once_flat_map, once_pairs}
+use Rattle.suit_classes.proofs.DistinctMoves.{once_class_moves}
+use Rattle.suit_game.proofs.DistinctElements.{IsOnce, each_flat_map, once_flat_map, once_pairs}
 use Rattle.suit_classes.proofs.DistinctMoves.{once_unless}
 use Rattle.suit_classes.specs.Classes.{sizes_of}
 use Rattle.suit_layouts.specs.ClassLayouts.{class_layouts}

@@ -22,7 +22,8 @@ use Rattle.suit_classes.specs.AllowedHistories.{allows, allows_from, is_among, e
 use Rattle.suit_tree.specs.Trees.{allowing, counts_at, layout_indices, moves_on}
 use Rattle.suit_classes.proofs.ClassNumbers.{kept_some}
 use Rattle.suit_classes.proofs.SameMoves.{among-Contains}
-use Rattle.suit_classes.proofs.DistinctMoves.{IsOnce, each_if, once_append, once_filter, once_map, once_range}
+use Rattle.suit_classes.proofs.DistinctMoves.{each_if, once_range}
+use Rattle.suit_game.proofs.DistinctElements.{IsOnce, once_append, once_filter, once_map}
 use Rattle.suit_classes.proofs.DistinctMoves.{once_unless}
 use Rattle.suit_classes.proofs.ToldHistories.{allows-push}
 use Rattle.suit_classes.specs.Classes.{sizes_of}

@@ -17,7 +17,7 @@ use Rattle.suit_tree.specs.Nodes.{children_of, move_to}
 use Rattle.suit_tree.specs.Paths.{is_by, nodes_at, nodes_by}
 use Rattle.suit_tree.specs.Trees.{AllFit, IsTreeAt, StandsAt, allowing, moves_on}
 use Rattle.suit_classes.proofs.SameMoves.{same_move-itself, same_move_is}
-use Rattle.suit_classes.proofs.DistinctMoves.{IsOnce}
+use Rattle.suit_game.proofs.DistinctElements.{IsOnce}
 use Rattle.suit_tree.proofs.MovesOn.{Contains-moves_on, allowing_start, moves_on-parts, once_moves_on}
 use Rattle.suit_tree.proofs.ListedHistories.{GoesOn}
 

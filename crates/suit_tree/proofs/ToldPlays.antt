@@ -7,33 +7,31 @@ use Rattle.std.proofs.lemmas.Bool.{and_parts}
 use Rattle.std.proofs.lemmas.List.{append-nil, append_assoc, length-append}
 use Rattle.std.proofs.lemmas.List.Elements.{All-from_recursion}
 use Rattle.std.proofs.lemmas.List.Kept.{AllPairs-cons, AllPairs-filter}
-use Rattle.suit_cards.specs.Cards.{Cards, Counts, Indices}
+use Rattle.suit_cards.specs.Cards.{Cards, Counts}
 use Rattle.suit_game.specs.declared.question.Question.{Question}
 use Rattle.suit_game.specs.Histories.{History}
 use Rattle.suit_game.specs.PlaceViews.{IsPlay}
-use Rattle.suit_game.specs.Positions.{after, payoff}
 use Rattle.suit_game.specs.Validity.{IsValid}
-use Rattle.suit_game.proofs.EachElement.{Contains-first, each_at, each_gives}
+use Rattle.suit_game.proofs.EachElement.{Contains-first, each_at, each_gives, kept_parts}
 use Rattle.suit_classes.specs.declared.class_moves.ClassMove.{ClassMove}
-use Rattle.suit_classes.specs.Agreement.{AgreesAt}
 use Rattle.suit_classes.specs.AllowedHistories.{every_move}
-use Rattle.suit_classes.specs.ClassGame.{Allows, counts_of, is_decided, merged_moves}
-use Rattle.suit_classes.specs.ClassMoves.{ClassHistory, merged, same_class_move}
+use Rattle.suit_classes.specs.ClassGame.{Allows}
+use Rattle.suit_classes.specs.ClassMoves.{ClassHistory, merged}
 use Rattle.suit_classes.specs.MoveOrder.{stands_before}
 use Rattle.suit_classes.specs.ClassPlaces.{class_after, class_decided, class_moves, class_numbers, class_payoff}
 use Rattle.suit_classes.specs.Classes.{hands_of, sizes_of}
 use Rattle.suit_classes.proofs.AgreedPlaces.{class_game_agrees}
 use Rattle.suit_classes.proofs.AllowedHistories.{allowed_moves}
 use Rattle.suit_classes.proofs.DecidedPlays.{class_histories_are_short}
-use Rattle.suit_classes.proofs.DistinctMoves.{each_flat_map}
+use Rattle.suit_game.proofs.DistinctElements.{each_flat_map}
 use Rattle.suit_classes.proofs.SameMoves.{same_move_is}
 use Rattle.suit_layouts.specs.ClassLayouts.{class_layouts}
 use Rattle.suit_tree.specs.declared.node.Node.{Node}
-use Rattle.suit_tree.specs.Nodes.{children_of, holds_index, is_held, layouts_at, move_to}
+use Rattle.suit_tree.specs.Nodes.{children_of, holds_index, is_held, move_to}
 use Rattle.suit_tree.specs.Paths.{is_by, nodes_at, nodes_by}
 use Rattle.suit_tree.specs.TreeLaws.{Rise, TellsPlay}
-use Rattle.suit_tree.specs.Trees.{AllFit, IsTreeAt, StandsAt, allowing, counts_at, moves_on}
-use Rattle.suit_tree.proofs.CountedNodes.{fit_each, kept_layouts, kept_parts}
+use Rattle.suit_tree.specs.Trees.{IsTreeAt, allowing, counts_at, moves_on}
+use Rattle.suit_tree.proofs.CountedNodes.{fit_each, kept_layouts}
 use Rattle.suit_tree.proofs.FittedNodes.{map_fitted, map_fitted_kept}
 use Rattle.suit_tree.proofs.HeldMoves.{held_moves}
 use Rattle.suit_tree.proofs.NodePaths.{tree_stands}

@@ -23,7 +23,7 @@ use Rattle.suit_plans.specs.Masses.{defence_mass, defenders}
 use Rattle.suit_plans.specs.PlanLaws.{AreRealised}
 use Rattle.suit_plans.specs.declared.defence.Defence.{Defence}
 use Rattle.suit_plans.proofs.MassBounds.{mass_falls}
-use Rattle.suit_plans.proofs.TurnMoves.{some_move}
+use Rattle.suit_classes.proofs.UndecidedMoves.{some_move}
 use Rattle.suit_tree.specs.Trees.{allowing, counts_at, layout_indices, moves_on}
 use Rattle.suit_tree.proofs.CountedNodes.{kept_layouts, some_of}
 use Rattle.suit_tree.proofs.MovesOn.{Contains-moves_on, moves_on-parts}

@@ -8,14 +8,15 @@ use Rattle.std.proofs.lemmas.Simd.{map-map}
 use Rattle.suit_cards.specs.Cards.{Counts}
 use Rattle.suit_game.specs.declared.question.Question.{Question}
 use Rattle.suit_game.specs.Validity.{IsValid}
-use Rattle.suit_game.proofs.EachElement.{Contains-filter}
+use Rattle.suit_game.proofs.EachElement.{Contains-filter, kept_parts}
 use Rattle.suit_classes.specs.declared.class_moves.ClassMove.{ClassMove}
 use Rattle.suit_classes.specs.AllowedHistories.{allows, every_move, is_among}
 use Rattle.suit_classes.specs.ClassGame.{Allows}
 use Rattle.suit_classes.specs.ClassPlaces.{class_after, class_decided, class_moves}
 use Rattle.suit_classes.proofs.AllowedLayouts.{allows_tells}
 use Rattle.suit_classes.proofs.DecidedPlays.{class_histories_are_short}
-use Rattle.suit_classes.proofs.DistinctMoves.{once_filter, once_unless}
+use Rattle.suit_classes.proofs.DistinctMoves.{once_unless}
+use Rattle.suit_game.proofs.DistinctElements.{once_filter}
 use Rattle.suit_classes.proofs.SameMoves.{among-Contains}
 use Rattle.suit_classes.proofs.ToldHistories.{allows-push}
 use Rattle.suit_classes.specs.ClassMoves.{ClassHistory}
@@ -29,7 +30,6 @@ use Rattle.suit_plans.proofs.MassBounds.{mass_falls}
 use Rattle.suit_plans.proofs.PublicMoves.{layout_weighs, passing_some, some_passing}
 use Rattle.suit_plans.proofs.WorthsAtTurns.{max_picks}
 use Rattle.suit_plans.proofs.ProperDefences.{defences_are_realised}
-use Rattle.suit_tree.proofs.CountedNodes.{kept_parts}
 use Rattle.suit_tree.proofs.MovesOn.{once_every_move}
 use Rattle.suit_reply.specs.declared.chosen_move.ChosenMove.{ChosenMove}
 use Rattle.suit_reply.proofs.ReachedChoices.PlanReplies.{live_rises}

@@ -25,7 +25,7 @@ use Rattle.suit_plans.specs.Masses.{declarer, plan_mass}
 use Rattle.suit_plans.specs.Properness.{IsProperPlan}
 use Rattle.suit_plans.proofs.MassBounds.{mass_falls}
 use Rattle.suit_plans.proofs.ProperPlans.{plans_are_realised}
-use Rattle.suit_plans.proofs.TurnMoves.{some_move}
+use Rattle.suit_classes.proofs.UndecidedMoves.{some_move}
 use Rattle.suit_plans.proofs.WorthsAtTurns.{min_picks}
 use Rattle.suit_tree.proofs.MovesOn.{unless_parts}
 use Rattle.suit_reply.specs.declared.chosen_move.ChosenMove.{ChosenMove}

@@ -6,7 +6,7 @@ use Rattle.suit_plans.specs.Orders.{defence_row_before}
 use Rattle.suit_plans.specs.Properness.{first_fault, defence_row_fault, defence_verdict}
 use Rattle.suit_plans.proofs.ProperDefences.{told_order}
 use Rattle.suit_plans.proofs.RowOrder.{IsRowOrder-defences, faultless_in_order}
-use Rattle.suit_plans.proofs.SharedSums.{int_le-true}
+use Rattle.suit_num.proofs.IntegerLaws.{int_le-true}
 use Rattle.suit_plans.proofs.VerdictSteps.{den_first, none_first, none_last, none_next, rows_tell, seen_row}
 use Rattle.suit_plans.proofs.proper.proper_defence.Goals as goal
 

@@ -1,9 +1,7 @@
-use Rattle.std.proofs.Common.{rules, ◌≡◌, ◌∙◌, ◌+◌, ◌-◌, ◌<◌, ◌++◌, ◌∷◌, [], List, length, take, get_or, refl, sym, ap}
+use Rattle.std.proofs.Common.{rules, ◌∙◌, ◌+◌, ◌-◌, ◌<◌, length, refl, ap}
 use Rattle.std.proofs.Common.{arith}
 use Rattle.std.specs.Prelude.{map}
-use Rattle.std.proofs.lemmas.List.{take_more, take_all}
-use Rattle.suit_classes.specs.declared.class_moves.ClassMove.{ClassMove}
-use Rattle.suit_classes.specs.declared.class_moves.ClassMove.TheVariants.{ShowOut}
+use Rattle.std.proofs.lemmas.List.{take_all}
 use Rattle.suit_tree.specs.declared.node.Node.TheViews.{roll-Node, out-roll-Node}
 use Rattle.suit_tree.specs.Growing.{HasRoom, StandsFor, branch_seen, moves_within, pairs_from}
 use Rattle.suit_tree.specs.TreeEnds.{IsPastBudget}
