@@ -30,3 +30,4 @@ pub mod NamedLayouts
 pub mod NoneCounted
 pub mod SameCards
 pub mod CallShares
+pub mod FullLists

@@ -79,7 +79,7 @@ pub record IsSharedOut (row : RowCounts) (merges : List ClassMove) (mass : ℤ) 
       * counted mass
 
 -- the same, where it is known whether all counts are 0
-abbrev share_when : Bool → RowCounts → List ClassMove → ClassMove → ℕ
+abbrev pub share_when : Bool → RowCounts → List ClassMove → ClassMove → ℕ
 share_when none row merges move = if none then (if is_first merges move then 1 else 0) else row_count row move
 
 record IsSharedWhen (none : Bool) (row : RowCounts) (merges : List ClassMove) (mass : ℤ) (next : ClassMove
@@ -89,7 +89,7 @@ record IsSharedWhen (none : Bool) (row : RowCounts) (merges : List ClassMove) (m
       → counted (next move) * sum_by (share_when none row merges) (each_once merges)
       ≡ share_when none row merges move * counted mass
 
-first_alone : (first : ClassMove) (more : List ClassMove)
+pub first_alone : (first : ClassMove) (more : List ClassMove)
     → sum_by (λ move. if is_first (first ∷ more) move then 1 else 0) (each_once (first ∷ more)) ≡ 1
 unfolding each_once IsOnce
 first_alone first more =
@@ -119,7 +119,7 @@ all_zero f (first ∷ moves) move all found =
       | inr there ↦ all_zero f moves move parts.1 there
     ]
 
-some_above : (f : ClassMove → ℕ) (moves : List ClassMove) → list_all (λ other. f other == 0) moves ≡ false
+pub some_above : (f : ClassMove → ℕ) (moves : List ClassMove) → list_all (λ other. f other == 0) moves ≡ false
     → (move : ClassMove) × Contains moves move × (0 < f move)
 some_above f [] all = absurd (true≢false all)
 some_above f (first ∷ moves) all = elim (cases_eq (f first) 0) [

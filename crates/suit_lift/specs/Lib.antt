@@ -3,3 +3,4 @@ pub mod Certified
 pub mod LiftLaws
 pub mod Naming
 pub mod Examples
+pub mod FullLists

@@ -1,5 +1,6 @@
 //! Laws of the lifts: each is the contract of an empty function.
 ghost use Rattle.suit_lift.specs.Certified.{MetIsCertified, OneCertifiedValue, OneValue};
+ghost use Rattle.suit_lift.specs.FullLists.{DefencesAreLists, PlansAreLists};
 ghost use Rattle.suit_lift.specs.Naming.{LayoutShare, LayoutsNamed, NamingLaw};
 ghost use Rattle.suit_lift.specs.LiftLaws.{DefenceWeightsAreShares, DefencesHold, PlanWeightsAreShares, PlansEarn};
 ghost use Rattle.suit_lift.specs.LiftLaws.{PlansPay};
@@ -58,4 +59,14 @@ pub fn one_value()
 /// No question has two certified values.
 pub fn one_certified_value()
     ensures { OneCertifiedValue }
+{}
+
+/// The lift of each plan has the pays of a full list of rows.
+pub fn plans_are_lists()
+    ensures { PlansAreLists }
+{}
+
+/// The lift of each defence has the pays of a full list of rows.
+pub fn defences_are_lists()
+    ensures { DefencesAreLists }
 {}
