@@ -117,50 +117,51 @@ may_lead_same : (view : ClassView) (lead : LeadAt) (entries entries' : Entries) 
 may_lead_same view lead entries entries' seat same one =
     ap (λ (l : LeadAt). may_lead l entries seat) same ∙ ap (λ (e : Entries). may_lead lead e seat) one
 
-leads_agree : (question : Question) (west : Cards) (place : Position) (view : ClassView) → IsDealt question west
-    → HasCounts question west place view
-    → class_leads view ≡ each_once (map (merge (hands_of question)) (leads_at question place))
-leads_agree question west place view is counts =
-    let hands : Hands = hands_of question in
-    ap
-    (λ (b : Bool). (if b then map (Lead N) (counted_classes view.north) else [])
-    ++ (if may_lead view.lead view.entries_s S then map (Lead S) (counted_classes view.south) else []))
-    (may_lead_same view place.lead view.entries_n place.entries_n N counts.lead counts.entries_n)
-    ∙ ap
-    (λ (b : Bool). (if may_lead_n place then map (Lead N) (counted_classes view.north) else [])
-    ++ (if b then map (Lead S) (counted_classes view.south) else []))
-    (may_lead_same view place.lead view.entries_s place.entries_s S counts.lead counts.entries_s)
-    ∙ ap
-    (λ (l : List ℕ). (if may_lead_n place then map (Lead N) l else [])
-    ++ (if may_lead_s place then map (Lead S) (counted_classes view.south) else []))
-    (classes_left_are question west place view N counts)
-    ∙ ap
-    (λ (l : List ℕ). (if may_lead_n place then map (Lead N) (present hands (hand question [] place N)) else [])
-    ++ (if may_lead_s place then map (Lead S) l else []))
-    (classes_left_are question west place view S counts)
-    ∙ sym
-    (leads_either hands (hand question [] place N) (hand question [] place S) (may_lead_n place) (may_lead_s place)
-    (IsHolding-without question.north place.gone is.deal.north)
-    (IsHolding-without question.south place.gone is.deal.south))
+module _ (question : Question) (west : Cards) (place : Position) (view : ClassView) where
+  leads_agree : IsDealt question west
+      → HasCounts question west place view
+      → class_leads view ≡ each_once (map (merge (hands_of question)) (leads_at question place))
+  leads_agree is counts =
+      let hands : Hands = hands_of question in
+      ap
+      (λ (b : Bool). (if b then map (Lead N) (counted_classes view.north) else [])
+      ++ (if may_lead view.lead view.entries_s S then map (Lead S) (counted_classes view.south) else []))
+      (may_lead_same view place.lead view.entries_n place.entries_n N counts.lead counts.entries_n)
+      ∙ ap
+      (λ (b : Bool). (if may_lead_n place then map (Lead N) (counted_classes view.north) else [])
+      ++ (if b then map (Lead S) (counted_classes view.south) else []))
+      (may_lead_same view place.lead view.entries_s place.entries_s S counts.lead counts.entries_s)
+      ∙ ap
+      (λ (l : List ℕ). (if may_lead_n place then map (Lead N) l else [])
+      ++ (if may_lead_s place then map (Lead S) (counted_classes view.south) else []))
+      (classes_left_are question west place view N counts)
+      ∙ ap
+      (λ (l : List ℕ). (if may_lead_n place then map (Lead N) (present hands (hand question [] place N)) else [])
+      ++ (if may_lead_s place then map (Lead S) l else []))
+      (classes_left_are question west place view S counts)
+      ∙ sym
+      (leads_either hands (hand question [] place N) (hand question [] place S) (may_lead_n place) (may_lead_s place)
+      (IsHolding-without question.north place.gone is.deal.north)
+      (IsHolding-without question.south place.gone is.deal.south))
 
-moves_in : (question : Question) (west : Cards) (place : Position) (view : ClassView) (trick : Trick)
-    → IsDealt question west → HasCounts question west place view
-    → class_moves_in view (counts_of (hands_of question) west) (merged_trick (hands_of question) trick) ≡ each_once
-    (map (merge (hands_of question)) (legal_in question west place trick))
-unfolding legal_in
-moves_in question west place view NoTrick is counts = leads_agree question west place view is counts
-moves_in question west place view (InTrick turn after winner highest) is counts =
-    ap (λ (l : List ℕ). or_show_out (map Follow l)) (classes_left_are question west place view turn counts)
-    ∙ sym (follows_merged (hands_of question) (hand question west place turn)
-    (IsHolding-without (dealt question west turn) place.gone (IsHolding-dealt question west turn is)))
+  moves_in : (trick : Trick)
+      → IsDealt question west → HasCounts question west place view
+      → class_moves_in view (counts_of (hands_of question) west) (merged_trick (hands_of question) trick) ≡ each_once
+      (map (merge (hands_of question)) (legal_in question west place trick))
+  unfolding legal_in
+  moves_in NoTrick is counts = leads_agree is counts
+  moves_in (InTrick turn after winner highest) is counts =
+      ap (λ (l : List ℕ). or_show_out (map Follow l)) (classes_left_are question west place view turn counts)
+      ∙ sym (follows_merged (hands_of question) (hand question west place turn)
+      (IsHolding-without (dealt question west turn) place.gone (IsHolding-dealt question west turn is)))
 
-moves_agree : (question : Question) (west : Cards) (place : Position) (view : ClassView) → IsDealt question west
-    → IsMerged question west place view
-    → class_moves view (counts_of (hands_of question) west) ≡ each_once
-    (map (merge (hands_of question)) (legal_at question west place))
-moves_agree question west place view is one =
-    ap (class_moves_in view (counts_of (hands_of question) west)) one.trick
-    ∙ moves_in question west place view place.trick is one.counts
+  moves_agree : IsDealt question west
+      → IsMerged question west place view
+      → class_moves view (counts_of (hands_of question) west) ≡ each_once
+      (map (merge (hands_of question)) (legal_at question west place))
+  moves_agree is one =
+      ap (class_moves_in view (counts_of (hands_of question) west)) one.trick
+      ∙ moves_in place.trick is one.counts
 
 empty_leads : (north south : List ℕ) (from_n from_s : Bool)
     → is_empty ((if from_n then map (cards.Lead N) north else []) ++ (if from_s then map (cards.Lead S) south else []))

@@ -372,283 +372,295 @@ same-ended view owners.Defence =
       goal = refl;
     }
 
--- the end of a trick
-merged-ended : (question : Question) (west : Cards) (place : Position) (view : ClassView) (winner : Seat)
-    → HasCounts question west place view
-    → IsMerged question west (ended_trick question place winner) (class_ended view (side winner))
-merged-ended question west place view N counts = record {
-  counts = same_counts question west place (ended_trick question place N) view (class_ended view owners.N) counts
-      (same-ended view owners.N) refl refl counts.entries_n counts.entries_s (ap (λ (n : ℕ). n + 1) counts.won);
-  trick = refl;
-}
-merged-ended question west place view S counts = record {
-  counts = same_counts question west place (ended_trick question place S) view (class_ended view owners.S) counts
-      (same-ended view owners.S) refl refl counts.entries_n counts.entries_s (ap (λ (n : ℕ). n + 1) counts.won);
-  trick = refl;
-}
-merged-ended question west place view E counts = record {
-  counts = same_counts question west place (ended_trick question place E) view (class_ended view owners.Defence) counts
-      (same-ended view owners.Defence) refl counts.regain counts.entries_n counts.entries_s counts.won;
-  trick = refl;
-}
-merged-ended question west place view W counts = record {
-  counts = same_counts question west place (ended_trick question place W) view (class_ended view owners.Defence) counts
-      (same-ended view owners.Defence) refl counts.regain counts.entries_n counts.entries_s counts.won;
-  trick = refl;
-}
+module _ (question : Question) (west : Cards) (place : Position) (view : ClassView) where
+  -- the end of a trick
+  merged-ended : (winner : Seat)
+      → HasCounts question west place view
+      → IsMerged question west (ended_trick question place winner) (class_ended view (side winner))
+  merged-ended N counts = record {
+    counts = same_counts question west place (ended_trick question place N) view (class_ended view owners.N) counts
+        (same-ended view owners.N) refl refl counts.entries_n counts.entries_s (ap (λ (n : ℕ). n + 1) counts.won);
+    trick = refl;
+  }
+  merged-ended S counts = record {
+    counts = same_counts question west place (ended_trick question place S) view (class_ended view owners.S) counts
+        (same-ended view owners.S) refl refl counts.entries_n counts.entries_s (ap (λ (n : ℕ). n + 1) counts.won);
+    trick = refl;
+  }
+  merged-ended E counts = record {
+    counts = same_counts question west place (ended_trick question place E) view (class_ended view owners.Defence)
+        counts
+        (same-ended view owners.Defence) refl counts.regain counts.entries_n counts.entries_s counts.won;
+    trick = refl;
+  }
+  merged-ended W counts = record {
+    counts = same_counts question west place (ended_trick question place W) view (class_ended view owners.Defence)
+        counts
+        (same-ended view owners.Defence) refl counts.regain counts.entries_n counts.entries_s counts.won;
+    trick = refl;
+  }
 
--- a seat has played to a trick
-merged-passed : (question : Question) (west : Cards) (place : Position) (view : ClassView) (turn : Seat) (after : ℕ)
-    (winner : Seat) (highest : ℕ)
-    → HasCounts question west place view
-    → IsMerged question west (turn_passed question place turn after winner highest)
-    (class_passed view turn after (side winner) (class_of (hands_of question) highest))
-merged-passed question west place view turn zero winner highest counts =
-    merged-ended question west place view winner counts
-merged-passed question west place view turn (suc after) winner highest counts = record {
-  counts = same_counts question west place (record place { trick = InTrick (clockwise turn) after winner highest }) view
-      (record view { trick = Open (clockwise turn) after (side winner) (class_of (hands_of question) highest) }) counts
-      (record {
-        north = refl;
-        south = refl;
-        cards_n = refl;
-        cards_s = refl;
-        defence = refl;
-        gone_w = refl;
-        gone_e = refl;
-        regain = refl;
-        goal = refl;
-      })
-      refl counts.lead counts.entries_n counts.entries_s counts.won;
-  trick = refl;
-}
+  -- a seat has played to a trick
+  merged-passed : (turn : Seat) (after : ℕ)
+      (winner : Seat) (highest : ℕ)
+      → HasCounts question west place view
+      → IsMerged question west (turn_passed question place turn after winner highest)
+      (class_passed view turn after (side winner) (class_of (hands_of question) highest))
+  merged-passed turn zero winner highest counts =
+      merged-ended winner counts
+  merged-passed turn (suc after) winner highest counts = record {
+    counts = same_counts question west place (record place { trick = InTrick (clockwise turn) after winner highest })
+        view
+        (record view { trick = Open (clockwise turn) after (side winner) (class_of (hands_of question) highest) })
+        counts
+        (record {
+          north = refl;
+          south = refl;
+          cards_n = refl;
+          cards_s = refl;
+          defence = refl;
+          gone_w = refl;
+          gone_e = refl;
+          regain = refl;
+          goal = refl;
+        })
+        refl counts.lead counts.entries_n counts.entries_s counts.won;
+    trick = refl;
+  }
 
--- of two cards the higher has no higher class number, and where the classes are one the same side held both
-merged-either : (question : Question) (west : Cards) (place : Position) (view : ClassView) (turn : Seat) (after : ℕ)
-    (winner : Seat) (highest card : ℕ) (beats class_beats : Bool)
-    → HasCounts question west place view
-    → nat_lt highest card ≡ beats
-    → nat_lt (class_of (hands_of question) card) (class_of (hands_of question) highest) ≡ class_beats
-    → (class_of (hands_of question) card ≡ class_of (hands_of question) highest → side turn ≡ side winner)
-    → IsMerged question west
-    (if beats then turn_passed question place turn after turn card
-    else turn_passed question place turn after winner highest)
-    (if class_beats then class_passed view turn after (side turn) (class_of (hands_of question) card)
-    else class_passed view turn after (side winner) (class_of (hands_of question) highest))
-merged-either question west place view turn after winner highest card true true counts higher lower one =
-    merged-passed question west place view turn after turn card counts
-merged-either question west place view turn after winner highest card false false counts higher lower one =
-    merged-passed question west place view turn after winner highest counts
-merged-either question west place view turn after winner highest card true false counts higher lower one =
-    let hands : Hands = hands_of question in
-    let up : highest < card = ltb-true highest card higher in
-    let down : class_of hands highest ≤ class_of hands card =
-    ltb-false (class_of hands card) (class_of hands highest) lower in
-    let rises = class_of-rises hands card highest (omega arith) in
-    let same : class_of hands card ≡ class_of hands highest = omega arith in
-    subst
-    (λ (owner : Owner). IsMerged question west (turn_passed question place turn after turn card)
-    (class_passed view turn after owner (class_of hands highest)))
-    (one same)
-    (subst (λ (class : ℕ). IsMerged question west (turn_passed question place turn after turn card)
-    (class_passed view turn after (side turn) class)) same
-    (merged-passed question west place view turn after turn card counts))
-merged-either question west place view turn after winner highest card false true counts higher lower one =
-    let hands : Hands = hands_of question in
-    let up : card ≤ highest = ltb-false highest card higher in
-    let down : class_of hands card < class_of hands highest =
-    ltb-true (class_of hands card) (class_of hands highest) lower in
-    absurd (omega (arith, class_of-rises hands highest card up))
+  -- of two cards the higher has no higher class number, and where the classes are one the same side held both
+  merged-either : (turn : Seat) (after : ℕ)
+      (winner : Seat) (highest card : ℕ) (beats class_beats : Bool)
+      → HasCounts question west place view
+      → nat_lt highest card ≡ beats
+      → nat_lt (class_of (hands_of question) card) (class_of (hands_of question) highest) ≡ class_beats
+      → (class_of (hands_of question) card ≡ class_of (hands_of question) highest → side turn ≡ side winner)
+      → IsMerged question west
+      (if beats then turn_passed question place turn after turn card
+      else turn_passed question place turn after winner highest)
+      (if class_beats then class_passed view turn after (side turn) (class_of (hands_of question) card)
+      else class_passed view turn after (side winner) (class_of (hands_of question) highest))
+  merged-either turn after winner highest card true true counts higher lower one =
+      merged-passed turn after turn card counts
+  merged-either turn after winner highest card false false counts higher lower one =
+      merged-passed turn after winner highest counts
+  merged-either turn after winner highest card true false counts higher lower one =
+      let hands : Hands = hands_of question in
+      let up : highest < card = ltb-true highest card higher in
+      let down : class_of hands highest ≤ class_of hands card =
+      ltb-false (class_of hands card) (class_of hands highest) lower in
+      let rises = class_of-rises hands card highest (omega arith) in
+      let same : class_of hands card ≡ class_of hands highest = omega arith in
+      subst
+      (λ (owner : Owner). IsMerged question west (turn_passed question place turn after turn card)
+      (class_passed view turn after owner (class_of hands highest)))
+      (one same)
+      (subst (λ (class : ℕ). IsMerged question west (turn_passed question place turn after turn card)
+      (class_passed view turn after (side turn) class)) same
+      (merged-passed turn after turn card counts))
+  merged-either turn after winner highest card false true counts higher lower one =
+      let hands : Hands = hands_of question in
+      let up : card ≤ highest = ltb-false highest card higher in
+      let down : class_of hands card < class_of hands highest =
+      ltb-true (class_of hands card) (class_of hands highest) lower in
+      absurd (omega (arith, class_of-rises hands highest card up))
 
--- the seat on turn has followed with a card of its own
-merged-followed : (question : Question) (west : Cards) (place : Position) (view : ClassView) (turn : Seat) (after : ℕ)
-    (winner : Seat) (highest card : ℕ)
-    → IsDealt question west
-    → HasCounts question west place view → holds (without (dealt question west turn) place.gone) card ≡ true
-    → holds (dealt question west winner) highest ≡ true
-    → IsMerged question west (followed question place turn after winner highest card)
-    (class_followed view turn after (side winner) (class_of (hands_of question) highest)
-    (class_of (hands_of question) card))
-merged-followed question west place view turn after winner highest card is counts held won =
-    let hands : Hands = hands_of question in
-    let own : holds (dealt question west turn) card ≡ true =
-    (holds-from_without (dealt question west turn) place.gone card held).0 in
-    merged-either question west (record place { gone = card ∷ place.gone })
-    (class_played view turn (class_of hands card)) turn after winner highest card
-    (nat_lt highest card) (nat_lt (class_of hands card) (class_of hands highest))
-    (counts-played question west place view turn card is counts held) refl refl
-    (λ same.
-    sym (holder-dealt question west turn card is own)
-    ∙ class_held_by_one hands card highest
-    (IsRank-held (dealt question west turn) card (IsHolding-dealt question west turn is) own)
-    (IsRank-held (dealt question west winner) highest (IsHolding-dealt question west winner is) won) same
-    ∙ holder-dealt question west winner highest is won)
+module _ (question : Question) (west : Cards) (place : Position) (view : ClassView) where
+  -- the seat on turn has followed with a card of its own
+  merged-followed : (turn : Seat) (after : ℕ)
+      (winner : Seat) (highest card : ℕ)
+      → IsDealt question west
+      → HasCounts question west place view → holds (without (dealt question west turn) place.gone) card ≡ true
+      → holds (dealt question west winner) highest ≡ true
+      → IsMerged question west (followed question place turn after winner highest card)
+      (class_followed view turn after (side winner) (class_of (hands_of question) highest)
+      (class_of (hands_of question) card))
+  merged-followed turn after winner highest card is counts held won =
+      let hands : Hands = hands_of question in
+      let own : holds (dealt question west turn) card ≡ true =
+      (holds-from_without (dealt question west turn) place.gone card held).0 in
+      merged-either question west (record place { gone = card ∷ place.gone })
+      (class_played view turn (class_of hands card)) turn after winner highest card
+      (nat_lt highest card) (nat_lt (class_of hands card) (class_of hands highest))
+      (counts-played question west place view turn card is counts held) refl refl
+      (λ same.
+      sym (holder-dealt question west turn card is own)
+      ∙ class_held_by_one hands card highest
+      (IsRank-held (dealt question west turn) card (IsHolding-dealt question west turn is) own)
+      (IsRank-held (dealt question west winner) highest (IsHolding-dealt question west winner is) won) same
+      ∙ holder-dealt question west winner highest is won)
 
--- a lead of North's, and one of South's
-merged-led_n : (question : Question) (west : Cards) (place : Position) (view : ClassView) (card : ℕ)
-    → IsDealt question west → HasCounts question west place view
-    → holds (without question.north place.gone) card ≡ true
-    → IsMerged question west (led place N card) (class_led view N (class_of (hands_of question) card))
-merged-led_n question west place view card is counts held =
-    let class : ℕ = class_of (hands_of question) card in
-    let played = counts-played question west place view N card is counts held in
-    record {
-      counts = same_counts question west (record place { gone = card ∷ place.gone }) (led place N card)
-          (class_played view N class) (class_led view N class) played
-          (record {
-            north = refl;
-            south = refl;
-            cards_n = refl;
-            cards_s = refl;
-            defence = refl;
-            gone_w = refl;
-            gone_e = refl;
-            regain = refl;
-            goal = refl;
-          })
-          refl counts.lead
-          (ap (λ (lead : LeadAt). after_lead lead N view.entries_n) counts.lead
-          ∙ ap (λ (entries : Entries). after_lead place.lead N entries) counts.entries_n) counts.entries_s
-          counts.won;
-      trick = refl;
-    }
+  -- a lead of North's, and one of South's
+  merged-led_n : (card : ℕ)
+      → IsDealt question west → HasCounts question west place view
+      → holds (without question.north place.gone) card ≡ true
+      → IsMerged question west (led place N card) (class_led view N (class_of (hands_of question) card))
+  merged-led_n card is counts held =
+      let class : ℕ = class_of (hands_of question) card in
+      let played = counts-played question west place view N card is counts held in
+      record {
+        counts = same_counts question west (record place { gone = card ∷ place.gone }) (led place N card)
+            (class_played view N class) (class_led view N class) played
+            (record {
+              north = refl;
+              south = refl;
+              cards_n = refl;
+              cards_s = refl;
+              defence = refl;
+              gone_w = refl;
+              gone_e = refl;
+              regain = refl;
+              goal = refl;
+            })
+            refl counts.lead
+            (ap (λ (lead : LeadAt). after_lead lead N view.entries_n) counts.lead
+            ∙ ap (λ (entries : Entries). after_lead place.lead N entries) counts.entries_n) counts.entries_s
+            counts.won;
+        trick = refl;
+      }
 
-merged-led_s : (question : Question) (west : Cards) (place : Position) (view : ClassView) (card : ℕ)
-    → IsDealt question west → HasCounts question west place view
-    → holds (without question.south place.gone) card ≡ true
-    → IsMerged question west (led place S card) (class_led view S (class_of (hands_of question) card))
-merged-led_s question west place view card is counts held =
-    let class : ℕ = class_of (hands_of question) card in
-    let played = counts-played question west place view S card is counts held in
-    record {
-      counts = same_counts question west (record place { gone = card ∷ place.gone }) (led place S card)
-          (class_played view S class) (class_led view S class) played
-          (record {
-            north = refl;
-            south = refl;
-            cards_n = refl;
-            cards_s = refl;
-            defence = refl;
-            gone_w = refl;
-            gone_e = refl;
-            regain = refl;
-            goal = refl;
-          })
-          refl counts.lead counts.entries_n
-          (ap (λ (lead : LeadAt). after_lead lead S view.entries_s) counts.lead
-          ∙ ap (λ (entries : Entries). after_lead place.lead S entries) counts.entries_s) counts.won;
-      trick = refl;
-    }
+  merged-led_s : (card : ℕ)
+      → IsDealt question west → HasCounts question west place view
+      → holds (without question.south place.gone) card ≡ true
+      → IsMerged question west (led place S card) (class_led view S (class_of (hands_of question) card))
+  merged-led_s card is counts held =
+      let class : ℕ = class_of (hands_of question) card in
+      let played = counts-played question west place view S card is counts held in
+      record {
+        counts = same_counts question west (record place { gone = card ∷ place.gone }) (led place S card)
+            (class_played view S class) (class_led view S class) played
+            (record {
+              north = refl;
+              south = refl;
+              cards_n = refl;
+              cards_s = refl;
+              defence = refl;
+              gone_w = refl;
+              gone_e = refl;
+              regain = refl;
+              goal = refl;
+            })
+            refl counts.lead counts.entries_n
+            (ap (λ (lead : LeadAt). after_lead lead S view.entries_s) counts.lead
+            ∙ ap (λ (entries : Entries). after_lead place.lead S entries) counts.entries_s) counts.won;
+        trick = refl;
+      }
 
-class_step-led : (view : ClassView) (trick : ClassTrick) (seat : Seat) (class : ℕ) → trick ≡ Closed
-    → class_led view seat class ≡ class_step_in view trick (Lead seat class)
-class_step-led view trick seat class closed = rw closed refl
+  class_step-led : (view : ClassView) (trick : ClassTrick) (seat : Seat) (class : ℕ) → trick ≡ Closed
+      → class_led view seat class ≡ class_step_in view trick (Lead seat class)
+  class_step-led view trick seat class closed = rw closed refl
 
-class_step-followed : (view : ClassView) (trick : ClassTrick) (turn : Seat) (after : ℕ) (winner : Owner)
-    (highest class : ℕ)
-    → trick ≡ Open turn after winner highest
-    → class_followed view turn after winner highest class ≡ class_step_in view trick (Follow class)
-class_step-followed view trick turn after winner highest class is = rw is refl
+  class_step-followed : (view : ClassView) (trick : ClassTrick) (turn : Seat) (after : ℕ) (winner : Owner)
+      (highest class : ℕ)
+      → trick ≡ Open turn after winner highest
+      → class_followed view turn after winner highest class ≡ class_step_in view trick (Follow class)
+  class_step-followed view trick turn after winner highest class is = rw is refl
 
-class_step-shown_out : (view : ClassView) (trick : ClassTrick) (turn : Seat) (after : ℕ) (winner : Owner) (highest : ℕ)
-    → trick ≡ Open turn after winner highest
-    → class_passed view turn after winner highest ≡ class_step_in view trick ShowOut
-class_step-shown_out view trick turn after winner highest is = rw is refl
+  class_step-shown_out : (view : ClassView) (trick : ClassTrick) (turn : Seat) (after : ℕ) (winner : Owner)
+      (highest : ℕ)
+      → trick ≡ Open turn after winner highest
+      → class_passed view turn after winner highest ≡ class_step_in view trick ShowOut
+  class_step-shown_out view trick turn after winner highest is = rw is refl
 
--- a position and a class place that stand for the same moves on
-carried : (question : Question) (west : Cards) (place next : Position) (view later : ClassView) → place ≡ next
-    → view ≡ later → IsMerged question west place view → IsMerged question west next later
-carried question west place next view later same one is =
-    subst (λ (v : ClassView). IsMerged question west next v) one
-    (subst (λ (p : Position). IsMerged question west p view) same is)
+  -- a position and a class place that stand for the same moves on
+  carried : (question : Question) (west : Cards) (place next : Position) (view later : ClassView) → place ≡ next
+      → view ≡ later → IsMerged question west place view → IsMerged question west next later
+  carried question west place next view later same one is =
+      subst (λ (v : ClassView). IsMerged question west next v) one
+      (subst (λ (p : Position). IsMerged question west p view) same is)
 
-lead_merged : (question : Question) (west : Cards) (place : Position) (view : ClassView) (move : Move)
-    → IsDealt question west → IsMerged question west place view
-    → place.trick ≡ NoTrick → Contains (leads_at question place) move
-    → IsMerged question west (step question place move) (class_step view (merge (hands_of question) move))
-lead_merged question west place view move is merged closed found =
-    let shut : view.trick ≡ Closed = merged.trick ∙ ap (merged_trick (hands_of question)) closed in
-    elim (lead_cases question place move found) [
-      | inl north ↦
-          subst
-          (λ (m : Move). IsMerged question west (step question place m) (class_step view (merge (hands_of question) m)))
-          north.2
-          (carried question west (led place N north.0) (step question place (cards.Lead N north.0))
-          (class_led view N (class_of (hands_of question) north.0))
-          (class_step view (Lead N (class_of (hands_of question) north.0)))
-          (step-led question place N north.0 closed)
-          (class_step-led view view.trick N (class_of (hands_of question) north.0) shut)
-          (merged-led_n question west place view north.0 is merged.counts
-          ((holds_tells (without question.north place.gone) north.0).1 north.1)))
-      | inr south ↦
-          subst
-          (λ (m : Move). IsMerged question west (step question place m) (class_step view (merge (hands_of question) m)))
-          south.2
-          (carried question west (led place S south.0) (step question place (cards.Lead S south.0))
-          (class_led view S (class_of (hands_of question) south.0))
-          (class_step view (Lead S (class_of (hands_of question) south.0)))
-          (step-led question place S south.0 closed)
-          (class_step-led view view.trick S (class_of (hands_of question) south.0) shut)
-          (merged-led_s question west place view south.0 is merged.counts
-          ((holds_tells (without question.south place.gone) south.0).1 south.1)))
-    ]
+  lead_merged : (move : Move)
+      → IsDealt question west → IsMerged question west place view
+      → place.trick ≡ NoTrick → Contains (leads_at question place) move
+      → IsMerged question west (step question place move) (class_step view (merge (hands_of question) move))
+  lead_merged move is merged closed found =
+      let shut : view.trick ≡ Closed = merged.trick ∙ ap (merged_trick (hands_of question)) closed in
+      elim (lead_cases question place move found) [
+        | inl north ↦
+            subst
+            (λ (m : Move). IsMerged question west (step question place m)
+            (class_step view (merge (hands_of question) m)))
+            north.2
+            (carried question west (led place N north.0) (step question place (cards.Lead N north.0))
+            (class_led view N (class_of (hands_of question) north.0))
+            (class_step view (Lead N (class_of (hands_of question) north.0)))
+            (step-led question place N north.0 closed)
+            (class_step-led view view.trick N (class_of (hands_of question) north.0) shut)
+            (merged-led_n north.0 is merged.counts
+            ((holds_tells (without question.north place.gone) north.0).1 north.1)))
+        | inr south ↦
+            subst
+            (λ (m : Move). IsMerged question west (step question place m)
+            (class_step view (merge (hands_of question) m)))
+            south.2
+            (carried question west (led place S south.0) (step question place (cards.Lead S south.0))
+            (class_led view S (class_of (hands_of question) south.0))
+            (class_step view (Lead S (class_of (hands_of question) south.0)))
+            (step-led question place S south.0 closed)
+            (class_step-led view view.trick S (class_of (hands_of question) south.0) shut)
+            (merged-led_s south.0 is merged.counts
+            ((holds_tells (without question.south place.gone) south.0).1 south.1)))
+      ]
 
-follow_merged : (question : Question) (west : Cards) (place : Position) (view : ClassView) (turn : Seat) (after : ℕ)
-    (winner : Seat) (highest : ℕ) (move : Move)
-    → IsDealt question west
-    → IsMerged question west place view → place.trick ≡ InTrick turn after winner highest
-    → IsOpen question west place.gone turn after winner highest
-    → Contains (follows_of (hand question west place turn)) move
-    → IsMerged question west (step question place move) (class_step view (merge (hands_of question) move))
-follow_merged question west place view turn after winner highest move is merged open_is sense found =
-    let shown : view.trick ≡ Open turn after (side winner) (class_of (hands_of question) highest) =
-    merged.trick ∙ ap (merged_trick (hands_of question)) open_is in
-    elim (follow_or_show (hand question west place turn) move found) [
-      | inl card ↦
-          subst
-          (λ (m : Move). IsMerged question west (step question place m) (class_step view (merge (hands_of question) m)))
-          card.2
-          (carried question west (followed question place turn after winner highest card.0)
-          (step question place (cards.Follow card.0))
-          (class_followed view turn after (side winner) (class_of (hands_of question) highest)
-          (class_of (hands_of question) card.0))
-          (class_step view (Follow (class_of (hands_of question) card.0)))
-          (step-followed question place turn after winner highest card.0 open_is)
-          (class_step-followed view view.trick turn after (side winner) (class_of (hands_of question) highest)
-          (class_of (hands_of question) card.0) shown)
-          (merged-followed question west place view turn after winner highest card.0 is merged.counts
-          ((holds_tells (without (dealt question west turn) place.gone) card.0).1 card.1)
-          ((holds_tells (dealt question west winner) highest).1 sense.highest_dealt)))
-      | inr none ↦
-          subst
-          (λ (m : Move). IsMerged question west (step question place m) (class_step view (merge (hands_of question) m)))
-          none.1
-          (carried question west (turn_passed question place turn after winner highest)
-          (step question place cards.ShowOut)
-          (class_passed view turn after (side winner) (class_of (hands_of question) highest)) (class_step view ShowOut)
-          (step-shown_out question place turn after winner highest open_is)
-          (class_step-shown_out view view.trick turn after (side winner) (class_of (hands_of question) highest) shown)
-          (merged-passed question west place view turn after winner highest merged.counts))
-    ]
+  follow_merged : (turn : Seat) (after : ℕ)
+      (winner : Seat) (highest : ℕ) (move : Move)
+      → IsDealt question west
+      → IsMerged question west place view → place.trick ≡ InTrick turn after winner highest
+      → IsOpen question west place.gone turn after winner highest
+      → Contains (follows_of (hand question west place turn)) move
+      → IsMerged question west (step question place move) (class_step view (merge (hands_of question) move))
+  follow_merged turn after winner highest move is merged open_is sense found =
+      let shown : view.trick ≡ Open turn after (side winner) (class_of (hands_of question) highest) =
+      merged.trick ∙ ap (merged_trick (hands_of question)) open_is in
+      elim (follow_or_show (hand question west place turn) move found) [
+        | inl card ↦
+            subst
+            (λ (m : Move). IsMerged question west (step question place m)
+            (class_step view (merge (hands_of question) m)))
+            card.2
+            (carried question west (followed question place turn after winner highest card.0)
+            (step question place (cards.Follow card.0))
+            (class_followed view turn after (side winner) (class_of (hands_of question) highest)
+            (class_of (hands_of question) card.0))
+            (class_step view (Follow (class_of (hands_of question) card.0)))
+            (step-followed question place turn after winner highest card.0 open_is)
+            (class_step-followed view view.trick turn after (side winner) (class_of (hands_of question) highest)
+            (class_of (hands_of question) card.0) shown)
+            (merged-followed turn after winner highest card.0 is merged.counts
+            ((holds_tells (without (dealt question west turn) place.gone) card.0).1 card.1)
+            ((holds_tells (dealt question west winner) highest).1 sense.highest_dealt)))
+        | inr none ↦
+            subst
+            (λ (m : Move). IsMerged question west (step question place m)
+            (class_step view (merge (hands_of question) m)))
+            none.1
+            (carried question west (turn_passed question place turn after winner highest)
+            (step question place cards.ShowOut)
+            (class_passed view turn after (side winner) (class_of (hands_of question) highest))
+            (class_step view ShowOut)
+            (step-shown_out question place turn after winner highest open_is)
+            (class_step-shown_out view view.trick turn after (side winner) (class_of (hands_of question) highest) shown)
+            (merged-passed question west place view turn after winner highest merged.counts))
+      ]
 
-step_in_trick : (question : Question) (west : Cards) (place : Position) (view : ClassView) (trick : Trick) (move : Move)
-    → IsDealt question west → IsMerged question west place view
-    → place.trick ≡ trick → IsTrickAt question west place.gone trick
-    → Contains (legal_in question west place trick) move
-    → IsMerged question west (step question place move) (class_step view (merge (hands_of question) move))
-unfolding legal_in
-step_in_trick question west place view NoTrick move is merged trick_is sense found =
-    lead_merged question west place view move is merged trick_is found
-step_in_trick question west place view (InTrick turn after winner highest) move is merged trick_is sense found =
-    follow_merged question west place view turn after winner highest move is merged trick_is sense found
+  step_in_trick : (trick : Trick) (move : Move)
+      → IsDealt question west → IsMerged question west place view
+      → place.trick ≡ trick → IsTrickAt question west place.gone trick
+      → Contains (legal_in question west place trick) move
+      → IsMerged question west (step question place move) (class_step view (merge (hands_of question) move))
+  unfolding legal_in
+  step_in_trick NoTrick move is merged trick_is sense found =
+      lead_merged move is merged trick_is found
+  step_in_trick (InTrick turn after winner highest) move is merged trick_is sense found =
+      follow_merged turn after winner highest move is merged trick_is sense found
 
--- a legal move of single cards and its class move lead to a position and its class place
-pub step_merged : (question : Question) (west : Cards) (place : Position) (view : ClassView) (move : Move)
-    → IsDealt question west → IsMerged question west place view
-    → IsTrickAt question west place.gone place.trick → Contains (legal_at question west place) move
-    → IsMerged question west (step question place move) (class_step view (merge (hands_of question) move))
-step_merged question west place view move is merged sense found =
-    step_in_trick question west place view place.trick move is merged refl sense found
+  -- a legal move of single cards and its class move lead to a position and its class place
+  pub step_merged : (move : Move)
+      → IsDealt question west → IsMerged question west place view
+      → IsTrickAt question west place.gone place.trick → Contains (legal_at question west place) move
+      → IsMerged question west (step question place move) (class_step view (merge (hands_of question) move))
+  step_merged move is merged sense found =
+      step_in_trick place.trick move is merged refl sense found
 
 -- before any move
 pub start_merged : (question : Question) (west : Cards) → IsDealt question west
