@@ -1,4 +1,8 @@
 //! What can be wrong with an answer text.
+ghost use Rattle.std.specs.Prelude.{◌≡◌};
+ghost use Rattle.suit_answer.specs.declared.faults.ReadEnd.TheVariants as ends;
+
+use std::alloc::{AllocError, AllocFailed};
 use thiserror::Error;
 
 /// The first mistake in an answer text, told of its line, counted from 1. The first seven are numbered from 1 in this
@@ -29,4 +33,29 @@ pub enum AnswerFault {
     /// Memory ran out.
     #[error("memory ran out")]
     Memory,
+}
+
+/// Why reading stopped.
+#[derive(Debug, Drop)]
+pub enum ReadEnd {
+    /// Memory ran out.
+    Memory,
+    /// The text is at fault.
+    Fault(AnswerFault),
+}
+
+impl From<AllocError> for ReadEnd {
+    ghost from_gives = { λ _ stop. stop ≡ ends.Memory };
+
+    fn from(_: AllocError) -> ReadEnd {
+        ReadEnd::Memory
+    }
+}
+
+impl<T: Drop> From<AllocFailed<T>> for ReadEnd {
+    ghost from_gives = { λ _ stop. stop ≡ ends.Memory };
+
+    fn from(_: AllocFailed<T>) -> ReadEnd {
+        ReadEnd::Memory
+    }
 }
