@@ -20,7 +20,7 @@ use Rattle.suit_classes.proofs.AllowedHistories.{each_once-Contains}
 use Rattle.suit_plans.specs.declared.plan.Plan.{Plan}
 use Rattle.suit_plans.specs.declared.defence.Defence.{Defence}
 use Rattle.suit_plans.specs.Masses.{defence_shares_at, plan_shares_at}
-use Rattle.suit_plans.proofs.TurnMoves.{HasFirst}
+use Rattle.suit_classes.proofs.UndecidedMoves.{HasFirst}
 use Rattle.suit_lift.specs.Lifts.{RowCounts, class_share, common, defence_way, is_lowest, plan_way, row_count}
 use Rattle.suit_lift.proofs.ClassFellows.{weights_total}
 use Rattle.suit_lift.proofs.LegalMoves.{once_legal}
