@@ -1,30 +1,35 @@
 -- The choices of a best reply stand in the order of their class histories (`plan_choices_rise`,
--- `defence_choices_rise`).
-use Rattle.std.proofs.Common.{◌≡◌, ℕ, zero, suc, ◌<◌, Bool, true, false, List, [], ◌∷◌, ◌++◌, length, refl, sym, ap}
+-- `defence_choices_rise`), and so the entries of its list do (`least_rises`, `most_rises`).
+use Rattle.std.proofs.Common.{◌≡◌, ℕ, zero, suc, ◌+◌, ◌<◌, ◌≤◌, Bool, true, false, List, [], ◌∷◌, ◌++◌, length, refl, sym}
 use Rattle.std.proofs.Common.{◌∙◌, subst, arith, append-nil, append_assoc}
-use Rattle.std.specs.Prelude.{AllPairs, Contains, ◌&&◌, ◌||◌, filter, if◌then◌else◌}
-use Rattle.std.specs.List.{AllByRecursion, flat_map}
-use Rattle.std.proofs.lemmas.Bool.{and_from, or_left, or_right}
+use Rattle.std.specs.Prelude.{AllPairs, Contains, ◌&&◌, ◌==◌, filter, nat_lt, if◌then◌else◌}
+use Rattle.std.specs.List.{AllByRecursion, flat_map, range_with_len}
+use Rattle.std.proofs.lemmas.Bool.{and_from, eq-eqb, lt-ltb, or_left, or_right}
+use Rattle.std.proofs.lemmas.List.FromFn.{get_or-range_with_len, length-range_with_len}
 use Rattle.std.proofs.lemmas.List.Elements.{recursion_from_All}
-use Rattle.suit_cards.specs.Cards.{Counts}
+use Rattle.suit_cards.specs.Cards.{Indices}
 use Rattle.suit_game.specs.declared.question.Question.{Question}
-use Rattle.suit_game.proofs.EachElement.{each_at, each_gives}
+use Rattle.suit_game.proofs.EachElement.{each_at, each_gives, each_map, each_of}
 use Rattle.suit_classes.specs.declared.class_moves.ClassMove.{ClassMove}
 use Rattle.suit_classes.specs.AllowedHistories.{every_move}
 use Rattle.suit_classes.specs.ClassMoves.{ClassHistory, same_class_move}
 use Rattle.suit_classes.specs.MoveOrder.{stands_before}
+use Rattle.suit_classes.specs.Classes.{sizes_of}
 use Rattle.suit_classes.specs.ClassPlaces.{class_after, class_decided, class_moves}
 use Rattle.suit_classes.proofs.DistinctMoves.{each_flat_map}
-use Rattle.suit_classes.proofs.RisingMoves.{Chained, chained_append, chained_filter, chained_pairs, class_moves_rise}
-use Rattle.suit_classes.proofs.RisingMoves.{every_move_rises}
+use Rattle.suit_classes.proofs.RisingMoves.{Chained, chained_append, chained_filter, chained_map, chained_pairs}
+use Rattle.suit_classes.proofs.RisingMoves.{class_moves_rise, every_move_rises}
 use Rattle.suit_classes.proofs.SameMoves.{same_move-itself}
+use Rattle.suit_layouts.specs.ClassLayouts.{class_layouts}
 use Rattle.suit_plans.specs.declared.plan.Plan.{Plan}
-use Rattle.suit_plans.specs.declared.defence.Defence.{Defence}
-use Rattle.suit_plans.specs.BestReplies.{Reply, choices, has_choice, histories_within, is_reached, reply_to_defence}
-use Rattle.suit_plans.specs.BestReplies.{reply_to_plan}
+use Rattle.suit_plans.specs.declared.moves.DeclarerMove.{DeclarerMove}
+use Rattle.suit_plans.specs.declared.moves.DefenceMove.{DefenceMove}
+use Rattle.suit_plans.specs.BestReplies.{Reply, choices, has_choice, histories_within, is_reached, least_reply}
+use Rattle.suit_plans.specs.BestReplies.{least_reply_in, most_reply, reply_move, reply_to_defence, reply_to_plan}
 use Rattle.suit_plans.specs.Orders.{InOrder, history_before, is_earlier}
 use Rattle.suit_plans.specs.Properness.{some_allows}
-use Rattle.suit_plans.specs.ReplyLaws.{DefenceChoicesRise, PlanChoicesRise}
+use Rattle.suit_plans.specs.ReplyLaws.{DefenceChoicesRise, LeastRepliesRise, MostRepliesRise, PlanChoicesRise, counts_at}
+use Rattle.suit_plans.specs.ReplyLaws.{defence_move_before}
 use Rattle.suit_plans.proofs.HistoryOrder.{IsStrict-moves, earlier-start}
 
 abbrev IsBefore : ClassMove → ClassMove → Type 0
@@ -145,3 +150,67 @@ defence_choices_rise question defence =
     (filter (λ move. some_allows question (history ++ move ∷ [])) every_move)
     (chained_filter IsBefore (λ move. some_allows question (history ++ move ∷ [])) every_move
     (pairs_chained IsBefore every_move every_move_rises)))
+
+-- ---- the lists
+
+abbrev IsEntryBefore : DefenceMove → DefenceMove → Type 0
+IsEntryBefore here there = defence_move_before here there ≡ true
+
+module _ (question : Question) (plan : Plan) where
+  abbrev reply_in : ℕ → Reply
+  reply_in index = reply_to_plan question plan (counts_at question index)
+
+  abbrev named_in : ℕ → ClassHistory → DefenceMove
+  named_in index history =
+      record { layout = index; history = history; mv = reply_move (reply_in index) history }
+
+  -- the entries in one class layout
+  abbrev entries_in : ℕ → List DefenceMove
+  entries_in index = least_reply_in question plan (counts_at question index) index
+
+  in_one : (index : ℕ) → Chained IsEntryBefore (entries_in index)
+  in_one index =
+      chained_map IsEarlier IsEntryBefore (named_in index) (choices (reply_in index))
+      (λ here there earlier. or_right (nat_lt index index) (index == index && history_before here there)
+      (and_from (index == index) (history_before here there) (eq-eqb index index refl) earlier))
+      (pairs_chained IsEarlier (choices (reply_in index))
+      (plan_choices_rise question plan (counts_at question index)))
+
+  above : (start count index : ℕ) → Contains (range_with_len start count) index → start ≤ index
+  above start count index found =
+      let few : found.0 < count = omega (arith, found.1, length-range_with_len start count) in
+      omega (arith, get_or-range_with_len start count found.0 index few, found.2)
+
+  -- those in class layouts that follow each other
+  in_more : (count start : ℕ) → Chained IsEntryBefore (flat_map entries_in (range_with_len start count))
+  unfolding Chained
+  in_more zero start = tt
+  in_more (suc count) start =
+      let others : Indices = range_with_len (start + 1) count in
+      let rest : List DefenceMove = flat_map entries_in others in
+      let Precedes : DefenceMove → Type 0 = λ here. AllByRecursion (IsEntryBefore here) rest in
+      chained_append IsEntryBefore (entries_in start) rest (in_one start) (in_more count (start + 1))
+      (each_map Precedes (named_in start) (choices (reply_in start))
+      (each_of (λ history. Precedes (named_in start history)) (choices (reply_in start))
+      (λ history. each_flat_map (IsEntryBefore (named_in start history)) entries_in others
+      (λ index found. each_map (IsEntryBefore (named_in start history)) (named_in index) (choices (reply_in index))
+      (each_of (λ later. IsEntryBefore (named_in start history) (named_in index later)) (choices (reply_in index))
+      (λ later. or_left (nat_lt start index) (start == index && history_before history later)
+      (lt-ltb start index (omega (arith, above (start + 1) count index found)))))))))
+
+pub least_rises : LeastRepliesRise
+unfolding least_reply
+least_rises question plan =
+    chained_pairs IsEntryBefore (least_reply question plan)
+    (in_more question plan (length (class_layouts question (sizes_of question))) 0)
+
+pub most_rises : MostRepliesRise
+unfolding most_reply
+most_rises question defence =
+    let reply : Reply = reply_to_defence question defence in
+    let Precedes : DeclarerMove → DeclarerMove → Type 0 =
+    λ here there. history_before here.history there.history ≡ true in
+    chained_pairs Precedes (most_reply question defence)
+    (chained_map IsEarlier Precedes (λ history. record { history = history; mv = reply_move reply history })
+    (choices reply) (λ here there earlier. earlier)
+    (pairs_chained IsEarlier (choices reply) (defence_choices_rise question defence)))

@@ -22,6 +22,7 @@ pub mod ProperOrders
 pub mod ProperPlans
 pub mod PublicMoves
 pub mod RealisedSides
+pub mod ReplyBeginnings
 pub mod ReplyChoices
 pub mod RowLimits
 pub mod RowOrder

@@ -1,9 +1,9 @@
 -- The entries of a best reply are choices of its side, and its move there is one of the moves (`least_choices`,
 -- `most_choices`).
 use Rattle.std.proofs.Common.{◌≡◌, ◌⊎◌, ℕ, zero, suc, ◌<◌, Bool, true, false, cond, List, [], ◌∷◌, ◌++◌, length, get_or}
-use Rattle.std.proofs.Common.{map, refl, sym, ap, ◌∙◌, subst, inl, inr, arith}
-use Rattle.std.specs.Prelude.{Contains, ◌&&◌, filter, nat_lt, if◌then◌else◌, ℤ, pos, ◌<ℤ◌, int_lt}
-use Rattle.std.specs.List.{AllByRecursion, flat_map, list_any, range_with_len}
+use Rattle.std.proofs.Common.{refl, sym, ap, ◌∙◌, subst, inl, inr, arith}
+use Rattle.std.specs.Prelude.{Contains, ◌&&◌, filter, nat_lt, if◌then◌else◌, ℤ, pos, int_lt}
+use Rattle.std.specs.List.{AllByRecursion, flat_map, range_with_len}
 use Rattle.std.specs.Ordering.{int_eq}
 use Rattle.std.proofs.lemmas.Bool.{and_parts, false≢true, ltb-true}
 use Rattle.std.proofs.lemmas.Bool.Decides.{Decides-int_eq}
@@ -12,13 +12,13 @@ use Rattle.suit_cards.specs.Cards.{Counts}
 use Rattle.suit_num.proofs.IntegerLaws.{int_lt-true}
 use Rattle.suit_game.specs.declared.question.Question.{Question}
 use Rattle.suit_game.specs.Validity.{IsValid}
-use Rattle.suit_game.proofs.EachElement.{Contains-cons_cases, Contains-first, Contains-later, Contains-map_from}
-use Rattle.suit_game.proofs.EachElement.{Contains-nil, each_at, each_in}
+use Rattle.suit_game.proofs.EachElement.{Contains-cons_cases, Contains-first, Contains-flat_map, Contains-later}
+use Rattle.suit_game.proofs.EachElement.{Contains-map, Contains-map_from, Contains-nil, Contains-range, each_at, each_in}
 use Rattle.suit_classes.specs.declared.class_moves.ClassMove.{ClassMove}
 use Rattle.suit_classes.specs.Classes.{sizes_of}
 use Rattle.suit_classes.specs.ClassGame.{Allows}
 use Rattle.suit_classes.specs.ClassMoves.{ClassHistory}
-use Rattle.suit_classes.specs.ClassPlaces.{class_after, class_decided, class_moves, class_turn}
+use Rattle.suit_classes.specs.ClassPlaces.{class_after, class_decided, class_moves}
 use Rattle.suit_classes.proofs.AllowedHistories.{allowed_moves}
 use Rattle.suit_classes.proofs.DefenceSizes.{range_below}
 use Rattle.suit_classes.proofs.DistinctMoves.{each_flat_map}
@@ -30,7 +30,7 @@ use Rattle.suit_plans.specs.declared.defence.Defence.{Defence}
 use Rattle.suit_plans.specs.BestReplies.{Reply, allowing_layouts, best_of, choices, first_of, follows, has_choice}
 use Rattle.suit_plans.specs.BestReplies.{histories_within, is_reached, least_reply, least_reply_in, most_reply}
 use Rattle.suit_plans.specs.BestReplies.{public_moves, reply_move, reply_to_defence, reply_to_plan, worth}
-use Rattle.suit_plans.specs.Masses.{defence_mass, is_declarers, is_defences, plan_mass}
+use Rattle.suit_plans.specs.Masses.{defence_mass, plan_mass}
 use Rattle.suit_plans.specs.Properness.{some_allows}
 use Rattle.suit_plans.specs.ReplyLaws.{IsDeclarerChoice, IsDefenceChoice, LeastRepliesAreChoices, MostRepliesAreChoices}
 use Rattle.suit_plans.specs.ReplyLaws.{counts_at, worths_with}
@@ -146,35 +146,64 @@ plan_choice question plan counts history starts found =
       live = int_lt-true (pos 0) (plan_mass question plan history) reached.0;
     }
 
-pub least_choices : LeastRepliesAreChoices
+-- the move of the best reply to a plan at a class history, in the class layout at an index
+abbrev named_in : Question → Plan → ℕ → ClassHistory → DefenceMove
+named_in question plan index history = record {
+  layout = index;
+  history = history;
+  mv = reply_move (reply_to_plan question plan (counts_at question index)) history;
+}
+
+-- an entry of the best reply to a plan is its move at one of its choices, in the class layout with this index
+pub least_entry : (question : Question) (plan : Plan) (entry : DefenceMove) → Contains (least_reply question plan) entry
+    → (entry.layout < length (class_layouts question (sizes_of question)))
+    × Contains (choices (reply_to_plan question plan (counts_at question entry.layout))) entry.history
+    × (reply_move (reply_to_plan question plan (counts_at question entry.layout)) entry.history ≡ entry.mv)
 unfolding least_reply
-least_choices question plan entry valid found =
+least_entry question plan entry found =
     let layouts : List (Counts × ℕ) = class_layouts question (sizes_of question) in
-    let IsChoice : DefenceMove → Type 0 = λ (other : DefenceMove). (other.layout < length layouts)
-    × IsDefenceChoice question plan (counts_at question other.layout) other.history other.mv in
-    each_at IsChoice (flat_map (λ index. least_reply_in question plan (counts_at question index) index)
-    (range_with_len 0 (length layouts))) entry
-    (each_flat_map IsChoice (λ index. least_reply_in question plan (counts_at question index) index)
-    (range_with_len 0 (length layouts))
+    let reply_in : ℕ → Reply = λ index. reply_to_plan question plan (counts_at question index) in
+    let piece : ℕ → List DefenceMove = λ index. least_reply_in question plan (counts_at question index) index in
+    let IsEntry : DefenceMove → Type 0 = λ (other : DefenceMove). (other.layout < length layouts)
+    × Contains (choices (reply_in other.layout)) other.history
+    × (reply_move (reply_in other.layout) other.history ≡ other.mv) in
+    each_at IsEntry (flat_map piece (range_with_len 0 (length layouts))) entry
+    (each_flat_map IsEntry piece (range_with_len 0 (length layouts))
     (λ index listed.
     let below : index < length layouts =
     All-contains (λ (k : ℕ). k < length layouts) (range_with_len 0 (length layouts)) index
     (range_below (length layouts)) listed in
-    let starts = start_allows question (counts_at question index) valid
-    (layout_weighs question valid (get_or layouts index ([], 0)) (Contains-get_or layouts index (
-      [],
-      0,
-    ) below)) in
-    each_in IsChoice (least_reply_in question plan (counts_at question index) index)
+    each_in IsEntry (piece index)
     (λ other there.
-    let from = Contains-map_from (λ (history : ClassHistory). record {
-      layout = index;
-      history = history;
-      mv = reply_move (reply_to_plan question plan (counts_at question index)) history;
-    })
-    (choices (reply_to_plan question plan (counts_at question index))) other there in
-    subst IsChoice from.2 (below, plan_choice question plan (counts_at question index) from.0 starts from.1))))
+    let from = Contains-map_from (named_in question plan index) (choices (reply_in index)) other there in
+    subst IsEntry from.2 (below, from.1, refl))))
     found
+
+-- and each is listed
+pub least_listed : (question : Question) (plan : Plan) (index : ℕ) (history : ClassHistory)
+    → index < length (class_layouts question (sizes_of question))
+    → Contains (choices (reply_to_plan question plan (counts_at question index))) history
+    → Contains (least_reply question plan) (named_in question plan index history)
+unfolding least_reply
+least_listed question plan index history below found =
+    let many : ℕ = length (class_layouts question (sizes_of question)) in
+    Contains-flat_map (λ other. least_reply_in question plan (counts_at question other) other) (range_with_len 0 many)
+    index (named_in question plan index history)
+    (Contains-range 0 many index (omega arith) (omega (arith, below)))
+    (Contains-map (named_in question plan index) (choices (reply_to_plan question plan (counts_at question index)))
+    history found)
+
+pub least_choices : LeastRepliesAreChoices
+least_choices question plan entry valid found =
+    let listed = least_entry question plan entry found in
+    let counts : Counts = counts_at question entry.layout in
+    let starts = start_allows question counts valid
+    (layout_weighs question valid (get_or (class_layouts question (sizes_of question)) entry.layout ([], 0))
+    (Contains-get_or (class_layouts question (sizes_of question)) entry.layout ([], 0) listed.0)) in (
+      listed.0,
+      subst (IsDefenceChoice question plan counts entry.history) listed.2
+          (plan_choice question plan counts entry.history starts listed.1),
+    )
 
 -- ---- against a defence
 
@@ -203,11 +232,33 @@ defence_choice question defence history valid found =
       live = (some.0, some.1, int_lt-true (pos 0) (defence_mass question defence some.0.0 history) some.2);
     }
 
-pub most_choices : MostRepliesAreChoices
+-- the move of the best reply to a defence at a class history
+abbrev named : Question → Defence → ClassHistory → DeclarerMove
+named question defence history =
+    record { history = history; mv = reply_move (reply_to_defence question defence) history }
+
+-- an entry of the best reply to a defence is its move at one of its choices
+pub most_entry : (question : Question) (defence : Defence) (entry : DeclarerMove)
+    → Contains (most_reply question defence) entry
+    → Contains (choices (reply_to_defence question defence)) entry.history
+    × (reply_move (reply_to_defence question defence) entry.history ≡ entry.mv)
 unfolding most_reply
+most_entry question defence entry found =
+    let reply : Reply = reply_to_defence question defence in
+    let from = Contains-map_from (named question defence) (choices reply) entry found in
+    subst (λ (other : DeclarerMove). Contains (choices reply) other.history
+    × (reply_move reply other.history ≡ other.mv)) from.2 (from.1, refl)
+
+-- and each is listed
+pub most_listed : (question : Question) (defence : Defence) (history : ClassHistory)
+    → Contains (choices (reply_to_defence question defence)) history
+    → Contains (most_reply question defence) (named question defence history)
+unfolding most_reply
+most_listed question defence history found =
+    Contains-map (named question defence) (choices (reply_to_defence question defence)) history found
+
+pub most_choices : MostRepliesAreChoices
 most_choices question defence entry valid found =
-    let named : ClassHistory → DeclarerMove =
-    λ history. record { history = history; mv = reply_move (reply_to_defence question defence) history } in
-    let from = Contains-map_from named (choices (reply_to_defence question defence)) entry found in
-    subst (λ (other : DeclarerMove). IsDeclarerChoice question defence other.history other.mv) from.2
-    (defence_choice question defence from.0 valid from.1)
+    let listed = most_entry question defence entry found in
+    subst (IsDeclarerChoice question defence entry.history) listed.1
+    (defence_choice question defence entry.history valid listed.0)

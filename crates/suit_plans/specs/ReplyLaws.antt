@@ -1,7 +1,7 @@
 -- What best replies are worth at each turn and within which bounds, what the entries of their lists are, and in what
 -- order they stand.
-use Rattle.std.specs.Prelude.{false, get_or, ◌≡◌, ℕ, ◌<◌, ◌^◌, true, List, [], ◌∷◌, ◌++◌, length, map, Contains, ℤ, pos}
-use Rattle.std.specs.Prelude.{◌*ℤ◌, ◌≤ℤ◌, ◌<ℤ◌}
+use Rattle.std.specs.Prelude.{◌⊎◌, ◌≡◌, ℕ, ◌<◌, ◌^◌, ◌==◌, ◌&&◌, ◌||◌, nat_lt, Bool, true, false, List, [], ◌∷◌, ◌++◌}
+use Rattle.std.specs.Prelude.{length, map, get_or, Contains, ℤ, pos, ◌*ℤ◌, ◌≤ℤ◌, ◌<ℤ◌}
 use Rattle.suit_cards.specs.Cards.{Counts}
 use Rattle.suit_game.specs.declared.question.Question.{Question}
 use Rattle.suit_game.specs.Validity.{IsValid}
@@ -185,6 +185,52 @@ MostRepliesAreChoices = (question : Question) (defence : Defence) (entry : Decla
     → Contains (most_reply question defence) entry
     → IsDeclarerChoice question defence entry.history entry.mv
 
+-- ---- how they stand to each other
+
+-- the defence's best reply to a plan makes a move in the class layout at an index: its list names the move there, or
+-- there is no other
+abbrev pub IsDefenceReply : Question → Plan → ℕ → ClassHistory → ClassMove → Type 0
+IsDefenceReply question plan index history move =
+    Contains (least_reply question plan) (record { layout = index; history = history; mv = move })
+    ⊎ (class_moves (class_after question history) (counts_at question index) ≡ move ∷ [])
+
+-- some mass comes to each beginning of an entry's class history
+abbrev pub LeastRepliesAreReached : Type 0
+LeastRepliesAreReached = (question : Question) (plan : Plan) (entry : DefenceMove) (start rest : ClassHistory)
+    → IsValid question → IsProperPlan question plan
+    → Contains (least_reply question plan) entry → entry.history ≡ start ++ rest
+    → pos 0 <ℤ plan_mass question plan start
+
+-- and each move of the defence's within it is the reply's
+abbrev pub LeastRepliesAreFollowed : Type 0
+LeastRepliesAreFollowed = (question : Question) (plan : Plan) (entry : DefenceMove) (start : ClassHistory)
+    (move : ClassMove) (rest : ClassHistory) → IsValid question → IsProperPlan question plan
+    → Contains (least_reply question plan) entry → entry.history ≡ start ++ move ∷ rest
+    → is_defences (class_turn (class_after question start)) ≡ true
+    → IsDefenceReply question plan entry.layout start move
+
+-- declarer's best reply to a defence makes a move: its list names the move there, or there is no other
+abbrev pub IsDeclarerReply : Question → Defence → ClassHistory → ClassMove → Type 0
+IsDeclarerReply question defence history move =
+    Contains (most_reply question defence) (record { history = history; mv = move })
+    ⊎ (public_moves question history ≡ move ∷ [])
+
+-- to each beginning of an entry's class history some mass comes in a class layout
+abbrev pub MostRepliesAreReached : Type 0
+MostRepliesAreReached = (question : Question) (defence : Defence) (entry : DeclarerMove) (start rest : ClassHistory)
+    → IsValid question → IsProperDefence question defence
+    → Contains (most_reply question defence) entry → entry.history ≡ start ++ rest
+    → (layout : Counts × ℕ) × Contains (allowing_layouts question start) layout
+    × (pos 0 <ℤ defence_mass question defence layout.0 start)
+
+-- and each move of declarer's within it is the reply's
+abbrev pub MostRepliesAreFollowed : Type 0
+MostRepliesAreFollowed = (question : Question) (defence : Defence) (entry : DeclarerMove) (start : ClassHistory)
+    (move : ClassMove) (rest : ClassHistory) → IsValid question → IsProperDefence question defence
+    → Contains (most_reply question defence) entry → entry.history ≡ start ++ move ∷ rest
+    → is_declarers (class_turn (class_after question start)) ≡ true
+    → IsDeclarerReply question defence start move
+
 -- ---- in what order they stand
 
 -- the choices against a plan, of which its best reply lists those of each class layout in turn, stand in the order of
@@ -197,3 +243,18 @@ PlanChoicesRise = (question : Question) (plan : Plan) (counts : Counts)
 abbrev pub DefenceChoicesRise : Type 0
 DefenceChoicesRise = (question : Question) (defence : Defence)
     → InOrder history_before (choices (reply_to_defence question defence))
+
+-- whether an entry of a defence's reply stands before another: by the indices of the class layouts, and then by the class
+-- histories
+abbrev pub defence_move_before : DefenceMove → DefenceMove → Bool
+defence_move_before here there = nat_lt here.layout there.layout
+    || (here.layout == there.layout && history_before here.history there.history)
+
+-- so stand the entries of the best reply to a plan
+abbrev pub LeastRepliesRise : Type 0
+LeastRepliesRise = (question : Question) (plan : Plan) → InOrder defence_move_before (least_reply question plan)
+
+-- and those of the best reply to a defence stand in the order of their class histories
+abbrev pub MostRepliesRise : Type 0
+MostRepliesRise = (question : Question) (defence : Defence)
+    → InOrder (λ here there. history_before here.history there.history) (most_reply question defence)

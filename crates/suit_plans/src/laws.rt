@@ -2,7 +2,9 @@
 ghost use Rattle.suit_plans.specs.PlanLaws.{DefencesAreRealised, PlansAreRealised};
 ghost use Rattle.suit_plans.specs.ReplyLaws.{DefencesArePaid, DefencesAtDecided, DefencesAtDeclarers};
 ghost use Rattle.suit_plans.specs.ReplyLaws.{DefencesAtDefences, DefenceChoicesRise, LeastRepliesAreChoices};
-ghost use Rattle.suit_plans.specs.ReplyLaws.{LeastsAreBounded, MostRepliesAreChoices, MostsAreBounded};
+ghost use Rattle.suit_plans.specs.ReplyLaws.{LeastRepliesAreFollowed, LeastRepliesAreReached, LeastRepliesRise};
+ghost use Rattle.suit_plans.specs.ReplyLaws.{LeastsAreBounded, MostRepliesAreChoices, MostRepliesAreFollowed};
+ghost use Rattle.suit_plans.specs.ReplyLaws.{MostRepliesAreReached, MostRepliesRise, MostsAreBounded};
 ghost use Rattle.suit_plans.specs.ReplyLaws.{NoMassesAreWorthNothing, NoMassIsWorthNothing, PlanChoicesRise};
 ghost use Rattle.suit_plans.specs.ReplyLaws.{PlansArePaid, PlansAtDecided, PlansAtDeclarers, PlansAtDefences};
 ghost use Rattle.suit_plans.specs.ReplyLaws.{WorthsUnfold};
@@ -94,6 +96,27 @@ pub fn most_replies_are_choices()
     ensures { MostRepliesAreChoices }
 {}
 
+/// Some mass of a proper plan comes to each beginning of a class history where an entry of its best reply stands.
+pub fn least_replies_are_reached()
+    ensures { LeastRepliesAreReached }
+{}
+
+/// The defence's moves within that class history are the reply's: it names them, or there is no other move.
+pub fn least_replies_are_followed()
+    ensures { LeastRepliesAreFollowed }
+{}
+
+/// Some mass of a proper defence comes, in some class layout, to each beginning of a class history where an entry of its
+/// best reply stands.
+pub fn most_replies_are_reached()
+    ensures { MostRepliesAreReached }
+{}
+
+/// Declarer's moves within that class history are the reply's: it names them, or there is no other move.
+pub fn most_replies_are_followed()
+    ensures { MostRepliesAreFollowed }
+{}
+
 /// The choices against a plan in a class layout stand in the order of their class histories.
 pub fn plan_choices_rise()
     ensures { PlanChoicesRise }
@@ -102,4 +125,14 @@ pub fn plan_choices_rise()
 /// The choices against a defence stand in the order of their class histories.
 pub fn defence_choices_rise()
     ensures { DefenceChoicesRise }
+{}
+
+/// The entries of the best reply to a plan stand in order: by class layouts, and then by class histories.
+pub fn least_replies_rise()
+    ensures { LeastRepliesRise }
+{}
+
+/// The entries of the best reply to a defence stand in the order of their class histories.
+pub fn most_replies_rise()
+    ensures { MostRepliesRise }
 {}

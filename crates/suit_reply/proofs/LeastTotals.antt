@@ -1,21 +1,18 @@
 -- all_numbers, all_moves: the defence's best reply to a plan, class layout by class layout.
-use Rattle.std.proofs.Common.{◌≡◌, ℕ, ◌+◌, ◌-◌, ◌*◌, ◌<◌, ◌≤◌, List, [], ◌∷◌, ◌++◌, length, map, take, get_or, refl}
+use Rattle.std.proofs.Common.{◌≡◌, ℕ, zero, suc, ◌+◌, ◌-◌, ◌<◌, ◌≤◌, List, [], ◌∷◌, ◌++◌, length, map, get_or, refl}
 use Rattle.std.proofs.Common.{sym, ap, ◌∙◌, subst, arith}
-use Rattle.std.specs.Prelude.{Contains, FitsSigned, ◌^◌, ℤ, pos, ◌+ℤ◌, ◌*ℤ◌, ◌≤ℤ◌, unsigned_abs}
+use Rattle.std.specs.Prelude.{Contains, FitsSigned, ◌^◌, ℤ, pos, ◌+ℤ◌, ◌*ℤ◌, ◌≤ℤ◌, ◌<ℤ◌, unsigned_abs}
 use Rattle.std.specs.Int.{w128}
 use Rattle.std.specs.List.{flat_map, range_with_len}
 use Rattle.std.proofs.lemmas.Int.{fits_signed_from_abs, ints}
-use Rattle.std.proofs.lemmas.List.{append-nil, get_or_default}
+use Rattle.std.proofs.lemmas.List.{append-nil, get_or_default, map-append}
 use Rattle.std.proofs.lemmas.List.Concat.{flat_map-append}
-use Rattle.std.proofs.lemmas.List.FromFn.{map-range_with_len_more, take-map-range_with_len}
+use Rattle.std.proofs.lemmas.List.Elements.{Contains-get_or}
+use Rattle.std.proofs.lemmas.List.FromFn.{get_or-range_with_len, length-range_with_len}
 use Rattle.std.proofs.lemmas.Simd.{map-map}
-use Rattle.std.proofs.Math.IntN.{*ℤ_comm}
-use Rattle.suit_num.proofs.IntegerLaws.{le-mul_right, mul_left_comm, mul_not_negative}
 use Rattle.suit_cards.specs.Cards.{Counts, Indices}
-use Rattle.suit_game.specs.Layouts.{total as all_weights}
 use Rattle.suit_game.specs.declared.question.Question.{Question}
 use Rattle.suit_game.specs.Validity.{IsValid}
-use Rattle.suit_game.proofs.FilledPlaces.{total_at_most}
 use Rattle.suit_game.proofs.EachElement.{Contains-range}
 use Rattle.suit_classes.specs.ClassMoves.{ClassHistory}
 use Rattle.suit_plans.specs.declared.moves.DefenceMove.{DefenceMove}
@@ -23,29 +20,24 @@ use Rattle.suit_plans.specs.declared.plan.Plan.{Plan}
 use Rattle.suit_plans.specs.declared.plan.Row.{Row}
 use Rattle.suit_plans.specs.BestReplies.{least, least_reply, least_reply_in, reply_to_plan, worth}
 use Rattle.suit_plans.specs.Properness.{IsProperPlan, sum_of}
-use Rattle.suit_plans.specs.ReplyLaws.{IsPaid}
-use Rattle.suit_plans.proofs.BoundedReplies.{first_mass, sum_weighed, weights_add}
-use Rattle.suit_plans.proofs.NumberSums.{first_sums}
-use Rattle.suit_plans.proofs.PaidWorths.{sum_paid}
+use Rattle.suit_plans.proofs.BoundedReplies.{first_mass, leasts_bounded, weighed_paid}
 use Rattle.suit_plans.proofs.ProperPlans.{plans_are_realised, proper_plan}
-use Rattle.suit_plans.proofs.SharedSums.{int_le-true}
+use Rattle.suit_plans.proofs.SharedSums.{int_le-true, sum_positive}
 use Rattle.suit_tree.specs.declared.node.Node.{Node}
 use Rattle.suit_tree.specs.declared.tree.Tree.{Tree}
 use Rattle.suit_tree.specs.Trees.{layout_indices}
-use Rattle.suit_tree.proofs.CountedNodes.{in_range_below}
-use Rattle.suit_tree.proofs.GrowingSteps.{range_longer}
 use Rattle.suit_tree.proofs.GrownTrees.{allowing_first}
 use Rattle.suit_reply.specs.declared.chosen_move.ChosenMove.{ChosenMove}
 use Rattle.suit_reply.specs.NodeReplies.{NodeReplyView}
 use Rattle.suit_reply.specs.AgainstPlan.{IsPlanFor, LeastNode, node_least}
-use Rattle.suit_reply.proofs.MostByNodes.AllowingLayouts.{by_indices, layout_at}
-use Rattle.suit_reply.proofs.LeastBounds.{worth_paid}
+use Rattle.suit_reply.specs.LayoutsReplies.{IsReplyIn, layout_at, weighed_worth}
+use Rattle.suit_reply.proofs.MostByNodes.AllowingLayouts.{by_indices}
 use Rattle.suit_reply.proofs.LeastByNodes.{least_by_nodes}
 use Rattle.suit_reply.proofs.LeastByNodes.Cases.{LeastCase, case_allows, reply_at}
 use Rattle.suit_reply.proofs.ReachedChoices.PlanReplies.{least_reply_walked}
 use Rattle.suit_reply.proofs.TurnReplies.{found_from}
 use Rattle.suit_reply.proofs.HeldMoves.{layout_counts, layouts_of}
-use Rattle.suit_reply.proofs.Totals.{le_through, sum_push}
+use Rattle.suit_reply.proofs.Totals.{sum_append}
 
 -- ---- one class layout
 
@@ -114,10 +106,6 @@ asked_at_root tree plan index rows history mass node case same none whole root b
     (subst (λ (m : ℤ). LeastNode plan.rows index [] m node) (sym whole)
     (subst (LeastNode plan.rows index [] plan.den) (sym root) (root_asked tree plan index case below))))
 
--- what it is worth there, weighed
-abbrev pub weighed_worth : Question → Plan → ℕ → ℤ
-weighed_worth question plan index = pos (layout_at question index).1 *ℤ worth (reply_at question plan index) []
-
 -- the weight that stands at an index
 pub weighs_at : (question : Question) (layouts : List (Counts × ℕ)) (index : ℕ) (layout : Counts × ℕ)
     → layouts ≡ layouts_of question → index < length layouts
@@ -126,205 +114,202 @@ weighs_at question layouts index layout same below =
     ap (λ (other : Counts × ℕ). other.1)
     (get_or_default layouts index layout ([], 0) below ∙ ap (λ (l : List (Counts × ℕ)). get_or l index ([], 0)) same)
 
--- ---- the first class layouts
+-- ---- some class layouts
 
--- what stands in a loop over the class layouts
-pub record IsSoFar (question : Question) (plan : Plan) (count : ℕ) (number : ℤ) (moves : List DefenceMove) : Type
-    0 where
-  pub sum : number ≡ sum_of (map (weighed_worth question plan) (range_with_len 0 count))
-  pub replies : moves ≡ flat_map (λ index. least_reply_in question plan (layout_counts question index) index)
-      (range_with_len 0 count)
-
--- before the first class layout there is nothing
-pub none_so_far : (question : Question) (plan : Plan) (moves : List DefenceMove) → moves ≡ []
-    → IsSoFar question plan 0 (pos 0) moves
+-- the best reply in no class layouts
+pub none_so_far : (question : Question) (plan : Plan) (start count : ℕ) (moves : List DefenceMove) → count ≡ 0
+    → moves ≡ [] → IsReplyIn question plan start count (pos 0) moves
 unfolding sum_of
-none_so_far question plan moves none = record { sum = refl; replies = none }
+none_so_far question plan start count moves no_count none =
+    subst (λ (n : ℕ). IsReplyIn question plan start n (pos 0) moves) (sym no_count) (record { sum = refl; replies = none })
 
 -- a choice, in a class layout
 abbrev pub named_at : ℕ → ChosenMove → DefenceMove
 named_at index choice = record { layout = index; history = choice.history; mv = choice.mv }
 
+-- in one class layout
+one_reply : (question : Question) (plan : Plan) (index : ℕ) (number : ℤ) (moves : List DefenceMove)
+    → number ≡ weighed_worth question plan index
+    → moves ≡ least_reply_in question plan (layout_counts question index) index
+    → IsReplyIn question plan index 1 number moves
+unfolding sum_of
+one_reply question plan index number moves worth listed = record {
+  sum = worth ∙ alone (weighed_worth question plan index);
+  replies = listed ∙ sym (append-nil (least_reply_in question plan (layout_counts question index) index));
+}
+  where
+    alone : (z : ℤ) → z ≡ z +ℤ pos 0
+    alone z = omega (arith, ints)
+
+-- numbers that follow each other, in two parts
+range_parts : (count more start : ℕ)
+    → range_with_len start (count + more) ≡ range_with_len start count ++ range_with_len (start + count) more
+range_parts zero more start =
+    ap (λ (n : ℕ). range_with_len start n) (omega arith) ∙ ap (λ (n : ℕ). range_with_len n more) (omega arith)
+range_parts (suc count) more start =
+    let next : suc count + more ≡ suc (count + more) = omega arith in
+    let later : start + 1 + count ≡ start + suc count = omega arith in
+    ap (λ (n : ℕ). range_with_len start n) next
+    ∙ ap (λ (l : List ℕ). start ∷ l) (range_parts count more (start + 1)
+    ∙ ap (λ (n : ℕ). range_with_len (start + 1) count ++ range_with_len n more) later)
+
+first_parts : (count more : ℕ) → range_with_len 0 (count + more) ≡ range_with_len 0 count ++ range_with_len count more
+first_parts count more =
+    let from : 0 + count ≡ count = omega arith in
+    range_parts count more 0 ∙ ap (λ (n : ℕ). range_with_len 0 count ++ range_with_len n more) from
+
+-- the best reply in class layouts that follow each other is joined of those in two parts of them
+pub both_replies : (question : Question) (plan : Plan) (start count more : ℕ) (first later : ℤ)
+    (moves others : List DefenceMove) → IsReplyIn question plan start count first moves
+    → IsReplyIn question plan (start + count) more later others
+    → IsReplyIn question plan start (count + more) (first +ℤ later) (moves ++ others)
+both_replies question plan start count more first later moves others here there =
+    let worths : ℕ → ℤ = weighed_worth question plan in
+    let replies : ℕ → List DefenceMove =
+    λ index. least_reply_in question plan (layout_counts question index) index in
+    let front : Indices = range_with_len start count in
+    let back : Indices = range_with_len (start + count) more in
+    let parts : range_with_len start (count + more) ≡ front ++ back = range_parts count more start in record {
+      sum = ap (λ (z : ℤ). z +ℤ later) here.sum
+          ∙ ap (λ (z : ℤ). sum_of (map worths front) +ℤ z) there.sum
+          ∙ sym (ap (λ (l : Indices). sum_of (map worths l)) parts
+          ∙ ap sum_of (map-append worths front back)
+          ∙ sum_append (map worths front) (map worths back));
+      replies = ap (λ (l : List DefenceMove). l ++ others) here.replies
+          ∙ ap (λ (l : List DefenceMove). flat_map replies front ++ l) there.replies
+          ∙ sym (ap (flat_map replies) parts ∙ flat_map-append replies front back);
+    }
+
+-- what all class layouts are worth together, told by their indices
+least_by_indices : (question : Question) (plan : Plan)
+    → least question plan ≡ sum_of (map (weighed_worth question plan) (layout_indices (layouts_of question)))
+unfolding least
+least_by_indices question plan =
+    let layouts : List (Counts × ℕ) = layouts_of question in
+    let weighed : Counts × ℕ → ℤ = λ layout. pos layout.1 *ℤ worth (reply_to_plan question plan layout.0) [] in
+    sym (ap sum_of (sym (map-map weighed (layout_at question) (layout_indices layouts)))
+    ∙ ap (λ (l : List (Counts × ℕ)). sum_of (map weighed l)) (by_indices layouts ([], 0)))
+
 module _ (question : Question) (plan : Plan) (count : ℕ) (number : ℤ) (moves : List DefenceMove)
-    (all : count ≡ length (layouts_of question)) (so_far : IsSoFar question plan count number moves) where
+    (all : count ≡ length (layouts_of question)) (found : IsReplyIn question plan 0 count number moves) where
   -- over all class layouts the number is the least that the plan earns
   pub all_numbers : number ≡ least question plan
-  unfolding least
   all_numbers =
-      let layouts : List (Counts × ℕ) = layouts_of question in
-      let weighed : Counts × ℕ → ℤ = λ layout. pos layout.1 *ℤ worth (reply_to_plan question plan layout.0) [] in
-      so_far.sum
-      ∙ ap (λ (n : ℕ). sum_of (map (weighed_worth question plan) (range_with_len 0 n))) all
-      ∙ ap sum_of (sym (map-map weighed (layout_at question) (layout_indices layouts)))
-      ∙ ap (λ (l : List (Counts × ℕ)). sum_of (map weighed l)) (by_indices layouts ([], 0))
+      found.sum ∙ ap (λ (n : ℕ). sum_of (map (weighed_worth question plan) (range_with_len 0 n))) all
+      ∙ sym (least_by_indices question plan)
 
   -- and the moves are those of the best reply
   pub all_moves : moves ≡ least_reply question plan
   unfolding least_reply
   all_moves =
-      so_far.replies ∙ ap (λ (n : ℕ).
+      found.replies ∙ ap (λ (n : ℕ).
       flat_map (λ index. least_reply_in question plan (layout_counts question index) index) (range_with_len 0 n)) all
 
--- what a class layout is worth is at most thirteen tricks of its part of the weights
-weighed_paid : (question : Question) (plan : Plan) (index : ℕ) → IsValid question → IsProperPlan question plan
-    → index < length (layouts_of question)
-    → IsPaid (pos (layout_at question index).1 *ℤ plan.den) (weighed_worth question plan index)
-weighed_paid question plan index valid proper below =
-    let weight : ℤ = pos (layout_at question index).1 in
-    let value : ℤ = worth (reply_at question plan index) [] in
-    let some : pos 0 ≤ℤ weight = omega (arith, ints) in
-    let paid : IsPaid plan.den value =
-    subst (λ (m : ℤ). IsPaid m value) (first_mass question plan)
-    (worth_paid question plan index 52 [] (first_case question plan index valid proper below)) in
-    let most : (value *ℤ weight) ≤ℤ ((pos 13 *ℤ plan.den) *ℤ weight) =
-    le-mul_right value (pos 13 *ℤ plan.den) weight paid.few some in
-    let turned : (pos 13 *ℤ plan.den) *ℤ weight ≡ pos 13 *ℤ (weight *ℤ plan.den) =
-    *ℤ_comm (pos 13 *ℤ plan.den) weight ∙ mul_left_comm weight (pos 13) plan.den in
-    record {
-      some = mul_not_negative weight value some paid.some;
-      few = subst (λ (z : ℤ). z ≤ℤ (pos 13 *ℤ (weight *ℤ plan.den))) (*ℤ_comm value weight)
-          (subst (λ (z : ℤ). (value *ℤ weight) ≤ℤ z) turned most);
-    }
+-- ---- that they fit
 
-den_indices : (question : Question) (den : ℤ)
-    → sum_of (map (λ index. pos (layout_at question index).1 *ℤ den) (layout_indices (layouts_of question)))
-    ≡ pos (all_weights question) *ℤ den
-den_indices question den =
-    let layouts : List (Counts × ℕ) = layouts_of question in
-    let part : Counts × ℕ → ℤ = λ layout. pos layout.1 *ℤ den in
-    ap sum_of (sym (map-map part (layout_at question) (layout_indices layouts)))
-    ∙ ap (λ (l : List (Counts × ℕ)). sum_of (map part l)) (by_indices layouts ([], 0))
-    ∙ sum_weighed den layouts
-    ∙ ap (λ (n : ℕ). pos n *ℤ den) (weights_add question)
+-- the numbers that follow each other from one on stay below their end
+range_below : (start count index : ℕ) → Contains (range_with_len start count) index → index < start + count
+range_below start count index found =
+    let few : found.0 < count = omega (arith, found.1, length-range_with_len start count) in
+    omega (arith, few, get_or-range_with_len start count found.0 index few, found.2)
 
-most_of_all : (weights : ℕ) (den : ℤ) → weights ≤ 10400600 → pos 1 ≤ℤ den → den ≤ℤ pos (2 ^ 90)
-    → (pos 13 *ℤ (pos weights *ℤ den)) ≤ℤ pos (13 * (10400600 * 2 ^ 90))
-most_of_all weights den few some within =
-    let light : pos weights ≤ℤ pos 10400600 = omega (arith, ints, few) in
-    let positive : pos 0 ≤ℤ den = omega (arith, ints, some) in
-    let first : (pos weights *ℤ den) ≤ℤ (pos 10400600 *ℤ den) =
-    le-mul_right (pos weights) (pos 10400600) den light positive in
-    let second : (den *ℤ pos 10400600) ≤ℤ (pos (2 ^ 90) *ℤ pos 10400600) =
-    le-mul_right den (pos (2 ^ 90)) (pos 10400600) within (omega (arith, ints)) in
-    let both : (pos weights *ℤ den) ≤ℤ pos (10400600 * 2 ^ 90) =
-    le_through (pos weights *ℤ den) (pos 10400600 *ℤ den) (pos (10400600 * 2 ^ 90)) first
-    (subst (λ (z : ℤ). z ≤ℤ pos (10400600 * 2 ^ 90)) (*ℤ_comm den (pos 10400600)) second) in
-    let third : ((pos weights *ℤ den) *ℤ pos 13) ≤ℤ (pos (10400600 * 2 ^ 90) *ℤ pos 13) =
-    le-mul_right (pos weights *ℤ den) (pos (10400600 * 2 ^ 90)) (pos 13) both (omega (arith, ints)) in
-    subst (λ (z : ℤ). z ≤ℤ pos (13 * (10400600 * 2 ^ 90))) (*ℤ_comm (pos weights *ℤ den) (pos 13)) third
+module _ (question : Question) (plan : Plan) (valid : IsValid question) (proper : IsProperPlan question plan) where
+  -- no class layout is worth less than nothing
+  worth_positive : (index : ℕ) → index < length (layouts_of question) → pos 0 ≤ℤ weighed_worth question plan index
+  worth_positive index below =
+      (weighed_paid question plan (layout_at question index) valid proper
+      (Contains-get_or (layouts_of question) index ([], 0) below)).some
 
--- the sum over the first class layouts
-sum_bounds : (question : Question) (plan : Plan) (count : ℕ) → IsValid question → IsProperPlan question plan
-    → count ≤ length (layouts_of question)
-    → (pos 0 ≤ℤ sum_of (map (weighed_worth question plan) (range_with_len 0 count)))
-    × (sum_of (map (weighed_worth question plan) (range_with_len 0 count)) ≤ℤ pos (13 * (10400600 * 2 ^ 90)))
-sum_bounds question plan count valid proper within =
-    let indices : Indices = layout_indices (layouts_of question) in
-    let worths : ℕ → ℤ = weighed_worth question plan in
-    let masses : ℕ → ℤ = λ index. pos (layout_at question index).1 *ℤ plan.den in
-    let bounds = den_bounds question plan proper in
-    let paid : (index : ℕ) → Contains indices index → IsPaid (masses index) (worths index) =
-    λ index found. weighed_paid question plan index valid proper
-    (in_range_below (length (layouts_of question)) index found) in
-    let whole = sum_paid worths masses indices paid in
-    let first = first_sums worths indices count (λ index found. (paid index found).some) in
-    let same : sum_of (take count (map worths indices)) ≡ sum_of (map worths (range_with_len 0 count)) =
-    ap sum_of (take-map-range_with_len worths 0 (length (layouts_of question)) count within) in
-    let top : (pos 13 *ℤ sum_of (map masses indices)) ≤ℤ pos (13 * (10400600 * 2 ^ 90)) =
-    subst (λ (z : ℤ). (pos 13 *ℤ z) ≤ℤ pos (13 * (10400600 * 2 ^ 90))) (sym (den_indices question plan.den))
-    (most_of_all (all_weights question) plan.den (total_at_most question valid) bounds.0 bounds.1) in (
-      subst (λ (z : ℤ). pos 0 ≤ℤ z) same first.0,
-      subst (λ (z : ℤ). z ≤ℤ pos (13 * (10400600 * 2 ^ 90))) same
-          (chain (sum_of (take count (map worths indices))) (sum_of (map worths indices))
-          (pos 13 *ℤ sum_of (map masses indices)) (pos (13 * (10400600 * 2 ^ 90))) first.1 whole.few top),
-    )
-  where
-    chain : (a b c d : ℤ) → a ≤ℤ b → b ≤ℤ c → c ≤ℤ d → a ≤ℤ d
-    chain a b c d p q r = omega (arith, ints)
+  some_positive : (start count : ℕ) → start + count ≤ length (layouts_of question)
+      → pos 0 ≤ℤ sum_of (map (weighed_worth question plan) (range_with_len start count))
+  some_positive start count within =
+      sum_positive (weighed_worth question plan) (range_with_len start count)
+      (λ index found. worth_positive index (omega (arith, range_below start count index found, within)))
 
-fits_from : (number : ℤ) → pos 0 ≤ℤ number → number ≤ℤ pos (13 * (10400600 * 2 ^ 90)) → FitsSigned w128 number
-fits_from number some most =
-    let small : unsigned_abs number < 2 ^ 127 = omega (arith, ints, some, most) in
-    fits_signed_from_abs w128 number small
-
--- the sum so far fits
-pub sum_fits : (question : Question) (plan : Plan) (count : ℕ) (number : ℤ) (moves : List DefenceMove)
-    → IsValid question → IsProperPlan question plan → count ≤ length (layouts_of question)
-    → IsSoFar question plan count number moves → FitsSigned w128 number
-sum_fits question plan count number moves valid proper within so_far =
-    let bounds = sum_bounds question plan count valid proper within in
-    subst (FitsSigned w128) (sym so_far.sum)
-    (fits_from (sum_of (map (weighed_worth question plan) (range_with_len 0 count))) bounds.0 bounds.1)
+  -- what some class layouts are worth together is at most what all are
+  pub replies_fit : (start count : ℕ) (number : ℤ) (moves : List DefenceMove)
+      → start + count ≤ length (layouts_of question) → IsReplyIn question plan start count number moves
+      → FitsSigned w128 number
+  replies_fit start count number moves within found =
+      let worths : ℕ → ℤ = weighed_worth question plan in
+      let many : ℕ = length (layouts_of question) in
+      let rest : ℕ = many - (start + count) in
+      let front : Indices = range_with_len 0 start in
+      let middle : Indices = range_with_len start count in
+      let back : Indices = range_with_len (start + count) rest in
+      let whole : start + count + rest ≡ many = omega (arith, within) in
+      let parts : range_with_len 0 many ≡ (front ++ middle) ++ back =
+      ap (range_with_len 0) (sym whole) ∙ first_parts (start + count) rest
+      ∙ ap (λ (l : Indices). l ++ back) (first_parts start count) in
+      let sums : least question plan
+      ≡ (sum_of (map worths front) +ℤ sum_of (map worths middle)) +ℤ sum_of (map worths back) =
+      least_by_indices question plan
+      ∙ ap (λ (l : Indices). sum_of (map worths l)) parts
+      ∙ ap sum_of (map-append worths (front ++ middle) back)
+      ∙ sum_append (map worths (front ++ middle)) (map worths back)
+      ∙ ap (λ (z : ℤ). z +ℤ sum_of (map worths back))
+      (ap sum_of (map-append worths front middle) ∙ sum_append (map worths front) (map worths middle)) in
+      let bounds = leasts_bounded question plan valid proper in
+      subst (FitsSigned w128) (sym found.sum)
+      (between (sum_of (map worths front)) (sum_of (map worths middle)) (sum_of (map worths back)) (least question plan)
+      sums (some_positive 0 start (omega (arith, within))) (some_positive start count within)
+      (some_positive (start + count) rest (omega (arith, whole))) bounds.1)
+    where
+      between : (a b c all : ℤ) → all ≡ (a +ℤ b) +ℤ c → pos 0 ≤ℤ a → pos 0 ≤ℤ b → pos 0 ≤ℤ c → all <ℤ pos (2 ^ 118)
+          → FitsSigned w128 b
+      between a b c all is p q r few =
+          let small : unsigned_abs b < 2 ^ 127 = omega (arith, ints, is, p, q, r, few) in
+          fits_signed_from_abs w128 b small
 
 module _ (tree : Tree) (plan : Plan) (index : ℕ) (case : IsPlanFor tree plan)
     (below : index < length (layouts_of case.question)) (weight : ℕ) (found : NodeReplyView)
     (weighs : weight ≡ (layout_at case.question index).1)
     (told : found ≡ node_least 52 plan.rows index [] plan.den tree.root) where
-  -- one class layout more
-  pub one_more : (number after : ℤ) (moves later : List DefenceMove) → after ≡ number +ℤ pos weight *ℤ found.worth
-      → later ≡ moves ++ map (named_at index) found.choices → IsSoFar case.question plan index number moves
-      → IsSoFar case.question plan (index + 1) after later
-  one_more number after moves later adds joins so_far =
+  -- what is told of a class layout is the best reply in it
+  reply_here : IsReplyIn case.question plan index 1 (pos weight *ℤ found.worth) (map (named_at index) found.choices)
+  reply_here =
       let question : Question = case.question in
       let is : found ≡ found_from 52 (reply_at question plan index) [] = told ∙ root_told tree plan index case below in
-      let here : pos weight *ℤ found.worth ≡ weighed_worth question plan index =
-      ap (λ (n : ℕ). pos n *ℤ found.worth) weighs
-      ∙ ap (λ (f : NodeReplyView). pos (layout_at question index).1 *ℤ f.worth) is in
       let allows =
       case_allows question plan index 52 [] (first_case question plan index case.valid case.proper below) in
-      let choices : map (named_at index) found.choices
-      ≡ least_reply_in question plan (layout_counts question index) index =
-      ap (λ (f : NodeReplyView). map (named_at index) f.choices) is
-      ∙ sym (least_reply_walked question plan (layout_counts question index) index case.valid case.proper allows) in
-      let replies : ℕ → List DefenceMove =
-      λ other. least_reply_in question plan (layout_counts question other) other in record {
-        sum = adds
-            ∙ ap (λ (z : ℤ). z +ℤ pos weight *ℤ found.worth) so_far.sum
-            ∙ ap (λ (z : ℤ). sum_of (map (weighed_worth question plan) (range_with_len 0 index)) +ℤ z) here
-            ∙ sym (sum_push (map (weighed_worth question plan) (range_with_len 0 index))
-            (weighed_worth question plan index))
-            ∙ sym (ap sum_of (map-range_with_len_more (weighed_worth question plan) 0 index index (omega arith)));
-        replies = joins
-            ∙ ap (λ (l : List DefenceMove). l ++ map (named_at index) found.choices) so_far.replies
-            ∙ ap (λ (l : List DefenceMove). flat_map replies (range_with_len 0 index) ++ l) choices
-            ∙ sym (ap (flat_map replies) (range_longer index)
-            ∙ flat_map-append replies (range_with_len 0 index) (index ∷ [])
-            ∙ ap (λ (l : List DefenceMove). flat_map replies (range_with_len 0 index) ++ l)
-            (append-nil (replies index)));
-      }
+      one_reply question plan index (pos weight *ℤ found.worth) (map (named_at index) found.choices)
+      (ap (λ (n : ℕ). pos n *ℤ found.worth) weighs
+      ∙ ap (λ (f : NodeReplyView). pos (layout_at question index).1 *ℤ f.worth) is)
+      (ap (λ (f : NodeReplyView). map (named_at index) f.choices) is
+      ∙ sym (least_reply_walked question plan (layout_counts question index) index case.valid case.proper allows))
 
-  -- ---- that they fit
+  -- one class layout more
+  pub one_more : (start : ℕ) (number after : ℤ) (moves later : List DefenceMove) → start ≤ index
+      → after ≡ number +ℤ pos weight *ℤ found.worth → later ≡ moves ++ map (named_at index) found.choices
+      → IsReplyIn case.question plan start (index - start) number moves
+      → IsReplyIn case.question plan start (index + 1 - start) after later
+  one_more start number after moves later from adds joins so_far =
+      let question : Question = case.question in
+      let here : start + (index - start) ≡ index = omega (arith, from) in
+      let next : index - start + 1 ≡ index + 1 - start = omega (arith, from) in
+      subst (λ (l : List DefenceMove). IsReplyIn question plan start (index + 1 - start) after l) (sym joins)
+      (subst (λ (z : ℤ). IsReplyIn question plan start (index + 1 - start) z (moves ++ map (named_at index) found.choices))
+      (sym adds)
+      (subst (λ (n : ℕ). IsReplyIn question plan start n (number +ℤ pos weight *ℤ found.worth)
+      (moves ++ map (named_at index) found.choices)) next
+      (both_replies question plan start (index - start) 1 number (pos weight *ℤ found.worth) moves
+      (map (named_at index) found.choices) so_far
+      (subst (λ (n : ℕ). IsReplyIn question plan n 1 (pos weight *ℤ found.worth) (map (named_at index) found.choices))
+      (sym here) reply_here))))
 
-  -- so does what is added
+  -- what is added fits
   pub part_fits : FitsSigned w128 (pos weight *ℤ found.worth)
   part_fits =
-      let question : Question = case.question in
-      let is : found ≡ found_from 52 (reply_at question plan index) [] = told ∙ root_told tree plan index case below in
-      let here : pos weight *ℤ found.worth ≡ weighed_worth question plan index =
-      ap (λ (n : ℕ). pos n *ℤ found.worth) weighs
-      ∙ ap (λ (f : NodeReplyView). pos (layout_at question index).1 *ℤ f.worth) is in
-      let before = sum_bounds question plan index case.valid case.proper (omega (arith, below)) in
-      let after = sum_bounds question plan (index + 1) case.valid case.proper (omega (arith, below)) in
-      let adds : sum_of (map (weighed_worth question plan) (range_with_len 0 (index + 1)))
-      ≡ sum_of (map (weighed_worth question plan) (range_with_len 0 index)) +ℤ weighed_worth question plan index =
-      ap sum_of (map-range_with_len_more (weighed_worth question plan) 0 index index (omega arith))
-      ∙ sum_push (map (weighed_worth question plan) (range_with_len 0 index)) (weighed_worth question plan index) in
-      let positive : pos 0 ≤ℤ weighed_worth question plan index =
-      (weighed_paid question plan index case.valid case.proper below).some in
-      subst (FitsSigned w128) (sym here)
-      (fits_from (weighed_worth question plan index) positive
-      (added (sum_of (map (weighed_worth question plan) (range_with_len 0 index))) (weighed_worth question plan index)
-      (sum_of (map (weighed_worth question plan) (range_with_len 0 (index + 1)))) (pos (13 * (10400600 * 2 ^ 90))) adds
-      before.0 after.1))
-    where
-      added : (a b c d : ℤ) → c ≡ a +ℤ b → pos 0 ≤ℤ a → c ≤ℤ d → b ≤ℤ d
-      added a b c d is p q = omega (arith, ints, is)
+      replies_fit case.question plan case.valid case.proper index 1 (pos weight *ℤ found.worth)
+      (map (named_at index) found.choices) (omega (arith, below)) reply_here
 
-  -- so the sum does with one class layout more
-  pub next_fits : (number : ℤ) (moves : List DefenceMove) → IsSoFar case.question plan index number moves
+  -- so does the sum with one class layout more
+  pub next_fits : (start : ℕ) (number : ℤ) (moves : List DefenceMove) → start ≤ index
+      → IsReplyIn case.question plan start (index - start) number moves
       → FitsSigned w128 (number +ℤ pos weight *ℤ found.worth)
-  next_fits number moves so_far =
-      sum_fits case.question plan (index + 1) (number +ℤ pos weight *ℤ found.worth)
-      (moves ++ map (named_at index) found.choices) case.valid case.proper (omega (arith, below))
-      (one_more number (number +ℤ pos weight *ℤ found.worth) moves (moves ++ map (named_at index) found.choices) refl
-      refl so_far)
+  next_fits start number moves from so_far =
+      let all : start + (index + 1 - start) ≤ length (layouts_of case.question) = omega (arith, below, from) in
+      replies_fit case.question plan case.valid case.proper start (index + 1 - start)
+      (number +ℤ pos weight *ℤ found.worth) (moves ++ map (named_at index) found.choices) all
+      (one_more start number (number +ℤ pos weight *ℤ found.worth) moves (moves ++ map (named_at index) found.choices)
+      from refl refl so_far)

@@ -1,4 +1,5 @@
 pub mod NodesAt
+pub mod ChunkReplies
 pub mod HeldMoves
 pub mod LeastBounds
 pub mod LeastByNodes

@@ -33,7 +33,8 @@ use Rattle.suit_tree.specs.declared.tree.Tree.{Tree}
 use Rattle.suit_tree.specs.Trees.{IsTreeAt, layout_indices}
 use Rattle.suit_tree.proofs.GrownTrees.{allowing_first}
 use Rattle.suit_reply.specs.AgainstDefence.{IsDefenceFor, LayoutMasses, MostNode, is_live, node_most}
-use Rattle.suit_reply.proofs.MostByNodes.AllowingLayouts.{layout_at, mass_at}
+use Rattle.suit_reply.specs.LayoutsReplies.{layout_at}
+use Rattle.suit_reply.proofs.MostByNodes.AllowingLayouts.{mass_at}
 use Rattle.suit_reply.proofs.MostRoots.FirstMasses.{mass_first, most_first, index_weighs, sum_first}
 use Rattle.suit_reply.proofs.MostByNodes.LiveMasses.{held_at}
 use Rattle.suit_reply.proofs.MostBounds.{mass_sum}

@@ -10,6 +10,12 @@ use Rattle.suit_plans.specs.Properness.{sum_of}
 pub le_through : (a b c : ℤ) → a ≤ℤ b → b ≤ℤ c → a ≤ℤ c
 le_through a b c p q = omega (arith, ints)
 
+-- the sum of two lists of numbers
+pub sum_append : (numbers others : List ℤ) → sum_of (numbers ++ others) ≡ sum_of numbers +ℤ sum_of others
+unfolding sum_of
+sum_append [] others = omega (arith, ints)
+sum_append (first ∷ numbers) others = let later = sum_append numbers others in omega (arith, ints, later)
+
 -- a number more is added to the sum
 pub sum_push : (numbers : List ℤ) (number : ℤ) → sum_of (numbers ++ number ∷ []) ≡ sum_of numbers +ℤ number
 unfolding sum_of

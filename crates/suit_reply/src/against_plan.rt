@@ -1,11 +1,13 @@
 //! The defence's best reply to a plan.
-ghost use Rattle.std.specs.Prelude.{◌≡◌, ◌-◌, ◌++◌, IfOk, OnOk, length, map};
+ghost use Rattle.std.specs.Prelude.{◌≡◌, ◌+◌, ◌-◌, ◌≤◌, ◌++◌, IfOk, OnOk, length, map};
 ghost use Rattle.suit_plans.specs.BestReplies.{least, least_reply};
 ghost use Rattle.suit_plans.specs.Orders.{InOrder, plan_row_before};
 ghost use Rattle.suit_tree.specs.Nodes.{children_of, turn_at};
 ghost use Rattle.suit_reply.specs.AgainstPlan.{IsPlanFor, LeastNode, goes_to, node_least, plan_share};
+ghost use Rattle.suit_reply.specs.LayoutsReplies.{IsReplyIn};
 
 use super::chosen_move::ChosenMove;
+use super::layouts_reply::LayoutsReply;
 use super::node_moves::{holds, is_first_of, move_of};
 use super::node_reply::NodeReply;
 use super::turn_rule::TurnRule;
@@ -35,6 +37,23 @@ pub fn least(alloc: Global, tree: &Tree, plan: &Plan) -> Result<(i128, DefenceRe
     ensures reply { IfOk result
         (λ answer. (case : IsPlanFor tree.now plan.now) → answer.1 ≡ least_reply case.question plan.now) }
 {
+    let reply = least_from(alloc, tree, plan, 0, tree.layouts().len())?;
+    Ok((reply.number, DefenceMoves::of(reply.moves)))
+}
+
+/// The best reply to a plan in so many class layouts from an index on.
+pub(crate) fn least_from(
+    alloc: Global,
+    tree: &Tree,
+    plan: &Plan,
+    start: usize,
+    count: usize,
+) -> Result<LayoutsReply, AllocError>
+    requires asked { IsPlanFor tree.now plan.now }
+    requires within { start + count ≤ length tree.now.layouts.items }
+    ensures { IfOk result (λ reply. (case : IsPlanFor tree.now plan.now)
+        → IsReplyIn case.question plan.now start count reply.number reply.moves.items) }
+{
     let replying = AgainstPlan {
         alloc,
         rows: plan.rows.items(),
@@ -42,12 +61,12 @@ pub fn least(alloc: Global, tree: &Tree, plan: &Plan) -> Result<(i128, DefenceRe
     let layouts = tree.layouts();
     let mut number = 0;
     let mut moves = Vec::new(alloc);
-    for index in 0..layouts.len() {
+    for index in start..start + count {
         let reply = replying.below(tree.root(), index as u8, &mut Vec::new(alloc), plan.den)?;
         number += layouts[index].1 as i128 * reply.worth;
         add_choices(&mut moves, index as u8, reply.choices)?;
     }
-    Ok((number, DefenceMoves::of(moves)))
+    Ok(LayoutsReply { number, moves })
 }
 
 // Adds the choices in a class layout to those in the layouts before it.

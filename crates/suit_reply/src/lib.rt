@@ -4,8 +4,10 @@
 mod against_defence;
 mod against_plan;
 mod chosen_move;
+mod layouts_reply;
 mod node_moves;
 mod node_reply;
+mod on_threads;
 #[cfg(test)]
 mod tests;
 mod turn_rule;
@@ -13,5 +15,6 @@ mod turn_so_far;
 
 pub use against_defence::most;
 pub use against_plan::least;
+pub use on_threads::least_on;
 pub use suit_layouts::Memory;
 pub use suit_plans::{DeclarerMoves as DeclarerReply, DefenceMoves as DefenceReply};

@@ -3,10 +3,12 @@ use super::*;
 use arrayvec::ArrayVec;
 use bumpalo::Bump;
 use std::alloc::Global;
+use std::sync::atomic::{AtomicU64, Ordering};
 use std::test::Fail;
+use std::thread::Threads;
 use suit_cards::{Holding, Seat};
 use suit_classes::{ClassMove, History};
-use suit_game::{Entries, Goal, LeadAt, Question};
+use suit_game::{Entries, Gate, Goal, LeadAt, OpenGate, Question};
 use suit_layouts::ClassLayout;
 use suit_plans::{
     Counts, Defence, DefenceRow, DefenceRows, Plan, Row, Rows, proper_defence, proper_plan,
@@ -118,13 +120,25 @@ fn defence(alloc: Global, den: i128, lines: Lines) -> Result<Defence, Fail> {
     })
 }
 
-// The least that a plan earns, and the reply.
-fn least_of(
+// A gate that counts who enters it.
+#[derive(Drop)]
+struct Counting(AtomicU64);
+
+impl Gate for Counting {
+    fn enter(&self) {
+        self.0.fetch_add(1, Ordering::SeqCst);
+    }
+}
+
+// The least that a plan earns, with the reply, and the same found on several threads, which enter a gate.
+fn least_of<R: Threads + Sync, G: Gate + Sync>(
+    rt: &R,
+    gate: &G,
     alloc: Global,
     question: &Question,
     den: i128,
     lines: Lines,
-) -> Result<(i128, DefenceReply), Fail> {
+) -> Result<[(i128, DefenceReply); 2], Fail> {
     if !question.is_valid() {
         return Err(Fail::from("not valid"));
     }
@@ -134,7 +148,10 @@ fn least_of(
     if proper_plan(question, &plan).is_err() {
         return Err(Fail::from("not proper"));
     }
-    Ok(least(alloc, &tree, &plan)?)
+    Ok([
+        least(alloc, &tree, &plan)?,
+        least_on(rt, gate, alloc, &tree, &plan)?,
+    ])
 }
 
 // The most that a defence lets declarer earn, and the reply.
@@ -246,14 +263,41 @@ fn replies_to_plans(rt: HostRuntime) -> Result<(), Fail> {
         (tricks, (5, FIVE_PARTS, 67_622_464, 43, &["0 / S4 - 2 : 1"])),
     ];
     for (question, (den, rows, number, many, first)) in cases {
-        let (found, reply) = least_of(alloc, &question, den, rows)?;
-        assert_eq!(rt; found, number);
-        assert_eq!(rt; reply.items().len(), many);
-        for (choice, line) in reply.items().iter().zip(first) {
-            let (place, line) = line.split_once('/').ok_or("no place")?;
-            assert_eq!(rt; choice.layout, place.trim().parse::<u8>()?);
-            assert!(rt; is_told(alloc, line, choice.history.items(), choice.mv)?);
+        for (found, reply) in least_of(&rt, &OpenGate, alloc, &question, den, rows)? {
+            assert_eq!(rt; found, number);
+            assert_eq!(rt; reply.items().len(), many);
+            for (choice, line) in reply.items().iter().zip(first) {
+                let (place, line) = line.split_once('/').ok_or("no place")?;
+                assert_eq!(rt; choice.layout, place.trim().parse::<u8>()?);
+                assert!(rt; is_told(alloc, line, choice.history.items(), choice.mv)?);
+            }
         }
+    }
+    Ok(())
+}
+
+// The class layouts are shared out among four threads at most, and each of them enters the gate once.
+#[test]
+fn threads_enter_the_gate(rt: HostRuntime) -> Result<(), Fail> {
+    let alloc = rt.alloc();
+    let none = Holding::read(b"-").ok().ok_or("-")?;
+    let eleven = Holding::read(b"AJT98765432").ok().ok_or("eleven cards")?;
+    let cases: [(Question, i128, u64); 4] = [
+        (
+            Question::plain(eleven, none, Goal::AtLeast(11)),
+            5_408_312,
+            3,
+        ),
+        (led("AQJT987654", "3", Goal::AtLeast(10))?, 5_408_312, 4),
+        (led("A9876", "5432", Goal::AtLeast(0))?, 10_400_600, 3),
+        (led("AQ", "32", Goal::AtLeast(2))?, 12_376, 4),
+    ];
+    for (question, number, chunks) in cases {
+        let gate = Counting(AtomicU64::new(0));
+        for (found, _) in least_of(&rt, &gate, alloc, &question, 1, &[])? {
+            assert_eq!(rt; found, number);
+        }
+        assert_eq!(rt; gate.0.load(Ordering::SeqCst), chunks);
     }
     Ok(())
 }

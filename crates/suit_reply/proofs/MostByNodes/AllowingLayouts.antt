@@ -22,6 +22,7 @@ use Rattle.suit_plans.specs.Masses.{defence_mass}
 use Rattle.suit_plans.specs.Properness.{some_allows, sum_of}
 use Rattle.suit_plans.specs.declared.defence.Defence.{Defence}
 use Rattle.suit_tree.specs.Trees.{allowing, layout_indices, moves_on}
+use Rattle.suit_reply.specs.LayoutsReplies.{layout_at}
 use Rattle.suit_reply.proofs.HeldMoves.{layout_counts, layouts_of}
 
 -- ---- lists
@@ -64,10 +65,6 @@ layouts_few question =
     let hands = hands_of question in
     class_layouts_few question (defence_sizes hands)
     (record { some = defence_sizes-some hands; filled = sum-defence_sizes hands; few = length-defence_sizes hands })
-
--- the class layout at an index, with its weight
-abbrev pub layout_at : Question → ℕ → Counts × ℕ
-layout_at question index = get_or (layouts_of question) index ([], 0)
 
 -- the class layouts that allow a class history stand at the indices that allow it
 pub allowing_at : (question : Question) (history : ClassHistory)

@@ -20,7 +20,8 @@ use Rattle.suit_plans.proofs.ProperDefences.{defences_are_realised}
 use Rattle.suit_tree.specs.Trees.{layout_indices}
 use Rattle.suit_tree.proofs.CountedNodes.{kept_layouts}
 use Rattle.suit_tree.proofs.GrownTrees.{allowing_first}
-use Rattle.suit_reply.proofs.MostByNodes.AllowingLayouts.{by_indices, layout_at, mass_at}
+use Rattle.suit_reply.specs.LayoutsReplies.{layout_at}
+use Rattle.suit_reply.proofs.MostByNodes.AllowingLayouts.{by_indices, mass_at}
 use Rattle.suit_reply.proofs.MostBounds.{mass_sum, sum_all}
 use Rattle.suit_reply.proofs.MostByNodes.Cases.{MostCase}
 use Rattle.suit_reply.proofs.HeldMoves.{layout_counts, layouts_of}

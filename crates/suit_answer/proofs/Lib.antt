@@ -1,0 +1,5 @@
+pub mod Cuts
+pub mod Fronts
+pub mod Lowest
+pub mod Numerals
+pub mod RowLoops

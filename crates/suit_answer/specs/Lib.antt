@@ -1,0 +1,9 @@
+pub mod Forms
+pub mod Fractions
+pub mod Letters
+pub mod Lines
+pub mod LowestTerms
+pub mod Numbers
+pub mod Reading
+pub mod Results
+pub mod Rows

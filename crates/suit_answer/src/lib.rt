@@ -1,0 +1,22 @@
+//! The answer text: a value with the plan and the defence that show it, written and read again to the byte.
+#![tactic(auto)]
+
+mod answer;
+mod faults;
+mod forms;
+mod letters;
+mod lines;
+mod numbers;
+mod parts;
+mod reading;
+mod rows;
+mod sharing;
+mod values;
+
+pub use answer::Answer;
+pub use faults::AnswerFault;
+pub use letters::ClassLetters;
+pub use reading::{MOST_TEXT, read_answer};
+
+/// Memory ran out.
+pub type Memory = std::alloc::AllocError;

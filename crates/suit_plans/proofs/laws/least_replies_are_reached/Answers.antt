@@ -1,0 +1,5 @@
+use Rattle.suit_plans.proofs.ReplyBeginnings.{least_reached}
+use Rattle.suit_plans.proofs.laws.least_replies_are_reached.Goals as goal
+
+pub returns : goal.returns
+returns c = least_reached
