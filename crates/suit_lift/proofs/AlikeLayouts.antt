@@ -5,6 +5,7 @@ use Rattle.std.proofs.Common.{map, refl, sym, ap, ◌∙◌, inl, inr, arith}
 use Rattle.std.specs.Prelude.{Contains, bytes_eq, ◌&&◌, ◌||◌, ◌-◌, if◌then◌else◌}
 use Rattle.std.specs.List.{AllByRecursion, filter, sum_by}
 use Rattle.std.proofs.lemmas.Bool.{cases_eq, eq-eqb, ne_eqb, false≢true}
+use Rattle.std.proofs.lemmas.List.Elements.{All-contains, filter_passes}
 use Rattle.std.proofs.lemmas.List.Sums.{sum_by-cons}
 use Rattle.std.proofs.lemmas.Slice.Eq.{bytes_eq-Decides}
 use Rattle.suit_cards.specs.Cards.{Cards}
@@ -17,7 +18,7 @@ use Rattle.suit_game.specs.Gains.{is_declarer}
 use Rattle.suit_game.specs.Layouts.{choices_of, is_west_length, layouts}
 use Rattle.suit_game.specs.Positions.{dealt, without}
 use Rattle.suit_game.specs.Question.{missing}
-use Rattle.suit_game.proofs.EachElement.{each_at, each_in, kept_parts, map_same}
+use Rattle.suit_game.proofs.EachElement.{each_at, each_contained, each_filter, each_in, map_same}
 use Rattle.suit_game.proofs.HeldCards.{each_held, holds-from_without, holds-without, without_away}
 use Rattle.suit_game.proofs.LayoutCards.{IsPart, choices_of-parts}
 use Rattle.suit_game.proofs.ListSums.{length_filter, sum_by_alike, sum_by_filter}
@@ -39,12 +40,20 @@ is_alike question west gone other =
 unfoldable pub alike_layouts : Question → Cards → Cards → List Cards
 alike_layouts question west gone = filter (is_alike question west gone) (layouts question)
 
+-- what a filter keeps was there, and passes
+pub from_filter : {X : Type 0} (test : X → Bool) (xs : List X) (x : X) → Contains (filter test xs) x
+    → Contains xs x × (test x ≡ true)
+from_filter test xs x found = (
+  each_at (Contains xs) (filter test xs) x (each_filter (Contains xs) test xs (each_contained xs)) found,
+  All-contains (λ y. test y ≡ true) (filter test xs) x (filter_passes test xs) found,
+)
+
 -- a layout is a choice of the missing cards of a length that West may have
 pub layout_choice : (question : Question) (west : Cards) → Contains (layouts question) west
     → Contains (choices_of (missing question)) west × (is_west_length question (length west) ≡ true)
 unfolding layouts
 layout_choice question west found =
-    kept_parts (λ other. is_west_length question (length other)) (choices_of (missing question)) west found
+    from_filter (λ other. is_west_length question (length other)) (choices_of (missing question)) west found
 
 missing_falls : (question : Question) → FallsBelow 15 (missing question)
 missing_falls question = IsHolding-others_of question.north question.south

@@ -24,7 +24,7 @@ use Rattle.suit_game.specs.Positions.{after, legal, payoff}
 use Rattle.suit_game.specs.Strategies.{Way, Weighed, chosen, counted}
 use Rattle.suit_game.specs.Validity.{IsValid}
 use Rattle.suit_game.proofs.ChosenMoves.{chosen_from, chosen-weight}
-use Rattle.suit_game.proofs.EachElement.{Contains-filter, Contains-first, Contains-map, each_in, each_of, kept_parts}
+use Rattle.suit_game.proofs.EachElement.{Contains-filter, Contains-first, Contains-map, each_in, each_of}
 use Rattle.suit_game.proofs.EnoughMoves.{ended_with_no_room, pay_where_on, room_after_move}
 use Rattle.suit_game.proofs.ListSums.{sum_by-mul, sum_by_same}
 use Rattle.suit_game.proofs.PayDenominators.{pay-den}
@@ -47,7 +47,7 @@ use Rattle.suit_plans.proofs.MassSteps.{mass_kept}
 use Rattle.suit_classes.proofs.UndecidedMoves.{HasFirst}
 use Rattle.suit_lift.specs.Lifts.{common, defence_way}
 use Rattle.suit_lift.specs.Naming.{is_one_of, unplayed}
-use Rattle.suit_lift.proofs.AlikeLayouts.{alike_layouts}
+use Rattle.suit_lift.proofs.AlikeLayouts.{alike_layouts, from_filter}
 use Rattle.suit_lift.proofs.CardMoves.{every_card_move, legal_listed, their_left, unplayed_fits}
 use Rattle.suit_lift.proofs.DecidedPays.{decided_pay}
 use Rattle.suit_lift.proofs.DefenceSteps.{weight_step, weights_some}
@@ -595,7 +595,7 @@ module _ (question : Question) (declarer : Way) (defence : Defence) (valid : IsV
       live_before : (west : Cards) (move : Move) → Contains (live_layouts question (history ++ move ∷ [])) west
           → Contains (live_layouts question history) west × Contains (legal question west history) move
       live_before west move found =
-          let from = kept_parts (λ other. is_one_of (legal question other history) move)
+          let from = from_filter (λ other. is_one_of (legal question other history) move)
           (live_layouts question history) west
           (subst (λ (l : List Cards). Contains l west) (sym (live_later question history move)) found) in
           (from.0, one_of_tells (legal question west history) move from.1)

@@ -31,3 +31,4 @@ pub mod NoneCounted
 pub mod SameCards
 pub mod CallShares
 pub mod FullLists
+pub mod ListedLayouts

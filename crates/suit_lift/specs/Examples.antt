@@ -56,14 +56,15 @@ unfoldable pub three_gaps : Question
 three_gaps =
     record (plain (14 ∷ 10 ∷ 9 ∷ []) (6 ∷ 5 ∷ []) Tricks) { start = leads.S; entries_n = Count 1; entries_s = Count 1 }
 
--- West holds the king, the queen, the eight and the seven; his row gives the upper class 2 and the lower 3
+-- West holds the king, the queen, the eight and the seven, counts of weight 145,860; his row gives the upper class two
+-- fifths of that and the lower the rest
 unfoldable pub upper_or_lower : Defence
 upper_or_lower = record {
   den = pos 1;
   rows = record {
     west = 2 ∷ 2 ∷ 0 ∷ [];
     history = classes.Lead S 4 ∷ [];
-    counts = (classes.Follow 1, pos 2) ∷ (classes.Follow 3, pos 3) ∷ [];
+    counts = (classes.Follow 1, pos 58344) ∷ (classes.Follow 3, pos 87516) ∷ [];
   } ∷ [];
 }
 
@@ -72,32 +73,37 @@ abbrev pub TwoClassesOfTwo : Type 0
 TwoClassesOfTwo =
     map (defence_share three_gaps upper_or_lower (13 ∷ 12 ∷ 8 ∷ 7 ∷ []) (Lead S 6 ∷ [])) (legal three_gaps
     (13 ∷ 12 ∷ 8 ∷ 7 ∷ []) (Lead S 6 ∷ []))
-    ≡ record { mv = Follow 13; count = pos 2; among = 2 }
-    ∷ record { mv = Follow 12; count = pos 2; among = 2 }
-    ∷ record { mv = Follow 8; count = pos 3; among = 2 }
-    ∷ record { mv = Follow 7; count = pos 3; among = 2 }
+    ≡ record { mv = Follow 13; count = pos 58344; among = 2 }
+    ∷ record { mv = Follow 12; count = pos 58344; among = 2 }
+    ∷ record { mv = Follow 8; count = pos 87516; among = 2 }
+    ∷ record { mv = Follow 7; count = pos 87516; among = 2 }
     ∷ []
 
--- the same with counts of 0
+-- West plays an upper card always, so that no mass is left where he has played the eight, and the row there shares out
+-- nothing
 unfoldable pub nothing_named : Defence
 nothing_named = record {
   den = pos 1;
   rows = record {
     west = 2 ∷ 2 ∷ 0 ∷ [];
     history = classes.Lead S 4 ∷ [];
-    counts = (classes.Follow 3, pos 0) ∷ [];
+    counts = (classes.Follow 1, pos 145860) ∷ [];
+  } ∷ record {
+    west = 2 ∷ 2 ∷ 0 ∷ [];
+    history = classes.Lead S 4 ∷ classes.Follow 3 ∷ classes.Follow 0 ∷ [];
+    counts = (classes.Follow 5, pos 0) ∷ [];
   } ∷ [];
 }
 
--- the first class counts 1
+-- East's first class, the jack, counts 1 there
 abbrev pub AllCountsZero : Type 0
 AllCountsZero =
-    map (defence_share three_gaps nothing_named (13 ∷ 12 ∷ 8 ∷ 7 ∷ []) (Lead S 6 ∷ [])) (legal three_gaps
-    (13 ∷ 12 ∷ 8 ∷ 7 ∷ []) (Lead S 6 ∷ []))
-    ≡ record { mv = Follow 13; count = pos 1; among = 2 }
-    ∷ record { mv = Follow 12; count = pos 1; among = 2 }
-    ∷ record { mv = Follow 8; count = pos 0; among = 2 }
-    ∷ record { mv = Follow 7; count = pos 0; among = 2 }
+    map (defence_share three_gaps nothing_named (13 ∷ 12 ∷ 8 ∷ 7 ∷ []) (Lead S 6 ∷ Follow 8 ∷ Follow 14 ∷ []))
+    (legal three_gaps (13 ∷ 12 ∷ 8 ∷ 7 ∷ []) (Lead S 6 ∷ Follow 8 ∷ Follow 14 ∷ []))
+    ≡ record { mv = Follow 11; count = pos 1; among = 1 }
+    ∷ record { mv = Follow 4; count = pos 0; among = 3 }
+    ∷ record { mv = Follow 3; count = pos 0; among = 3 }
+    ∷ record { mv = Follow 2; count = pos 0; among = 3 }
     ∷ []
 
 -- West, who has none, shows out, and that is a class move of its own

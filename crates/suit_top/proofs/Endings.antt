@@ -1,7 +1,7 @@
 -- `run_replies`: how a run ends that made a reply.
 use Rattle.std.proofs.Common.{◌≡◌, ℕ, ◌+◌, ◌≤◌, ◌++◌, append-nil, arith, List, [], Result, Ok, Err, Option, None, Some}
 use Rattle.std.proofs.Common.{Bool, true, false, nat_lt, length, refl, sym, ap, ◌∙◌, subst, ◌⊎◌, inl, inr, ◌<◌, IsNone}
-use Rattle.std.specs.Prelude.{if◌then◌else◌, IfSome}
+use Rattle.std.specs.Prelude.{if◌then◌else◌, IfSome, IsTrue}
 use Rattle.std.proofs.lemmas.Bool.{le-ltb, lt-ltb, cases_Bool}
 use Rattle.std.specs.Io.KnownBytes.{Consumes, IsAtEnd}
 use Rattle.suit_ports.specs.declared.transfer.ReadEnd.{ReadEnd}
@@ -61,10 +61,6 @@ never_usage command input usage =
 long_is_not_done : (s : Status) → s ≡ Long → s ≡ Done → ⊥
 long_is_not_done s long done = cc
 
-reads_all : (command : Command) → reads_input command ≡ true
-reads_all Solve = refl
-reads_all Weigh = refl
-
 none_named : (words : List Text) (command : Command) → command_of words ≡ Some command → IsNone (command_of words) → ⊥
 none_named words command named none = let other = subst IsNone named none in cc
 
@@ -91,7 +87,7 @@ run_replies words command before after reply status named made (inl delivered) r
   ending = inl (record {
     input = made.input;
     text = (text_bytes reply.text);
-    is_input = is_input words command before made.input named (reads_all command) made.is_input;
+    is_input = is_input words command before made.input named made.reads made.is_input;
     owed = subst (λ (s : Status). Owes words made.input s (text_bytes reply.text)) (sym delivered.is_status)
         (owed words command before.left after.left reply named made);
     written = delivered.whole;
@@ -114,7 +110,7 @@ run_replies words command before after reply status named made (inr stopped) roo
     text = (text_bytes reply.text);
     owed_status = reply.status;
     sent = stopped.0.sent;
-    is_input = is_input words command before made.input named (reads_all command) made.is_input;
+    is_input = is_input words command before made.input named made.reads made.is_input;
     owed = owed words command before.left after.left reply named made;
     not_whole = stopped.0.not_whole;
     written = stopped.0.front;
@@ -142,13 +138,14 @@ none_left (Some bytes) (Some rest) taken consumed at_end = ap Some at_end
 
 -- a reading to the end, within the limit, makes the reply to what was read
 pub short_replies : (command : Command) (before after : Option Text) (reply : Reply) (input taken : Text)
-    → input ≡ taken → length taken ≤ limit_of command → Consumes before after taken → IsAtEnd after
+    → IsTrue (reads_input command) → input ≡ taken → length taken ≤ limit_of command → Consumes before after taken → IsAtEnd after
     → reply.status ≡ (due_within command input).status → text_bytes reply.text ≡ (due_within command input).text
     → (reply.status ≡ Done → Says (Some command) input (text_bytes reply.text)) → IsReply command before after reply
-short_replies command before after reply input taken is_taken fits consumed at_end status text says =
+short_replies command before after reply input taken reads is_taken fits consumed at_end status text says =
     let within : nat_lt (limit_of command) (length input) ≡ false =
     le-ltb (limit_of command) (length input) (omega (arith, ap length is_taken)) in
     record {
+      reads = reads;
       input = input;
       is_input =
           subst (λ (l : Text). IfSome before (λ bytes. l ≡ bytes)) (sym is_taken)
@@ -163,14 +160,15 @@ short_replies command before after reply input taken is_taken fits consumed at_e
 -- a reading that took one byte more than the limit makes the reply Long
 pub long_replies : (A : Type 0) (command : Command) (before after : Option Text) (reply : Reply) (end : ReadEnd)
     (limit : ℕ) (taken : Text)
-    → end ≡ Reading.Long → limit ≡ limit_of command → reply.status ≡ Long → (text_bytes reply.text) ≡ []
+    → IsTrue (reads_input command) → end ≡ Reading.Long → limit ≡ limit_of command → reply.status ≡ Long → (text_bytes reply.text) ≡ []
     → Took {A = A} limit (Err end) taken → Consumes before after taken → IsReply command before after reply
-long_replies A command before after reply end limit taken is_long is_limit status text took consumed =
+long_replies A command before after reply end limit taken reads is_long is_limit status text took consumed =
     let one_more : length taken ≡ limit_of command + 1 =
     subst (λ (e : ReadEnd). Took {A = A} limit (Err e) taken) is_long took ∙ ap (λ (n : ℕ). n + 1) is_limit in
     let given = long_input before after taken (limit_of command) consumed one_more in
     let past : nat_lt (limit_of command) (length given.0) ≡ true = lt-ltb (limit_of command) (length given.0) given.2 in
     record {
+      reads = reads;
       input = given.0;
       is_input = given.1;
       status_due =

@@ -1,17 +1,18 @@
 -- What a command makes of its input, and what becomes of it.
-use Rattle.std.specs.Prelude.{◌≡◌, ◌<◌, ◌≤◌, ℕ, Option, Some, [], IfSome, length, take}
+use Rattle.std.specs.Prelude.{◌≡◌, ◌<◌, ◌≤◌, ℕ, Option, Some, [], IfSome, IsTrue, length, take}
 use Rattle.std.specs.Io.KnownBytes.{Appends, Consumes}
 use Rattle.suit_cards.specs.Cards.{Text}
 use Rattle.suit_top.specs.declared.commands.Command.{Command}
 use Rattle.suit_top.specs.declared.reply.Reply.{Reply}
 use Rattle.suit_top.specs.declared.status.Status.{Status}
 use Rattle.suit_top.specs.declared.status.Status.TheVariants.{Done, WriteFault}
-use Rattle.suit_top.specs.Commands.{limit_of, Says}
+use Rattle.suit_top.specs.Commands.{limit_of, reads_input, Says}
 use Rattle.suit_top.specs.Owing.{due_for}
 use Rattle.suit_top.specs.Texts.{text_bytes}
 
--- a reply to a command, from what its source had left, where it tells that, to what it has left
+-- a reply to a command that reads its input, from what its source had left, where it tells that, to what it has left
 pub record IsReply (command : Command) (before after : Option Text) (reply : Reply) : Type 0 where
+  pub reads : IsTrue (reads_input command)
   pub input : Text
   pub is_input : IfSome before (λ bytes. input ≡ bytes)
   pub status_due : reply.status ≡ (due_for (Some command) input).status
@@ -22,6 +23,7 @@ pub record IsReply (command : Command) (before after : Option Text) (reply : Rep
 
 -- a source failed before it had given more than the command takes
 pub record Failed (command : Command) (before after : Option Text) : Type 0 where
+  pub reads : IsTrue (reads_input command)
   pub taken : Text
   pub took : Consumes before after taken
   pub within : length taken ≤ limit_of command

@@ -8,7 +8,8 @@ ghost use Rattle.suit_top.specs.Words.{is_only};
 use crate::reply::Reply;
 use crate::status::Status;
 use std::alloc::{AllocError, Global};
-use suit_game::Question;
+use std::thread::Threads;
+use suit_game::{Gate, Question};
 use suit_question::read_question;
 
 mod solve;
@@ -51,7 +52,13 @@ impl Command {
     }
 
     /// The reply to an input that is not too long: to the question that it asks, or to the first fault of its text.
-    pub fn reply(self, alloc: Global, input: &[u8]) -> Result<Reply, AllocError>
+    pub fn reply<R: Threads + Sync, G: Gate + Sync>(
+        self,
+        rt: &R,
+        gate: &G,
+        alloc: Global,
+        input: &[u8],
+    ) -> Result<Reply, AllocError>
         requires { length input.now ≤ limit_of self }
         ensures status { IfOk result (λ reply. reply.status ≡ (due_within self input.now).status) }
         ensures text { IfOk result (λ reply. text_bytes reply.text ≡ (due_within self input.now).text) }
@@ -59,13 +66,19 @@ impl Command {
             → Says (Some self) input.now (text_bytes reply.text)) }
     {
         match read_question(input) {
-            Ok(question) => self.reply_about(alloc, &question),
+            Ok(question) => self.reply_about(rt, gate, alloc, &question),
             Err(fault) => Ok(Reply::malformed(fault)),
         }
     }
 
     /// The reply to the question that the input asks.
-    fn reply_about(self, alloc: Global, question: &Question) -> Result<Reply, AllocError>
+    fn reply_about<R: Threads + Sync, G: Gate + Sync>(
+        self,
+        _rt: &R,
+        _gate: &G,
+        alloc: Global,
+        question: &Question,
+    ) -> Result<Reply, AllocError>
         requires { IsValid question.now }
         ensures status { IfOk result (λ reply. reply.status ≡ (due_about self question.now).status) }
         ensures text { IfOk result (λ reply. text_bytes reply.text ≡ (due_about self question.now).text) }

@@ -1,28 +1,102 @@
 //! The line that a refusal writes, which takes no memory.
-ghost use Rattle.std.specs.Prelude.{◌≡◌, ◌≤◌};
-ghost use Rattle.suit_top.specs.Refusals.{fault_number, malformed_line};
+ghost use Rattle.std.specs.Prelude.{◌≡◌, ◌+◌, ◌≤◌, length};
+ghost use Rattle.suit_top.specs.Refusals.{defence_line, fault_line, fault_number, fraction_line, least_line};
+ghost use Rattle.suit_top.specs.Refusals.{malformed_line, most_line, nodes_line, plan_fault_number, plan_line};
 
 use arrayvec::ArrayString;
 use itoa::Buffer;
+use suit_num::Frac;
+use suit_plans::{PlanFault, PlanKind};
 use suit_question::{QuestionFault, QuestionKind};
 
-/// A line of refusal.
-pub type Refusal = ArrayString<40>;
+/// A line of refusal. The longest tells two numbers of 39 digits.
+pub type Refusal = ArrayString<97>;
 
 /// The line that is written of a question text with a fault.
 pub fn malformed(fault: QuestionFault) -> Refusal
     ensures { result.bytes ≡ malformed_line fault }
 {
+    line_of_fault("malformed ", number_of(fault.kind), " at line ", fault.line)
+}
+
+/// The line that is written of an answer whose plan is not proper.
+pub fn wrong_plan(fault: PlanFault) -> Refusal
+    ensures { result.bytes ≡ plan_line fault }
+{
+    line_of_fault(
+        "not valid: plan ",
+        plan_number_of(fault.kind),
+        " at row ",
+        fault.row,
+    )
+}
+
+/// The line that is written of an answer whose defence is not proper.
+pub fn wrong_defence(fault: PlanFault) -> Refusal
+    ensures { result.bytes ≡ defence_line fault }
+{
+    line_of_fault(
+        "not valid: defence ",
+        plan_number_of(fault.kind),
+        " at row ",
+        fault.row,
+    )
+}
+
+/// The line that is written of an answer whose plan earns this fraction, which is not its value.
+pub fn other_least(found: Frac) -> Refusal
+    ensures { result.bytes ≡ least_line found }
+{
+    line_of_fraction("not valid: least ", found)
+}
+
+/// The line that is written of an answer whose defence lets declarer earn this fraction, which is not its value.
+pub fn other_most(found: Frac) -> Refusal
+    ensures { result.bytes ≡ most_line found }
+{
+    line_of_fraction("not valid: most ", found)
+}
+
+/// The line that is written where a tree has more nodes than this budget.
+pub fn past_nodes(budget: u32) -> Refusal
+    ensures { result.bytes ≡ nodes_line budget }
+{
     let mut text = Refusal::new();
-    text.push_str("malformed ");
-    text.push_str(Buffer::new().format(number_of(fault.kind)));
-    text.push_str(" at line ");
-    text.push_str(Buffer::new().format(fault.line));
+    text.push_str("nodes ");
+    text.push_str(Buffer::new().format(budget));
     text.push_str("\n");
     text
 }
 
-/// The number of a fault of a question text.
+// The line of a numbered fault: what has it, its number, and where it stands.
+fn line_of_fault(what: &str, number: u8, place: &str, at: u32) -> Refusal
+    requires { length what.now + length place.now ≤ 40 }
+    ensures { result.bytes ≡ fault_line what.now number place.now at }
+{
+    let mut text = Refusal::new();
+    text.push_str(what);
+    text.push_str(Buffer::new().format(number));
+    text.push_str(place);
+    text.push_str(Buffer::new().format(at));
+    text.push_str("\n");
+    text
+}
+
+// The line of a fraction that is not negative.
+fn line_of_fraction(what: &str, found: Frac) -> Refusal
+    requires { length what.now ≤ 17 }
+    ensures { result.bytes ≡ fraction_line what.now found }
+{
+    let mut text = Refusal::new();
+    text.push_str(what);
+    text.push_str(Buffer::new().format(found.num.unsigned_abs()));
+    text.push_str("/");
+    text.push_str(Buffer::new().format(found.den.unsigned_abs()));
+    text.push_str("\n");
+    text
+}
+
+// The number of a fault of a question text.
 fn number_of(kind: QuestionKind) -> u8
     ensures { result ≡ fault_number kind }
 {
@@ -39,5 +113,20 @@ fn number_of(kind: QuestionKind) -> u8
         QuestionKind::Vacant => 10,
         QuestionKind::NoLayout => 11,
         QuestionKind::Tail => 12,
+    }
+}
+
+// The number of a fault of a plan or a defence.
+fn plan_number_of(kind: PlanKind) -> u8
+    ensures { result ≡ plan_fault_number kind }
+{
+    match kind {
+        PlanKind::Den => 1,
+        PlanKind::History => 2,
+        PlanKind::Order => 3,
+        PlanKind::Illegal => 4,
+        PlanKind::Negative => 5,
+        PlanKind::Sum => 6,
+        PlanKind::Layout => 7,
     }
 }

@@ -1,6 +1,7 @@
 //! What a command makes of its input, whole, before the first byte is written.
-ghost use Rattle.std.specs.Prelude.{◌≡◌, [], IfOk, IsErrOf, string_bytes};
+ghost use Rattle.std.specs.Prelude.{◌≡◌, [], IfOk, IsErrOf, IsTrue, string_bytes};
 ghost use Rattle.suit_ports.specs.Counts.{Rose};
+ghost use Rattle.suit_top.specs.Commands.{reads_input};
 ghost use Rattle.suit_top.specs.Refusals.{malformed_line};
 ghost use Rattle.suit_top.specs.Replies.{Failed, IsReply};
 ghost use Rattle.suit_top.specs.Texts.{text_bytes};
@@ -9,6 +10,8 @@ use crate::commands::Command;
 use crate::refusal::{Refusal, malformed};
 use crate::status::Status;
 use std::alloc::{AllocError, Global};
+use std::thread::Threads;
+use suit_game::Gate;
 use suit_ports::{ReadEnd, Source, read_all};
 use suit_question::QuestionFault;
 
@@ -98,18 +101,21 @@ impl From<AllocError> for ReplyEnd {
     }
 }
 
-/// Reads the input of a command and makes the reply to it.
-pub fn reply_to<S: Source>(
+/// Reads the input of a command that reads one, and makes the reply to it.
+pub fn reply_to<R: Threads + Sync, G: Gate + Sync, S: Source>(
+    rt: &R,
+    gate: &G,
     alloc: Global,
     command: Command,
     source: &mut S,
 ) -> Result<Reply, ReplyEnd>
+    requires reads { IsTrue (reads_input command) }
     ensures reply { IfOk result (IsReply command (S.left source.old) (S.left source.new)) }
     ensures fault { IsErrOf result ReplyEnd.ReadFault
         → Rose (S.faults source.old) (S.faults source.new) × Failed command (S.left source.old) (S.left source.new) }
 {
     match read_all(alloc, source, command.limit()) {
-        Ok(input) => Ok(command.reply(alloc, &input)?),
+        Ok(input) => Ok(command.reply(rt, gate, alloc, &input)?),
         Err(ReadEnd::Long) => Ok(Reply::silent(Status::Long)),
         Err(ReadEnd::Fault) => Err(ReplyEnd::ReadFault),
         Err(ReadEnd::Memory) => Err(ReplyEnd::Memory),

@@ -7,10 +7,14 @@ ghost use Rattle.suit_top.specs.Statuses.{code_of};
 pub enum Status {
     /// All is well: the whole text is out, and nothing of the input is left.
     Done,
+    /// The answer text has a fault, or the answer is not valid for its question.
+    NotValid,
     /// The words form no command.
     Usage,
     /// The question text has a fault.
     Malformed,
+    /// The question's tree has more nodes than its budget.
+    Nodes,
     /// The source failed.
     ReadFault,
     /// The sink failed or took nothing, before the whole text was written.
@@ -30,8 +34,10 @@ impl Status {
     {
         match self {
             Status::Done => 0,
+            Status::NotValid => 1,
             Status::Usage => 2,
             Status::Malformed => 3,
+            Status::Nodes => 4,
             Status::ReadFault => 7,
             Status::WriteFault => 8,
             Status::Memory => 9,

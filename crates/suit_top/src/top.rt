@@ -20,8 +20,8 @@ use suit_ports::{Sink, Source, write_all_of};
 /// written. The status is the one that is due, but for `ReadFault`, `WriteFault` and `Memory`, which
 /// come only where a port failed or memory was wanting.
 pub fn run<R: Threads + Sync, G: Gate + Sync, S: Source, K: Sink>(
-    _rt: &R,
-    _gate: &G,
+    rt: &R,
+    gate: &G,
     alloc: Global,
     words: &[&str],
     source: &mut S,
@@ -53,7 +53,7 @@ pub fn run<R: Threads + Sync, G: Gate + Sync, S: Source, K: Sink>(
     let Some(command) = Command::of(words) else {
         return Status::Usage;
     };
-    match reply_to(alloc, command, source) {
+    match reply_to(rt, gate, alloc, command, source) {
         Ok(reply) => deliver(sink, &reply),
         Err(ReplyEnd::ReadFault) => Status::ReadFault,
         Err(ReplyEnd::Memory) => Status::Memory,

@@ -5,14 +5,14 @@ use Rattle.suit_top.proofs.reply.reply_to.Goals as goal
 pub returns-in-Err-Long-clause-reply : goal.returns-in-Err-Long-clause-reply
 returns-in-Err-Long-clause-reply g c =
     let taken = c.in-Err-Long.ensures.taken in
-    long_replies Global c.args.command _ _ c.silent.result _ _ taken.0 c.in-Err-Long.field-0-is c.limit.ensures
+    long_replies Global c.args.command _ _ c.silent.result _ _ taken.0 c.requires.reads c.in-Err-Long.field-0-is c.limit.ensures
     c.silent.ensures.status c.silent.ensures.text taken.1
     taken.2
 
 pub returns-in_ok-reply-in-Ok-clause-reply : goal.returns-in_ok-reply-in-Ok-clause-reply
 returns-in_ok-reply-in-Ok-clause-reply g c =
     let taken = c.in-Ok.ensures.taken in
-    short_replies c.args.command _ _ c.in_ok-reply-in-Ok.field-0 c.deref.result.now taken.0
+    short_replies c.args.command _ _ c.in_ok-reply-in-Ok.field-0 c.deref.result.now taken.0 c.requires.reads
     (c.deref.ensures.value ∙ taken.1.0)
     (omega (arith, taken.1.1, c.limit.ensures)) taken.2 c.in-Ok.ensures.whole
     c.in_ok-reply-in-Ok.ensures.status c.in_ok-reply-in-Ok.ensures.text c.in_ok-reply-in-Ok.ensures.says
