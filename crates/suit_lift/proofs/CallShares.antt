@@ -1,13 +1,13 @@
 -- The shares of a plan's row, and of a defence's, are those of the lift (`plan_shares`, `defence_shares`).
 use Rattle.std.proofs.Common.{◌≡◌, List, [], map, refl}
-use Rattle.suit_cards.specs.Cards.{Cards, Counts}
+use Rattle.suit_cards.specs.Cards.{Cards}
 use Rattle.suit_game.specs.declared.question.Question.{Question}
 use Rattle.suit_game.specs.declared.moves.Move.{Move}
 use Rattle.suit_game.specs.Histories.{History}
 use Rattle.suit_game.specs.Positions.{legal}
-use Rattle.suit_classes.specs.Classes.{Hands, hands_of}
+use Rattle.suit_classes.specs.Classes.{hands_of}
 use Rattle.suit_classes.specs.ClassGame.{counts_of}
-use Rattle.suit_classes.specs.ClassMoves.{ClassHistory, merged}
+use Rattle.suit_classes.specs.ClassMoves.{merged}
 use Rattle.suit_plans.specs.declared.plan.Plan.{Plan}
 use Rattle.suit_plans.specs.declared.defence.Defence.{Defence}
 use Rattle.suit_plans.specs.Masses.{defence_shares_at, plan_shares_at}

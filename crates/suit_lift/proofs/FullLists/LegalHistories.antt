@@ -1,5 +1,5 @@
 -- The list of all histories that go on legally from one (legal_histories): it has them all, and no others.
-use Rattle.std.proofs.Common.{◌≡◌, ℕ, zero, suc, ◌≤◌, List, [], ◌∷◌, ◌++◌, length, refl, sym, subst, arith}
+use Rattle.std.proofs.Common.{ℕ, zero, suc, ◌≤◌, List, [], ◌∷◌, ◌++◌, length, sym, subst, arith}
 use Rattle.std.proofs.Common.{append-nil, append_assoc}
 use Rattle.std.specs.Prelude.{Contains}
 use Rattle.std.specs.List.{AllByRecursion, flat_map}
@@ -7,11 +7,10 @@ use Rattle.suit_cards.specs.Cards.{Cards}
 use Rattle.suit_game.specs.declared.question.Question.{Question}
 use Rattle.suit_game.specs.declared.moves.Move.{Move}
 use Rattle.suit_game.specs.Histories.{History}
-use Rattle.suit_game.specs.PlaceViews.{IsPlay}
-use Rattle.suit_game.specs.Positions.{IsLegal, LegalFrom, Position, after, legal, legal_at}
+use Rattle.suit_game.specs.Positions.{IsLegal, LegalFrom, Position, after, legal}
 use Rattle.suit_game.specs.Validity.{IsValid}
 use Rattle.suit_game.proofs.DistinctElements.{each_flat_map}
-use Rattle.suit_game.proofs.EachElement.{Contains-first, Contains-flat_map, Contains-later, each_at}
+use Rattle.suit_game.proofs.EachElement.{Contains-first, Contains-flat_map, Contains-later}
 use Rattle.suit_game.proofs.LegalPlays.{after_move, legal_moves_extend}
 use Rattle.suit_game.proofs.LongestPlay.{histories_are_short}
 
