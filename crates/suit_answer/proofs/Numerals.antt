@@ -22,7 +22,8 @@ never false = refl
 pub too_large : (text : List ℕ) (i n : ℕ) → i < length text
     → digits_value 10 text ≡ digits_value_after 10 n (drop i text) → 2 ^ 127 ≤ n * 10 → digits_read text ≡ None
 too_large text i n h value large =
-    let next : digits_value 10 text ≡ digits_value_after 10 (n * 10 + digit_value (get_or text i 0)) (drop (i + 1) text) =
+    let next : digits_value 10 text
+    ≡ digits_value_after 10 (n * 10 + digit_value (get_or text i 0)) (drop (i + 1) text) =
     rw (drop_more text i 0 h) at value in
     let past : 2 ^ 127 ≤ digits_value 10 text =
     omega (arith, le_after (n * 10 + digit_value (get_or text i 0)) (drop (i + 1) text)) in

@@ -5,7 +5,6 @@ use Rattle.std.proofs.Common.{map, refl, sym, ap, ◌∙◌, inl, inr, arith}
 use Rattle.std.specs.Prelude.{Contains, bytes_eq, ◌&&◌, ◌||◌, ◌-◌, if◌then◌else◌}
 use Rattle.std.specs.List.{AllByRecursion, filter, sum_by}
 use Rattle.std.proofs.lemmas.Bool.{cases_eq, eq-eqb, ne_eqb, false≢true}
-use Rattle.std.proofs.lemmas.List.Elements.{All-contains, filter_passes}
 use Rattle.std.proofs.lemmas.List.Sums.{sum_by-cons}
 use Rattle.std.proofs.lemmas.Slice.Eq.{bytes_eq-Decides}
 use Rattle.suit_cards.specs.Cards.{Cards}
@@ -18,7 +17,7 @@ use Rattle.suit_game.specs.Gains.{is_declarer}
 use Rattle.suit_game.specs.Layouts.{choices_of, is_west_length, layouts}
 use Rattle.suit_game.specs.Positions.{dealt, without}
 use Rattle.suit_game.specs.Question.{missing}
-use Rattle.suit_game.proofs.EachElement.{each_at, each_contained, each_filter, each_in, map_same}
+use Rattle.suit_game.proofs.EachElement.{each_at, each_in, map_same, kept_parts}
 use Rattle.suit_game.proofs.HeldCards.{each_held, holds-from_without, holds-without, without_away}
 use Rattle.suit_game.proofs.LayoutCards.{IsPart, choices_of-parts}
 use Rattle.suit_game.proofs.ListSums.{length_filter, sum_by_alike, sum_by_filter}
@@ -28,8 +27,10 @@ use Rattle.suit_classes.proofs.DealtClasses.{IsDealt, IsHolding-without, cards_i
 use Rattle.suit_layouts.specs.ClassLayouts.{ways_of}
 use Rattle.suit_lift.proofs.ClassChoices.{counted_choices, east_step, map_at, told_alike, west_step}
 use Rattle.suit_lift.proofs.FreeChoices.{free_choices, worth_at}
-use Rattle.suit_lift.proofs.HandParts.{cards_in-same, cards_in-other, gone_of, group_sum, holds-gone_of, holds-left_of}
-use Rattle.suit_lift.proofs.HandParts.{missing_class, once_defence, parts_by_class}
+use Rattle.suit_classes.proofs.CardsByClass.{missing_class, once_defence}
+use Rattle.suit_game.proofs.HeldCards.{holds-left}
+use Rattle.suit_lift.proofs.HandParts.{cards_in-same, cards_in-other, gone_of, group_sum, holds-gone_of}
+use Rattle.suit_lift.proofs.HandParts.{parts_by_class}
 
 -- whether a layout has West's counts, and the same of the cards gone
 abbrev pub is_alike : Question → Cards → Cards → Cards → Bool
@@ -40,20 +41,12 @@ is_alike question west gone other =
 unfoldable pub alike_layouts : Question → Cards → Cards → List Cards
 alike_layouts question west gone = filter (is_alike question west gone) (layouts question)
 
--- what a filter keeps was there, and passes
-pub from_filter : {X : Type 0} (test : X → Bool) (xs : List X) (x : X) → Contains (filter test xs) x
-    → Contains xs x × (test x ≡ true)
-from_filter test xs x found = (
-  each_at (Contains xs) (filter test xs) x (each_filter (Contains xs) test xs (each_contained xs)) found,
-  All-contains (λ y. test y ≡ true) (filter test xs) x (filter_passes test xs) found,
-)
-
 -- a layout is a choice of the missing cards of a length that West may have
 pub layout_choice : (question : Question) (west : Cards) → Contains (layouts question) west
     → Contains (choices_of (missing question)) west × (is_west_length question (length west) ≡ true)
 unfolding layouts
 layout_choice question west found =
-    from_filter (λ other. is_west_length question (length other)) (choices_of (missing question)) west found
+    kept_parts (λ other. is_west_length question (length other)) (choices_of (missing question)) west found
 
 missing_falls : (question : Question) → FallsBelow 15 (missing question)
 missing_falls question = IsHolding-others_of question.north question.south
@@ -229,18 +222,18 @@ left_parts question west gone class is =
     same_holding (without (dealt question west E) gone) (without left west)
     (IsHolding-without (dealt question west E) gone (IsHolding-without (missing question) west
     (missing_falls question))) (IsHolding-without left west left_is)
-    (λ card least most. holds-left_of gone (dealt question west E) card ∙ ap (λ (b : Bool). b
-    && not (holds gone card)) (holds-left_of west (missing question) card)
+    (λ card least most. holds-left (dealt question west E) gone card ∙ ap (λ (b : Bool). b
+    && not (holds gone card)) (holds-left (missing question) west card)
     ∙ turned (holds (missing question) card) (not (holds west card)) (not (holds gone card))
-    ∙ sym (holds-left_of west left card ∙ ap (λ (b : Bool). b
-    && not (holds west card)) (holds-left_of gone (missing question) card))) in
+    ∙ sym (holds-left left west card ∙ ap (λ (b : Bool). b
+    && not (holds west card)) (holds-left (missing question) gone card))) in
     let west_is : gone_of west left ≡ without west gone =
     same_holding (gone_of west left) (without west gone) (IsHolding-filter (holds west) left left_is)
     (IsHolding-without west gone is.holding)
     (λ card least most. holds-gone_of west left card ∙ ap (λ (b : Bool). b
-    && holds west card) (holds-left_of gone (missing question) card)
+    && holds west card) (holds-left (missing question) gone card)
     ∙ within (holds (missing question) card) (holds west card) (not (holds gone card)) (is.deal.defenders card)
-    ∙ sym (holds-left_of gone west card)) in
+    ∙ sym (holds-left west gone card)) in
     omega (
       arith,
       parts_by_class hands left west class,

@@ -24,6 +24,7 @@ use Rattle.suit_classes.specs.ClassGame.{cards_in, each_once}
 use Rattle.suit_classes.specs.ClassMoves.{merge, merged, same_class_move}
 use Rattle.suit_classes.specs.ClassGame.{counts_of}
 use Rattle.suit_classes.proofs.AllowedHistories.{Contains-each_once, each_once-Contains}
+use Rattle.suit_classes.proofs.DistinctMoves.{once_each_once}
 use Rattle.suit_game.proofs.DistinctElements.{IsOnce}
 use Rattle.suit_classes.proofs.MovesOnce.{filter_of_map}
 use Rattle.suit_classes.proofs.SameMoves.{same_move-itself, same_move_is}
@@ -31,7 +32,7 @@ use Rattle.suit_plans.specs.declared.defence.Defence.{Defence}
 use Rattle.suit_plans.specs.Masses.{defence_shares_at}
 use Rattle.suit_lift.specs.Lifts.{class_share, common, defence_share, defence_way, fellows}
 use Rattle.suit_lift.proofs.LinkedWeights.{among_few, common_divided, fellows_some}
-use Rattle.suit_lift.proofs.MergedMoves.{once_each_once, other_class}
+use Rattle.suit_lift.proofs.MergedMoves.{other_class}
 
 picked_none : (f : ClassMove → ℕ) (move : ClassMove) (classes : List ClassMove) → AllByRecursion (λ class. move
     ≡ class → ⊥) classes

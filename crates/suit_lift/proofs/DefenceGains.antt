@@ -15,7 +15,7 @@ use Rattle.suit_game.specs.Gains.{gain, pay}
 use Rattle.suit_game.specs.Layouts.{layouts, total, weight}
 use Rattle.suit_game.specs.Strategies.{Way, counted}
 use Rattle.suit_game.specs.Validity.{IsValid}
-use Rattle.suit_game.proofs.EachElement.{each_in, each_of}
+use Rattle.suit_game.proofs.EachElement.{each_in, each_of, kept_parts}
 use Rattle.suit_game.proofs.LayoutCards.{layouts_are_deals}
 use Rattle.suit_game.proofs.ListSums.{sum_by_alike}
 use Rattle.suit_game.proofs.PayDenominators.{gain-den, pay-den, total_weight-gain}
@@ -31,7 +31,7 @@ use Rattle.suit_plans.proofs.ProperDefences.{proper_defence}
 use Rattle.suit_lift.specs.LiftLaws.{DefencesHold}
 use Rattle.suit_lift.specs.Lifts.{defence_way}
 use Rattle.suit_lift.specs.Naming.{is_legal_from}
-use Rattle.suit_lift.proofs.AlikeLayouts.{alike_layouts, equal_lengths, from_filter, is_alike}
+use Rattle.suit_lift.proofs.AlikeLayouts.{alike_layouts, equal_lengths, is_alike}
 use Rattle.suit_lift.proofs.FractionSums.{IsNoMore, kept_sum, no_more_itself, no_more_same, no_more_then, parts_of}
 use Rattle.suit_lift.proofs.FractionSums.{plus, plus_no_more, sum_no_more, sum_of}
 use Rattle.suit_lift.proofs.HandParts.{gone_of}
@@ -87,7 +87,7 @@ module _ (question : Question) (west : Cards) (valid : IsValid question) (layout
       let here = (layouts_are_deals question west valid.north valid.south valid.apart layout).0 in
       constant_sum (λ other. weight question (length other)) (weight question (length west)) those
       (λ other found.
-      let from = from_filter (λ it. bytes_eq (block_counts question (sizes_of question) it) its_counts)
+      let from = kept_parts (λ it. bytes_eq (block_counts question (sizes_of question) it) its_counts)
       (layouts question) other found in
       let deal = layouts_are_deals question other valid.north valid.south valid.apart from.0 in
       let same : counts_of (hands_of question) other ≡ its_counts =
@@ -203,7 +203,7 @@ module _ (question : Question) (declarer : Way) (defence : Defence) (valid : IsV
       (term question declarer defence valid proper []) those) second
       (sum_no_more weighed_pay (term question declarer defence valid proper []) those
       (each_in (λ west. IsNoMore (weighed_pay west) (term question declarer defence valid proper [] west)) those
-      (λ west found. pay_met west (from_filter (is_live question []) all west found).0))) in
+      (λ west found. pay_met west (kept_parts (is_live question []) all west found).0))) in
       let held = no_more_then scaled (all_at question declarer defence valid proper []) (whole
       (most_at question declarer defence valid proper [])) third
       (defences_spread question declarer defence valid proper []) in

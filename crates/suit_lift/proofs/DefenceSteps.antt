@@ -20,7 +20,7 @@ use Rattle.suit_classes.specs.declared.class_moves.ClassMove.{ClassMove}
 use Rattle.suit_classes.specs.Classes.{Hands, hands_of, class_of}
 use Rattle.suit_classes.specs.ClassGame.{cards_in, counts_of}
 use Rattle.suit_classes.specs.ClassMoves.{merge, merged}
-use Rattle.suit_classes.proofs.AllowedHistories.{each_once-Contains}
+use Rattle.suit_classes.proofs.AllowedHistories.{each_once-Contains, merged-push}
 use Rattle.suit_classes.proofs.MergedPlaces.{play_dealt}
 use Rattle.suit_plans.specs.declared.defence.Defence.{Defence}
 use Rattle.suit_plans.specs.Masses.{defence_shares_at, defence_mass, defenders}
@@ -34,7 +34,7 @@ use Rattle.suit_lift.proofs.AlikeLayouts.{alike_layouts, alike_step}
 use Rattle.suit_lift.proofs.ClassFellows.{class_moves_at, held_among, out_among, shares_at, weights_total}
 use Rattle.suit_lift.proofs.LinkedWeights.{defence_weights_are_shares}
 use Rattle.suit_lift.proofs.MoveKinds.{MoveKind, OwnCard, OwnOut, TheirCard, TheirOut, move_kind}
-use Rattle.suit_lift.proofs.PlanPays.{common_some, merged_push}
+use Rattle.suit_lift.proofs.PlanPays.{common_some}
 use Rattle.suit_lift.proofs.RowShares.{IsSharedOut, side_shares}
 use Rattle.suit_lift.proofs.UndecidedPlays.{IsOn}
 
@@ -145,7 +145,7 @@ module _ (question : Question) (defence : Defence) (west : Cards) (history : His
       (class_moves_at question defence west history play waits)
       ≡ shares_at question defence west history play waits class * mass_at (merged hands history) =
       ap (λ (l : List ClassMove). mass_at l * sum_by (shares_at question defence west history play waits)
-      (class_moves_at question defence west history play waits)) (merged_push hands history move)
+      (class_moves_at question defence west history play waits)) (merged-push hands history move)
       ∙ shared_out.each class there in
       weights_meet (defence_way question defence west history move) (length (fellows hands moves class)) common
       (shares_at question defence west history play waits class)

@@ -25,12 +25,12 @@ use Rattle.suit_game.specs.Strategies.{DefenceWay, DefenceWayRow, Way, WayRow, b
 use Rattle.suit_game.specs.Validity.{IsValid}
 use Rattle.suit_game.proofs.DistinctElements.{IsOnce, each_flat_map, once_filter}
 use Rattle.suit_game.proofs.EachElement.{Contains-filter, Contains-flat_map, Contains-map, each_at, each_gives, each_in}
+use Rattle.suit_game.proofs.EachElement.{kept_parts}
 use Rattle.suit_game.proofs.EachElement.{each_map}
 use Rattle.suit_plans.specs.declared.plan.Plan.{Plan}
 use Rattle.suit_plans.specs.declared.defence.Defence.{Defence}
 use Rattle.suit_lift.specs.FullLists.{DefencesAreLists, IsFull, IsFullDefence, IsToMove, NamesMoves, PlansAreLists}
 use Rattle.suit_lift.specs.Lifts.{defence_way, plan_way}
-use Rattle.suit_lift.proofs.AlikeLayouts.{from_filter}
 use Rattle.suit_lift.proofs.LegalMoves.{declarers_legal}
 use Rattle.suit_lift.proofs.FullLists.AgreedPays.{acting, agreed_pay}
 use Rattle.suit_lift.proofs.FullLists.LegalHistories.{all_legal, each_legal, legal_histories}
@@ -142,7 +142,7 @@ module _ (question : Question) (plan : Plan) (valid : IsValid question) where
   unfolding own_keys
   own_next history found =
       let all : List History = flat_map (legal_histories question) (layouts question) in
-      let parts = from_filter (moves_next question true) (each_first same_play decides_same_play all) history found in
+      let parts = kept_parts (moves_next question true) (each_first same_play decides_same_play all) history found in
       let some = each_at SomeAllows (each_first same_play decides_same_play all) history
       (each_first_all same_play decides_same_play SomeAllows all all_allowed) parts.0 in
       (some.0, next_told question true some.0 history some.1 some.2 parts.1)
@@ -249,7 +249,7 @@ module _ (question : Question) (defence : Defence) (valid : IsValid question) wh
   unfolding their_keys
   their_next key found =
       let all : List DefenceKey = flat_map keys_under (layouts question) in
-      let parts = from_filter (λ (it : DefenceKey). moves_next question false it.1)
+      let parts = kept_parts (λ (it : DefenceKey). moves_next question false it.1)
       (each_first same_key decides_same_key all) key found in
       let some = each_at KeyAllows (each_first same_key decides_same_key all) key
       (each_first_all same_key decides_same_key KeyAllows all keys_allowed) parts.0 in

@@ -2,26 +2,19 @@
 use Rattle.std.proofs.Common.{◌≡◌, ℕ, zero, suc, ◌+◌, ◌*◌, Bool, true, false, cond, not, nat_eq, List, [], ◌∷◌, length}
 use Rattle.std.proofs.Common.{refl, sym, ap, ◌∙◌, subst, inl, inr, arith}
 use Rattle.std.specs.Prelude.{Contains, ◌==◌, ◌&&◌, if◌then◌else◌}
-use Rattle.std.specs.List.{AllByRecursion, filter, range_with_len, sum_by}
+use Rattle.std.specs.List.{AllByRecursion, filter, sum_by}
 use Rattle.std.proofs.lemmas.Bool.{cases_eq, eq-eqb, ne_eqb}
 use Rattle.std.proofs.lemmas.List.Sums.{sum_by-cons}
 use Rattle.suit_cards.specs.Cards.{Cards}
 use Rattle.suit_cards.specs.Holdings.{holds}
-use Rattle.suit_cards.proofs.HeldSuits.{IsHolding-others_of, IsRank-held, holds-filter}
-use Rattle.suit_game.specs.declared.question.Question.{Question}
+use Rattle.suit_cards.proofs.HeldSuits.{holds-filter}
 use Rattle.suit_game.specs.Positions.{without}
-use Rattle.suit_game.specs.Question.{missing}
-use Rattle.suit_game.proofs.EachElement.{Contains-filter, Contains-range, each_gives, each_in}
-use Rattle.suit_game.proofs.ListSums.{sum_by_alike, sum_by_none}
-use Rattle.suit_classes.specs.Classes.{Hands, hands_of, class_count, class_of, class_owner, defence_classes, holder}
-use Rattle.suit_classes.specs.Classes.{same_owner}
+use Rattle.suit_game.proofs.EachElement.{each_gives, each_in}
+use Rattle.suit_game.proofs.ListSums.{sum_by_alike, sum_by_both, sum_by_none}
+use Rattle.suit_classes.specs.Classes.{Hands, class_of}
 use Rattle.suit_classes.specs.ClassGame.{cards_in}
-use Rattle.suit_classes.specs.declared.classes.Owner.TheVariants as owners
-use Rattle.suit_classes.proofs.ClassNumbers.{class_of-below}
-use Rattle.suit_classes.proofs.DefenceClasses.{class_owner-class_of, missing_are}
-use Rattle.suit_classes.proofs.DistinctMoves.{once_range}
-use Rattle.suit_game.proofs.DistinctElements.{IsOnce, once_filter}
-use Rattle.suit_game.proofs.HeldCards.{holds-from_filter}
+use Rattle.suit_classes.proofs.CardsByClass.{cards_in-more}
+use Rattle.suit_game.proofs.DistinctElements.{IsOnce}
 
 -- the cards of a hand that are gone
 abbrev pub gone_of : Cards → Cards → Cards
@@ -45,35 +38,10 @@ length_parts test (card ∷ cards) gone =
     both_parts (holds gone card) (test card) card (without cards gone) (gone_of gone cards) cards test refl
     (length_parts test cards gone)
 
-all_kept : (cards : Cards) → filter (λ card. true) cards ≡ cards
-all_kept [] = refl
-all_kept (card ∷ cards) = ap (λ (l : Cards). card ∷ l) (all_kept cards)
-
--- the cards of a hand are those left and those gone
-pub cards_parts : (cards gone : Cards) → length (without cards gone) + length (gone_of gone cards) ≡ length cards
-cards_parts cards gone =
-    omega (
-      arith,
-      length_parts (λ card. true) cards gone,
-      ap length (all_kept (without cards gone)),
-      ap length (all_kept (gone_of gone cards)),
-      ap length (all_kept cards),
-    )
-
 -- and so for each class
 pub parts_by_class : (hands : Hands) (cards gone : Cards) (class : ℕ)
     → cards_in hands (without cards gone) class + cards_in hands (gone_of gone cards) class ≡ cards_in hands cards class
 parts_by_class hands cards gone class = length_parts (λ card. class_of hands card == class) cards gone
-
-one_more : (b : Bool) (x : ℕ) (xs : Cards) → length (cond b (x ∷ xs) xs) ≡ (if b then 1 else 0) + length xs
-one_more true x xs = omega arith
-one_more false x xs = omega arith
-
--- a card more
-pub cards_in-more : (hands : Hands) (card : ℕ) (cards : Cards) (class : ℕ)
-    → cards_in hands (card ∷ cards) class ≡ (if class_of hands card == class then 1 else 0) + cards_in hands cards class
-cards_in-more hands card cards class =
-    one_more (class_of hands card == class) card (filter (λ other. class_of hands other == class) cards)
 
 pub cards_in-same : (hands : Hands) (card : ℕ) (cards : Cards) (class : ℕ) → class_of hands card ≡ class
     → cards_in hands (card ∷ cards) class ≡ suc (cards_in hands cards class)
@@ -87,41 +55,6 @@ cards_in-other hands card cards class differ = rw (ne_eqb (class_of hands card) 
 pub holds-gone_of : (gone cards : Cards) (card : ℕ) → holds (gone_of gone cards) card ≡ (holds cards card
     && holds gone card)
 holds-gone_of gone cards card = holds-filter (holds gone) cards card
-
--- and left where the hand had it and it is not
-pub holds-left_of : (gone cards : Cards) (card : ℕ) → holds (without cards gone) card ≡ (holds cards card
-    && not (holds gone card))
-unfolding without
-holds-left_of gone cards card = holds-filter (λ other. not (holds gone other)) cards card
-
--- ---- the classes of the missing cards
-
--- no class comes twice among the defenders'
-pub once_defence : (hands : Hands) → IsOnce (defence_classes hands)
-once_defence hands =
-    once_filter (λ class. same_owner (class_owner hands class) owners.Defence) (range_with_len 0
-    (class_count hands)) (once_range 0 (class_count hands))
-
-missing_owned : (question : Question) (card : ℕ) → holds (missing question) card ≡ true
-    → same_owner (class_owner (hands_of question) (class_of (hands_of question) card)) owners.Defence ≡ true
-missing_owned question card held =
-    let hands : Hands = hands_of question in
-    ap (λ o. same_owner o owners.Defence) (class_owner-class_of hands card (IsRank-held (missing question) card
-    (IsHolding-others_of question.north question.south) held))
-    ∙ (holds-from_filter (λ rank. same_owner (holder hands rank) owners.Defence) _ card (ap (λ
-    (l : Cards). holds l card) (missing_are hands) ∙ held)).1
-
--- the class of a missing card is one of the defenders'
-pub missing_class : (question : Question) (card : ℕ) → holds (missing question) card ≡ true
-    → Contains (defence_classes (hands_of question)) (class_of (hands_of question) card)
-missing_class question card held =
-    let hands : Hands = hands_of question in
-    let is = IsRank-held (missing question) card (IsHolding-others_of question.north question.south) held in
-    Contains-filter (λ class. same_owner (class_owner hands class) owners.Defence) (range_with_len 0
-    (class_count hands)) (class_of hands card)
-    (Contains-range 0 (class_count hands) (class_of hands card) (omega arith) (omega
-    (arith, class_of-below hands card is)))
-    (missing_owned question card held)
 
 -- ---- sums over classes
 
@@ -170,16 +103,10 @@ group_sum hands f classes (card ∷ cards) once each =
     sum_by_alike (λ class. cards_in hands (card ∷ cards) class * f class) (λ class. first class + rest class) classes
     (each_in (λ class. cards_in hands (card ∷ cards) class * f class ≡ first class + rest class) classes
     (λ class found. rw (cards_in-more hands card cards class) (omega arith)))
-    ∙ sum_both first rest classes
+    ∙ sum_by_both first rest classes
     ∙ omega (
       arith,
       picked_one hands f card classes once each.0,
       group_sum hands f classes cards once each.1,
       sum_by-cons (λ other. f (class_of hands other)) card cards,
     )
-  where
-    sum_both : (g h : ℕ → ℕ) (xs : List ℕ) → sum_by (λ x. g x + h x) xs ≡ sum_by g xs + sum_by h xs
-    sum_both g h [] = refl
-    sum_both g h (x ∷ xs) =
-        let both : ℕ → ℕ = λ y. g y + h y in omega
-        (arith, sum_by-cons both x xs, sum_by-cons g x xs, sum_by-cons h x xs, sum_both g h xs)

@@ -24,7 +24,7 @@ use Rattle.suit_game.specs.Positions.{after, legal, payoff}
 use Rattle.suit_game.specs.Strategies.{Way, Weighed, chosen, counted}
 use Rattle.suit_game.specs.Validity.{IsValid}
 use Rattle.suit_game.proofs.ChosenMoves.{chosen_from, chosen-weight}
-use Rattle.suit_game.proofs.EachElement.{Contains-filter, Contains-first, Contains-map, each_in, each_of}
+use Rattle.suit_game.proofs.EachElement.{Contains-filter, Contains-first, Contains-map, each_in, each_of, kept_parts}
 use Rattle.suit_game.proofs.EnoughMoves.{ended_with_no_room, pay_where_on, room_after_move}
 use Rattle.suit_game.proofs.ListSums.{sum_by-mul, sum_by_same}
 use Rattle.suit_game.proofs.PayDenominators.{pay-den}
@@ -36,7 +36,7 @@ use Rattle.suit_classes.specs.ClassGame.{counts_of, is_decided}
 use Rattle.suit_classes.specs.ClassMoves.{merge, merged}
 use Rattle.suit_classes.specs.ClassPlaces.{class_after, class_decided, class_moves, class_payoff}
 use Rattle.suit_classes.proofs.AgreedPlaces.{class_game_agrees}
-use Rattle.suit_classes.proofs.AllowedHistories.{each_once-Contains}
+use Rattle.suit_classes.proofs.AllowedHistories.{each_once-Contains, merged-push}
 use Rattle.suit_classes.proofs.SameMoves.{among_contained}
 use Rattle.suit_layouts.specs.ClassLayouts.{class_layouts}
 use Rattle.suit_plans.specs.BestReplies.{Reply, allowing_layouts, best_of, reply_to_defence, worth}
@@ -47,7 +47,7 @@ use Rattle.suit_plans.proofs.MassSteps.{mass_kept}
 use Rattle.suit_classes.proofs.UndecidedMoves.{HasFirst}
 use Rattle.suit_lift.specs.Lifts.{common, defence_way}
 use Rattle.suit_lift.specs.Naming.{is_one_of, unplayed}
-use Rattle.suit_lift.proofs.AlikeLayouts.{alike_layouts, from_filter}
+use Rattle.suit_lift.proofs.AlikeLayouts.{alike_layouts}
 use Rattle.suit_lift.proofs.CardMoves.{every_card_move, legal_listed, their_left, unplayed_fits}
 use Rattle.suit_lift.proofs.DecidedPays.{decided_pay}
 use Rattle.suit_lift.proofs.DefenceSteps.{weight_step, weights_some}
@@ -60,7 +60,7 @@ use Rattle.suit_lift.proofs.LinkedWeights.{common_divided}
 use Rattle.suit_lift.proofs.LiveLayouts.{IsLive, alike_kept, alike_live, alike_some, counts_allow, counts_listed}
 use Rattle.suit_lift.proofs.LiveLayouts.{live_is, every_has, live_kept, live_later, live_layouts, some_allow}
 use Rattle.suit_lift.proofs.MeanSums.{picked_mean, picked_weight, shares_mean}
-use Rattle.suit_lift.proofs.PlanPays.{common_some, merged_push}
+use Rattle.suit_lift.proofs.PlanPays.{common_some}
 use Rattle.suit_lift.proofs.PlanWorths.{layout_positive, most_positive}
 use Rattle.suit_lift.proofs.ReplyWorths.{most_of, worth_none, worth_on}
 use Rattle.suit_lift.proofs.RowShares.{counted_least, counted_mul, counted_total}
@@ -304,7 +304,7 @@ module _ (question : Question) (declarer : Way) (defence : Defence) (valid : IsV
         Contains-filter (λ class. some_allows question (here_line ++ class ∷ [])) every_move (merge hands move)
         (every_has (view_after question history) (counts_of hands west) (view_after question history).trick
         (merge hands move) there)
-        (ap (some_allows question) (sym (merged_push hands history move))
+        (ap (some_allows question) (sym (merged-push hands history move))
         ∙ some_allow question west (history ++ move ∷ []) later)
 
     has_first : {X : Type 0} (xs : List X) (x : X) → Contains xs x → HasFirst xs
@@ -384,7 +384,7 @@ module _ (question : Question) (declarer : Way) (defence : Defence) (valid : IsV
           let side = defenders question defence.den defence.rows (counts_of hands west) in
           let is_legal_move : Contains (legal question west history) choice.1 =
           subst (λ (l : List Move). Contains l choice.1) (sym (same_legal west)) (pick_legal choice found) in (
-            ap (mass_of_layout west) (merged_push hands history choice.1)
+            ap (mass_of_layout west) (merged-push hands history choice.1)
                 ∙ ap counted (mass_kept question side here_line (merge hands choice.1) ((on_at west alive).defences
                 ∙ ap not own)),
             ap length (alike_kept question west history choice.1 alive.play own is_legal_move),
@@ -444,7 +444,7 @@ module _ (question : Question) (declarer : Way) (defence : Defence) (valid : IsV
           (subst (λ (z : ℤ). worth reply (here_line ++ class ∷ []) ≤ℤ z) (sym (most_by start live true own))
           (most_of (λ move. worth reply (here_line ++ move ∷ [])) replies_at class
           (reply_has start choice.1 live legal_start))) in
-          subst (λ (l : List ClassMove). most_at l ≤ most_at here_line) (sym (merged_push hands history choice.1)) low
+          subst (λ (l : List ClassMove). most_at l ≤ most_at here_line) (sym (merged-push hands history choice.1)) low
 
       pick_bound : (choice : Weighed) → Contains picks choice
           → IsNoMore (sum_of (λ west. pick_cell west choice) (live_layouts question history)) (parts_of (choice.0
@@ -595,7 +595,7 @@ module _ (question : Question) (declarer : Way) (defence : Defence) (valid : IsV
       live_before : (west : Cards) (move : Move) → Contains (live_layouts question (history ++ move ∷ [])) west
           → Contains (live_layouts question history) west × Contains (legal question west history) move
       live_before west move found =
-          let from = from_filter (λ other. is_one_of (legal question other history) move)
+          let from = kept_parts (λ other. is_one_of (legal question other history) move)
           (live_layouts question history) west
           (subst (λ (l : List Cards). Contains l west) (sym (live_later question history move)) found) in
           (from.0, one_of_tells (legal question west history) move from.1)
@@ -659,7 +659,7 @@ module _ (question : Question) (declarer : Way) (defence : Defence) (valid : IsV
           (live_is question west history valid before.0) before.1) in
           let same : most_at (merged (hands_of question) (history ++ move ∷ []))
           ≡ worth_among replies_at (λ other. most_at (here_line ++ other ∷ [])) class =
-          ap most_at (merged_push (hands_of question) history move)
+          ap most_at (merged-push (hands_of question) history move)
           ∙ sym (ap {B = ℕ} (λ (b : Bool). if b then most_at (here_line ++ class ∷ []) else 0) among) in
           omega (arith, ap (λ (n : ℕ). common / unplayed question gone_now move * n) same)
 

@@ -13,6 +13,7 @@ use Rattle.suit_game.specs.PlaceViews.{IsPlay}
 use Rattle.suit_game.specs.Positions.{LegalFrom, Position, after, legal, legal_at, start_place, step}
 use Rattle.suit_game.specs.Strategies.{same_move}
 use Rattle.suit_game.proofs.EachElement.{Contains-cons_cases, Contains-first, Contains-later, Contains-nil}
+use Rattle.suit_game.proofs.SameCardMoves.{same_card_move-itself, same_card_move_is}
 use Rattle.suit_game.proofs.LayoutCards.{layouts_are_deals}
 use Rattle.suit_classes.specs.Classes.{hands_of}
 use Rattle.suit_classes.specs.ClassGame.{counts_of}
@@ -21,7 +22,6 @@ use Rattle.suit_classes.proofs.MergedPlaces.{play_dealt}
 use Rattle.suit_lift.specs.Naming.{is_legal, is_legal_from, is_one_of}
 use Rattle.suit_lift.proofs.AlikeLayouts.{equal_lengths}
 use Rattle.suit_lift.proofs.HandParts.{gone_of}
-use Rattle.suit_lift.proofs.LegalMoves.{same_card_move-itself, same_card_move_is}
 use Rattle.suit_lift.proofs.LegalWhereAlike.{AreTwo, alike_parts, legal_where_alike, parts_alike}
 
 pub one_of_from : (moves : List Move) (move : Move) → Contains moves move → is_one_of moves move ≡ true

@@ -23,7 +23,8 @@ use Rattle.suit_game.proofs.EachElement.{Contains-first, Contains-map}
 use Rattle.suit_game.proofs.HeldCards.{holds-first, holds-from_without, holds-without}
 use Rattle.suit_game.proofs.LegalPlays.{follow_or_show}
 use Rattle.suit_classes.proofs.DealtClasses.{IsDealt, IsHolding-dealt}
-use Rattle.suit_lift.proofs.HandParts.{cards_parts, gone_of, holds-gone_of, holds-left_of}
+use Rattle.suit_game.proofs.HeldCards.{holds-left, length-left_and_gone}
+use Rattle.suit_lift.proofs.HandParts.{gone_of, holds-gone_of}
 use Rattle.suit_lift.proofs.LegalMoves.{declarers_legal_in}
 use Rattle.suit_lift.proofs.MoveKinds.{MoveKind, OwnCard, OwnOut, TheirCard, TheirOut, move_kind}
 
@@ -199,8 +200,8 @@ module _ (question : Question) (west other : Cards) (two : AreTwo question west 
   long_dealt E theirs =
       omega (
         arith,
-        cards_parts (missing question) west,
-        cards_parts (missing question) other,
+        length-left_and_gone (missing question) west,
+        length-left_and_gone (missing question) other,
         two.long,
         ap length (gone_whole west two.here),
         ap length (gone_whole other two.there),
@@ -212,9 +213,9 @@ module _ (question : Question) (west other : Cards) (two : AreTwo question west 
   dealt_alike S gone theirs alike = absurd (false≢true (sym theirs))
   dealt_alike W gone theirs alike = alike
   dealt_alike E gone theirs alike = λ card held.
-      holds-left_of west (missing question) card ∙ ap (λ (b : Bool). holds (missing question) card
+      holds-left (missing question) west card ∙ ap (λ (b : Bool). holds (missing question) card
       && not b) (alike card held)
-      ∙ sym (holds-left_of other (missing question) card)
+      ∙ sym (holds-left (missing question) other card)
 
   legal_kind : (place : Position) (trick : Trick) (move : Move) → IsAlike place.gone west other
       → IsAlike (step_in question place trick move).gone west other
@@ -242,8 +243,8 @@ module _ (question : Question) (west other : Cards) (two : AreTwo question west 
       nil_from_length (hand question other place turn)
       (omega (
         arith,
-        cards_parts (dealt question west turn) place.gone,
-        cards_parts (dealt question other turn) place.gone,
+        length-left_and_gone (dealt question west turn) place.gone,
+        length-left_and_gone (dealt question other turn) place.gone,
         ap length same,
         ap length none,
         long_dealt turn theirs,

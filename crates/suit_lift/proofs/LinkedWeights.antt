@@ -1,8 +1,7 @@
 -- Weights over the common multiple stand as shares (defence_weights_are_shares).
-use Rattle.std.proofs.Common.{◌≡◌, ℕ, zero, suc, ◌*◌, ◌/◌, ◌≤◌, ◌<◌, Bool, true, false, List, [], ◌∷◌, length, cond}
+use Rattle.std.proofs.Common.{◌≡◌, ℕ, zero, suc, ◌*◌, ◌/◌, ◌≤◌, ◌<◌, Bool, true, false, List, [], ◌∷◌, length}
 use Rattle.std.proofs.Common.{refl, ap, arith}
 use Rattle.std.specs.Prelude.{Contains, ◌==◌}
-use Rattle.std.specs.List.{filter}
 use Rattle.std.proofs.lemmas.Bool.{agree_below_at, eqb-true, true≢false}
 use Rattle.std.proofs.lemmas.List.{length-map}
 use Rattle.suit_cards.specs.Cards.{Cards}
@@ -17,6 +16,7 @@ use Rattle.suit_game.specs.Positions.{Position, Trick, Closed, Open, after, deal
 use Rattle.suit_game.specs.PlaceViews.{IsPlay}
 use Rattle.suit_game.specs.Strategies.{counted}
 use Rattle.suit_game.proofs.EachElement.{Contains-filter}
+use Rattle.suit_game.proofs.ListSums.{length_filter-most}
 use Rattle.suit_classes.specs.declared.class_moves.ClassMove.{ClassMove}
 use Rattle.suit_classes.specs.Classes.{Hands, hands_of}
 use Rattle.suit_classes.specs.ClassMoves.{merge, same_class_move}
@@ -39,14 +39,6 @@ unfolding common divided
 common_divided zero some few = absurd (omega arith)
 common_divided (suc among) some few =
     eqb-true (360360 / suc among * suc among) 360360 (agree_below_at divided (λ n. true) 13 among refl (omega arith))
-
-pub length_filter-most : {X : Type 0} (test : X → Bool) (xs : List X) → length (filter test xs) ≤ length xs
-length_filter-most test [] = omega arith
-length_filter-most {X} test (x ∷ xs) = kept (test x) (filter test xs) (length_filter-most test xs)
-  where
-    kept : (b : Bool) (later : List X) → length later ≤ length xs → length (cond b (x ∷ later) later) ≤ length (x ∷ xs)
-    kept true later few = omega arith
-    kept false later few = omega arith
 
 some_of : {X : Type 0} (xs : List X) (x : X) → Contains xs x → 0 < length xs
 some_of xs x found = omega (arith, found.1)

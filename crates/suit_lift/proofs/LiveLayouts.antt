@@ -21,6 +21,7 @@ use Rattle.suit_game.specs.PlaceViews.{IsPlay}
 use Rattle.suit_game.specs.Positions.{Position, Trick, after, legal, start_place, step_in}
 use Rattle.suit_game.specs.Validity.{IsValid}
 use Rattle.suit_game.proofs.EachElement.{Contains-cons_cases, Contains-filter, Contains-first, Contains-later}
+use Rattle.suit_game.proofs.EachElement.{kept_parts}
 use Rattle.suit_game.proofs.EachElement.{Contains-map, Contains-map_from, Contains-nil}
 use Rattle.suit_game.proofs.LayoutCards.{layouts_are_deals}
 use Rattle.suit_game.proofs.LegalPlays.{after_move}
@@ -43,7 +44,7 @@ use Rattle.suit_layouts.proofs.HeldCounts.{layouts_listed}
 use Rattle.suit_layouts.proofs.ListedCounts.{class_layouts_exact}
 use Rattle.suit_plans.specs.Properness.{some_allows}
 use Rattle.suit_lift.specs.Naming.{is_legal, is_one_of}
-use Rattle.suit_lift.proofs.AlikeLayouts.{alike_layouts, from_filter, is_alike}
+use Rattle.suit_lift.proofs.AlikeLayouts.{alike_layouts, is_alike}
 use Rattle.suit_lift.proofs.HandParts.{gone_of}
 use Rattle.suit_lift.proofs.LegalMoves.{declarers_legal}
 use Rattle.suit_lift.proofs.LegalTests.{legal_alike, legal_from_tells, legal_push, one_of_from, two_layouts}
@@ -76,7 +77,7 @@ pub live_is : (question : Question) (west : Cards) (history : History) → IsVal
     → Contains (live_layouts question history) west → IsLive question west history
 unfolding live_layouts
 live_is question west history valid found =
-    let from = from_filter (is_live question history) (layouts question) west found in
+    let from = kept_parts (is_live question history) (layouts question) west found in
     let parts = and_parts (nat_lt 0 (weight question (length west))) (is_legal question history west) from.1 in
     record {
       play =
@@ -292,7 +293,7 @@ numbered : (kind : ℕ → ClassMove) (test : ℕ → Bool) (move : ClassMove)
 numbered kind test move found =
     let from = Contains-map_from kind (filter test class_numbers) move found in
     subst (λ (m : ClassMove). Contains (map kind class_numbers) m) from.2 (Contains-map kind class_numbers from.0
-    (from_filter test class_numbers from.0 from.1).0)
+    (kept_parts test class_numbers from.0 from.1).0)
 
 -- each class move at a position is one of all
 pub every_has : (view : ClassView) (counts : Counts) (trick : ClassTrick) (move : ClassMove)

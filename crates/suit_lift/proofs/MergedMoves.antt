@@ -1,50 +1,25 @@
 -- Sums over the class moves that some moves merge to, each once.
-use Rattle.std.proofs.Common.{◌≡◌, ℕ, ◌+◌, Bool, true, false, cond, not, List, [], ◌∷◌, map, refl, sym, ap, ◌∙◌, subst}
+use Rattle.std.proofs.Common.{◌≡◌, ℕ, ◌+◌, Bool, true, false, not, List, [], ◌∷◌, map, refl, sym, ap, ◌∙◌, subst}
 use Rattle.std.proofs.Common.{inl, inr, arith}
 use Rattle.std.specs.Prelude.{if◌then◌else◌}
 use Rattle.std.specs.List.{AllByRecursion, filter, sum_by}
-use Rattle.std.proofs.lemmas.Bool.{cases_Bool, false≢true, false_from_ne_true, not-true}
+use Rattle.std.proofs.lemmas.Bool.{cases_Bool, false≢true, false_from_ne_true}
 use Rattle.std.proofs.lemmas.List.Sums.{sum_by-cons}
 use Rattle.suit_game.specs.declared.moves.Move.{Move}
+use Rattle.suit_game.proofs.DistinctElements.{IsOnce as IsCardOnce, IsOnce}
 use Rattle.suit_game.proofs.EachElement.{each_gives}
 use Rattle.suit_game.proofs.ListSums.{sum_by_alike}
+use Rattle.suit_game.proofs.SameCardMoves.{same_card_move-itself}
 use Rattle.suit_classes.specs.declared.class_moves.ClassMove.{ClassMove}
 use Rattle.suit_classes.specs.AllowedHistories.{is_among}
 use Rattle.suit_classes.specs.Classes.{Hands}
 use Rattle.suit_classes.specs.ClassGame.{each_once}
 use Rattle.suit_classes.specs.ClassMoves.{merge, same_class_move}
 use Rattle.suit_classes.proofs.AllowedHistories.{Contains-each_once, each_once-Contains}
-use Rattle.suit_game.proofs.DistinctElements.{IsOnce, once_filter}
-use Rattle.suit_classes.proofs.SameMoves.{among-Contains, among_contained, same_move-itself, same_move_is}
+use Rattle.suit_classes.proofs.DistinctMoves.{once_each_once}
+use Rattle.suit_classes.proofs.SameMoves.{among-Contains, among_contained, same_move_is}
 use Rattle.suit_lift.specs.Lifts.{is_lowest}
-use Rattle.suit_lift.proofs.LegalMoves.{other_card_move, same_card_move-itself}
-
-kept_apart : (move other : ClassMove) (xs : List ClassMove) (b : Bool) → not (same_class_move move other) ≡ b
-    → AllByRecursion (λ y. move ≡ y → ⊥) xs
-    → AllByRecursion (λ y. move ≡ y → ⊥) (cond b (other ∷ xs) xs)
-kept_apart move other xs true passes each = (
-  (λ same. false≢true (sym (not-true (same_class_move move other) passes) ∙ ap (same_class_move move) (sym same)
-      ∙ same_move-itself move)),
-  each,
-)
-kept_apart move other xs false passes each = each
-
-apart_kept : (move : ClassMove) (xs : List ClassMove) → AllByRecursion (λ y. move ≡ y
-    → ⊥) (filter (λ other. not (same_class_move move other)) xs)
-apart_kept move [] = tt
-apart_kept move (other ∷ xs) =
-    kept_apart move other (filter (λ y. not (same_class_move move y)) xs) (not (same_class_move move other)) refl
-    (apart_kept move xs)
-
--- no move comes twice in a list without repeats
-pub once_each_once : (moves : List ClassMove) → IsOnce (each_once moves)
-unfolding each_once IsOnce
-once_each_once [] = tt
-once_each_once (move ∷ moves) = (
-  apart_kept move (each_once moves),
-  once_filter (λ other. not (same_class_move move other)) (each_once moves)
-      (once_each_once moves),
-)
+use Rattle.suit_lift.proofs.LegalMoves.{other_card_move}
 
 -- a list without repeats has the moves of the list
 pub among_each_once : (moves : List ClassMove) (move : ClassMove) → is_among (each_once moves) move
@@ -113,10 +88,10 @@ taken_once true here later others all parts is = omega arith
 taken_once false here later others all parts is = omega arith
 
 -- what the lowest cards of the classes have adds up over the classes
-pub lowest_sum : (hands : Hands) (f : ClassMove → ℕ) (moves : List Move) → IsOnce moves
+pub lowest_sum : (hands : Hands) (f : ClassMove → ℕ) (moves : List Move) → IsCardOnce moves
     → sum_by (λ move. if is_lowest hands moves move then f (merge hands move) else 0) moves
     ≡ sum_by f (each_once (map (merge hands) moves))
-unfolding IsOnce each_once
+unfolding IsCardOnce each_once
 lowest_sum hands f [] once = refl
 lowest_sum hands f (first ∷ later) once =
     let class : ClassMove = merge hands first in

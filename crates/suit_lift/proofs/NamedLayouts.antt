@@ -17,7 +17,7 @@ use Rattle.suit_game.specs.Layouts.{layouts, weight}
 use Rattle.suit_game.specs.PlaceViews.{IsPlay}
 use Rattle.suit_game.specs.Positions.{LegalFrom, after, legal, start_place}
 use Rattle.suit_game.specs.Strategies.{counted}
-use Rattle.suit_game.proofs.EachElement.{each_in, each_map}
+use Rattle.suit_game.proofs.EachElement.{each_in, each_map, kept_parts}
 use Rattle.suit_game.proofs.LegalPlays.{after_move}
 use Rattle.suit_game.proofs.SeenPlaces.{play_more, play_none}
 use Rattle.suit_game.proofs.WeightedMeans.{weighted_sum-den}
@@ -29,10 +29,11 @@ use Rattle.suit_plans.specs.Masses.{defence_mass, defenders}
 use Rattle.suit_plans.specs.Properness.{IsProperDefence}
 use Rattle.suit_plans.proofs.MassSteps.{mass_kept}
 use Rattle.suit_plans.proofs.ProperDefences.{proper_defence}
+use Rattle.suit_classes.proofs.AllowedHistories.{merged-push}
 use Rattle.suit_lift.specs.Lifts.{defence_way}
 use Rattle.suit_lift.specs.Naming.{LayoutShare, LayoutsNamed, NamingLaw, StaysUndecided, held, is_legal, layouts_naming}
 use Rattle.suit_lift.specs.Naming.{product_from, shares_made, unplayed, unplayed_product}
-use Rattle.suit_lift.proofs.AlikeLayouts.{alike_layouts, from_filter}
+use Rattle.suit_lift.proofs.AlikeLayouts.{alike_layouts}
 use Rattle.suit_lift.proofs.CardMoves.{unplayed_fits}
 use Rattle.suit_lift.proofs.DefenceGains.{mass_starts}
 use Rattle.suit_lift.proofs.DefenceSteps.{count_step, weight_step, weights_some}
@@ -40,7 +41,6 @@ use Rattle.suit_lift.proofs.HandParts.{gone_of}
 use Rattle.suit_lift.proofs.LegalTests.{legal_alike, legal_from_tells}
 use Rattle.suit_lift.proofs.LiveLayouts.{alike_kept, alike_some, filter_same}
 use Rattle.suit_lift.proofs.PlanGains.{den_some}
-use Rattle.suit_lift.proofs.PlanPays.{merged_push}
 use Rattle.suit_lift.proofs.UndecidedPlays.{IsOn, is_on}
 
 -- the layouts that a history names are those that are alike on the cards gone
@@ -139,7 +139,7 @@ module _ (question : Question) (defence : Defence) (west : Cards) (proper : IsPr
   share_one history move play on found true own =
       let side = defenders question defence.den defence.rows (counts_of (hands_of question) west) in
       let kept : mass_after (history ++ move ∷ []) ≡ mass_after history =
-      ap (λ line. counted (defence_mass question defence (counts_of (hands_of question) west) line)) (merged_push
+      ap (λ line. counted (defence_mass question defence (counts_of (hands_of question) west) line)) (merged-push
       (hands_of question) history move)
       ∙ ap counted (mass_kept question side (merged (hands_of question) history) (merge (hands_of question) move)
       (on.defences ∙ ap not own)) in
@@ -268,7 +268,7 @@ module _ (question : Question) (defence : Defence) (west : Cards) (history : His
       → IsPlay question other history × (counts_of (hands_of question) other ≡ counts_of (hands_of question) west)
   unfolding layouts_naming
   named_play other found =
-      let from = from_filter (λ it. bytes_eq (counts_of (hands_of question) it) (counts_of
+      let from = kept_parts (λ it. bytes_eq (counts_of (hands_of question) it) (counts_of
       (hands_of question) west) && is_legal question history it) (layouts question) other found in
       let parts = and_parts (bytes_eq (counts_of (hands_of question) other) (counts_of (hands_of question) west))
       (is_legal question history other) from.1 in (

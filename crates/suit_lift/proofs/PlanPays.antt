@@ -6,7 +6,6 @@ use Rattle.std.specs.Int.{int_min}
 use Rattle.std.specs.List.{AllByRecursion, sum_by}
 use Rattle.std.proofs.Math.Nat.{mul-le-mul_left, mul-pos}
 use Rattle.std.proofs.lemmas.Bool.{cases_Bool, true≢false}
-use Rattle.std.proofs.lemmas.List.{map-append}
 use Rattle.suit_cards.specs.Cards.{Cards}
 use Rattle.suit_game.specs.declared.question.Question.{Question}
 use Rattle.suit_game.specs.declared.moves.Move.{Move}
@@ -20,6 +19,7 @@ use Rattle.suit_game.specs.Strategies.{DefenceWay, Weighed, chosen, counted}
 use Rattle.suit_game.proofs.ChosenMoves.{chosen_each}
 use Rattle.suit_game.proofs.EachElement.{Contains-map, each_in, each_map}
 use Rattle.suit_game.proofs.EnoughMoves.{ended_with_no_room, pay_where_on, room_after_move}
+use Rattle.suit_game.proofs.DistinctLegalMoves.{legal_once}
 use Rattle.suit_game.proofs.ListSums.{sum_by-mul, sum_by_same}
 use Rattle.suit_game.proofs.PayDenominators.{pay-den}
 use Rattle.suit_game.proofs.SeenPlaces.{play_more}
@@ -30,7 +30,7 @@ use Rattle.suit_classes.specs.ClassGame.{counts_of, each_once, is_decided, merge
 use Rattle.suit_classes.specs.ClassMoves.{merge, merged}
 use Rattle.suit_classes.specs.ClassPlaces.{class_after, class_decided, class_moves, class_payoff, class_turn}
 use Rattle.suit_classes.proofs.AgreedPlaces.{class_game_agrees}
-use Rattle.suit_classes.proofs.AllowedHistories.{each_once-Contains}
+use Rattle.suit_classes.proofs.AllowedHistories.{each_once-Contains, merged-push}
 use Rattle.suit_plans.specs.BestReplies.{Reply, best_of, reply_to_plan, worth}
 use Rattle.suit_plans.specs.declared.plan.Plan.{Plan}
 use Rattle.suit_plans.specs.Masses.{declarer, is_declarers, plan_shares_at, plan_mass}
@@ -41,18 +41,13 @@ use Rattle.suit_plans.proofs.TurnMoves.{declarers_moves}
 use Rattle.suit_classes.proofs.UndecidedMoves.{HasFirst}
 use Rattle.suit_lift.specs.Lifts.{RowCounts, class_share, common, is_lowest, plan_share, plan_way}
 use Rattle.suit_lift.proofs.DecidedPays.{decided_pay}
-use Rattle.suit_lift.proofs.LegalMoves.{declarers_legal, once_legal}
+use Rattle.suit_lift.proofs.LegalMoves.{declarers_legal}
 use Rattle.suit_lift.proofs.MergedMoves.{lowest_sum}
 use Rattle.suit_lift.proofs.PlanWorths.{worth_positive}
 use Rattle.suit_lift.proofs.ReplyWorths.{least_of, worth_none, worth_on}
 use Rattle.suit_lift.proofs.RowShares.{IsSharedOut, counted_least, counted_mul, counted_total, side_shares, some_merges}
 use Rattle.suit_lift.proofs.SharedMeans.{IsShared, shared_mean, valued}
 use Rattle.suit_lift.proofs.UndecidedPlays.{IsOn, is_on, view_after}
-
--- a history of a move more merges to the merged history with the merge of the move
-pub merged_push : (hands : Hands) (history : History) (move : Move) → merged hands (history ++ move ∷ [])
-    ≡ merged hands history ++ merge hands move ∷ []
-merged_push hands history move = map-append (merge hands) history (move ∷ [])
 
 weight_is : (question : Question) (plan : Plan) (history : History) (move : Move)
     → plan_way question plan history move
@@ -159,7 +154,7 @@ module _ (question : Question) (plan : Plan) (defence : DefenceWay) (west : Card
           (history ++ move ∷ []))
           (counted (worth (reply_to_plan question plan (counts_of (hands_of question) west)) line)) (counted
           (plan_mass question plan line)))
-          (merged_push (hands_of question) history move) (later move found)
+          (merged-push (hands_of question) history move) (later move found)
 
       -- what the merged history is worth, by the side on turn
       worth_is : (b : Bool) → is_declarer_turn (after question history).trick ≡ b
@@ -202,7 +197,7 @@ module _ (question : Question) (plan : Plan) (defence : DefenceWay) (west : Card
           side_shares question (declarer plan.den plan.rows) west history play on (plans_are_realised question plan
           (counts_of hands west) play.valid proper) plays
           (declarers_moves (view_after question history) [] (counts_of hands west) plays ∙ on.moves) in
-          let once = once_legal question west history play in
+          let once = legal_once question west history play in
           let all : sum_by weight_of moves ≡ common * sum_by share (each_once merges) =
           sum_by_same weight_of (λ move. common * (if is_lowest hands moves move then share
           (merge hands move) else 0)) moves

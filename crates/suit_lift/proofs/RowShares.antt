@@ -22,6 +22,7 @@ use Rattle.suit_classes.specs.ClassGame.{Allows, counts_of, each_once, merged_mo
 use Rattle.suit_classes.specs.ClassMoves.{merge, merged, same_class_move}
 use Rattle.suit_classes.specs.ClassPlaces.{class_moves, class_turn}
 use Rattle.suit_classes.proofs.AllowedHistories.{Contains-each_once, allowed_moves, each_once-Contains}
+use Rattle.suit_classes.proofs.DistinctMoves.{once_each_once}
 use Rattle.suit_game.proofs.DistinctElements.{IsOnce}
 use Rattle.suit_classes.proofs.SameMoves.{same_move-itself}
 use Rattle.suit_plans.specs.Masses.{Side, count_of, is_first, mass_of, share}
@@ -30,7 +31,7 @@ use Rattle.suit_plans.specs.Properness.{sum_of}
 use Rattle.suit_plans.proofs.MassSteps.{mass_shared}
 use Rattle.suit_classes.proofs.UndecidedMoves.{HasFirst}
 use Rattle.suit_lift.specs.Lifts.{RowCounts, class_share, row_count}
-use Rattle.suit_lift.proofs.MergedMoves.{once_each_once, other_class}
+use Rattle.suit_lift.proofs.MergedMoves.{other_class}
 use Rattle.suit_lift.proofs.UndecidedPlays.{IsOn, view_after}
 
 -- ---- numbers that are not negative

@@ -32,8 +32,10 @@ use Rattle.suit_classes.proofs.SameMoves.{same_move_is}
 use Rattle.suit_lift.specs.Lifts.{common}
 use Rattle.suit_lift.specs.Naming.{unplayed}
 use Rattle.suit_lift.proofs.AlikeLayouts.{choice_classes}
-use Rattle.suit_lift.proofs.HandParts.{group_sum, once_defence}
-use Rattle.suit_lift.proofs.LinkedWeights.{common_divided, length_filter-most}
+use Rattle.suit_classes.proofs.CardsByClass.{once_defence}
+use Rattle.suit_lift.proofs.HandParts.{group_sum}
+use Rattle.suit_game.proofs.ListSums.{length_filter-most}
+use Rattle.suit_lift.proofs.LinkedWeights.{common_divided}
 
 sum_at_most : {X : Type 0} (f g : X → ℕ) (xs : List X) → AllByRecursion (λ x. f x ≤ g x) xs → sum_by f xs ≤ sum_by g xs
 sum_at_most f g [] each = omega arith

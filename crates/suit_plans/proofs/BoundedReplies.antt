@@ -151,7 +151,8 @@ bounded question den number valid some within paid = (
     through a b p q = omega (arith, ints)
 
 -- what a class layout earns is paid for its part of the weights
-pub weighed_paid : (question : Question) (plan : Plan) (layout : Counts × ℕ) → IsValid question → IsProperPlan question plan
+pub weighed_paid : (question : Question) (plan : Plan) (layout : Counts × ℕ) → IsValid question
+    → IsProperPlan question plan
     → Contains (class_layouts question (sizes_of question)) layout
     → IsPaid (pos layout.1 *ℤ plan.den) (pos layout.1 *ℤ worth (reply_to_plan question plan layout.0) [])
 weighed_paid question plan layout valid proper found =

@@ -1,4 +1,5 @@
--- The entries of a best reply are reached by its own moves: some mass comes to each beginning of their histories, and the
+-- The entries of a best reply are reached by its own moves: some mass comes to each beginning of their histories, and
+-- the
 -- moves of its side within them are its own (`least_reached`, `least_followed`, `most_reached`, `most_followed`).
 use Rattle.std.proofs.Common.{◌≡◌, ◌⊎◌, ℕ, zero, suc, ◌≤◌, Bool, true, false, List, [], ◌∷◌, ◌++◌, length, refl}
 use Rattle.std.proofs.Common.{sym, ap, ◌∙◌, subst, arith, append-nil, append_assoc, inl, inr}

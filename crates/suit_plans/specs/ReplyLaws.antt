@@ -244,7 +244,8 @@ abbrev pub DefenceChoicesRise : Type 0
 DefenceChoicesRise = (question : Question) (defence : Defence)
     → InOrder history_before (choices (reply_to_defence question defence))
 
--- whether an entry of a defence's reply stands before another: by the indices of the class layouts, and then by the class
+-- whether an entry of a defence's reply stands before another: by the indices of the class layouts, and then by the
+-- class
 -- histories
 abbrev pub defence_move_before : DefenceMove → DefenceMove → Bool
 defence_move_before here there = nat_lt here.layout there.layout

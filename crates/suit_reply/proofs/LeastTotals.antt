@@ -122,7 +122,10 @@ pub none_so_far : (question : Question) (plan : Plan) (start count : ℕ) (moves
     → moves ≡ [] → IsReplyIn question plan start count (pos 0) moves
 unfolding sum_of
 none_so_far question plan start count moves no_count none =
-    subst (λ (n : ℕ). IsReplyIn question plan start n (pos 0) moves) (sym no_count) (record { sum = refl; replies = none })
+    subst (λ (n : ℕ). IsReplyIn question plan start n (pos 0) moves) (sym no_count) (record {
+      sum = refl;
+      replies = none;
+    })
 
 -- a choice, in a class layout
 abbrev pub named_at : ℕ → ChosenMove → DefenceMove
@@ -289,7 +292,8 @@ module _ (tree : Tree) (plan : Plan) (index : ℕ) (case : IsPlanFor tree plan)
       let here : start + (index - start) ≡ index = omega (arith, from) in
       let next : index - start + 1 ≡ index + 1 - start = omega (arith, from) in
       subst (λ (l : List DefenceMove). IsReplyIn question plan start (index + 1 - start) after l) (sym joins)
-      (subst (λ (z : ℤ). IsReplyIn question plan start (index + 1 - start) z (moves ++ map (named_at index) found.choices))
+      (subst (λ (z : ℤ). IsReplyIn question plan start (index + 1 - start) z (moves
+      ++ map (named_at index) found.choices))
       (sym adds)
       (subst (λ (n : ℕ). IsReplyIn question plan start n (number +ℤ pos weight *ℤ found.worth)
       (moves ++ map (named_at index) found.choices)) next

@@ -21,7 +21,8 @@ weighed_worth question plan index =
     pos (layout_at question index).1 *ℤ worth (reply_to_plan question plan (layout_at question index).0) []
 
 -- the best reply to a plan in so many class layouts from an index on: what they are worth together, and its choices
-pub record IsReplyIn (question : Question) (plan : Plan) (start count : ℕ) (number : ℤ) (moves : List DefenceMove) : Type
+pub record IsReplyIn (question : Question) (plan : Plan) (start count : ℕ) (number : ℤ) (moves : List DefenceMove) :
+    Type
     0 where
   pub sum : number ≡ sum_of (map (weighed_worth question plan) (range_with_len start count))
   pub replies : moves ≡ flat_map (λ index. least_reply_in question plan (layout_at question index).0 index)

@@ -1,5 +1,6 @@
 //! The defence's best reply to a plan, found on several threads.
-ghost use Rattle.std.specs.Prelude.{◌≡◌, ℕ, ◌+◌, ◌-◌, ◌*◌, ◌/◌, ◌%◌, ◌<◌, ◌≤◌, IfOk, length, min, slice_index_or, vec_len};
+ghost use Rattle.std.specs.Prelude.{◌≡◌, ℕ, ◌+◌, ◌-◌, ◌*◌, ◌/◌, ◌%◌, ◌<◌, ◌≤◌, IfOk, length, min, slice_index_or};
+ghost use Rattle.std.specs.Prelude.{vec_len};
 ghost use Rattle.suit_plans.specs.BestReplies.{least, least_reply};
 ghost use Rattle.suit_reply.specs.AgainstPlan.{IsPlanFor};
 ghost use Rattle.suit_reply.specs.LayoutsReplies.{IsReplyIn};

@@ -138,7 +138,8 @@ none_left (Some bytes) (Some rest) taken consumed at_end = ap Some at_end
 
 -- a reading to the end, within the limit, makes the reply to what was read
 pub short_replies : (command : Command) (before after : Option Text) (reply : Reply) (input taken : Text)
-    → IsTrue (reads_input command) → input ≡ taken → length taken ≤ limit_of command → Consumes before after taken → IsAtEnd after
+    → IsTrue (reads_input command) → input ≡ taken → length taken ≤ limit_of command → Consumes before after taken
+    → IsAtEnd after
     → reply.status ≡ (due_within command input).status → text_bytes reply.text ≡ (due_within command input).text
     → (reply.status ≡ Done → Says (Some command) input (text_bytes reply.text)) → IsReply command before after reply
 short_replies command before after reply input taken reads is_taken fits consumed at_end status text says =
@@ -160,7 +161,8 @@ short_replies command before after reply input taken reads is_taken fits consume
 -- a reading that took one byte more than the limit makes the reply Long
 pub long_replies : (A : Type 0) (command : Command) (before after : Option Text) (reply : Reply) (end : ReadEnd)
     (limit : ℕ) (taken : Text)
-    → IsTrue (reads_input command) → end ≡ Reading.Long → limit ≡ limit_of command → reply.status ≡ Long → (text_bytes reply.text) ≡ []
+    → IsTrue (reads_input command) → end ≡ Reading.Long → limit ≡ limit_of command → reply.status ≡ Long
+    → (text_bytes reply.text) ≡ []
     → Took {A = A} limit (Err end) taken → Consumes before after taken → IsReply command before after reply
 long_replies A command before after reply end limit taken reads is_long is_limit status text took consumed =
     let one_more : length taken ≡ limit_of command + 1 =

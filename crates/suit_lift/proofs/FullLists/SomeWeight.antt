@@ -10,6 +10,7 @@ use Rattle.suit_game.specs.Gains.{is_declarer_turn}
 use Rattle.suit_game.specs.Histories.{History}
 use Rattle.suit_game.specs.PlaceViews.{IsPlay}
 use Rattle.suit_game.specs.Positions.{after, has_ended, legal}
+use Rattle.suit_game.proofs.DistinctLegalMoves.{legal_once}
 use Rattle.suit_game.proofs.ListSums.{sum_by-mul, sum_by_same, term_small}
 use Rattle.suit_game.proofs.PayDenominators.{legal_at-some}
 use Rattle.suit_classes.specs.declared.class_moves.ClassMove.{ClassMove}
@@ -23,7 +24,6 @@ use Rattle.suit_plans.specs.Masses.{defence_shares_at, plan_shares_at}
 use Rattle.suit_classes.proofs.UndecidedMoves.{HasFirst}
 use Rattle.suit_lift.specs.Lifts.{RowCounts, class_share, common, defence_way, is_lowest, plan_way, row_count}
 use Rattle.suit_lift.proofs.ClassFellows.{weights_total}
-use Rattle.suit_lift.proofs.LegalMoves.{once_legal}
 use Rattle.suit_lift.proofs.MergedMoves.{lowest_sum}
 use Rattle.suit_lift.proofs.PlanPays.{common_some, plan_weight}
 use Rattle.suit_lift.proofs.RowShares.{first_alone, share_when, some_above, some_merges}
@@ -71,7 +71,7 @@ plan_weighs question plan west history play goes own =
     (merge hands move) else 0)) moves
     (λ move. plan_weight question plan west history move own)
     ∙ sum_by-mul common (λ move. if is_lowest hands moves move then share (merge hands move) else 0) moves
-    ∙ ap (λ (n : ℕ). common * n) (lowest_sum hands share moves (once_legal question west history play)) in
+    ∙ ap (λ (n : ℕ). common * n) (lowest_sum hands share moves (legal_once question west history play)) in
     rw all (mul-pos common_some (shares_some row merges (legal_first question west history goes)))
 
 -- and that of a defence at each turn of the defenders'

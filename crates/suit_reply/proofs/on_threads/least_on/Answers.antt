@@ -71,8 +71,10 @@ loop-reply-preserved g c =
           omega (arith, replies.ok.0, next_inside replies.items c.loop-reply.yielded (Ok reply) later parts) in
           let within : done * size < many = (c.in_ok-reply-items.ensures.each done (Ok reply) below).0 in
           let some : 0 < min size (many - done * size) = omega (arith, within, c.max-size.ensures) in
-          let here = next_told (λ n found. (case : IsPlanFor c.args.tree.now plan) → IsReplyIn case.question plan (n * size)
-          (min size (many - n * size)) found.number found.moves.items) replies.items c.loop-reply.yielded later reply parts
+          let here = next_told (λ n found. (case : IsPlanFor c.args.tree.now plan)
+          → IsReplyIn case.question plan (n * size)
+          (min size (many - n * size)) found.number found.moves.items) replies.items c.loop-reply.yielded later reply
+          parts
           (λ n d inside. (c.in_ok-reply-items.ensures.each n d (omega (arith, inside, replies.ok.0))).1) in
           let fits : SFits w128 reply.number = search rules in
           let same : to_z w128 (of_z w128 reply.number) ≡ reply.number = to_z-of_z w128 reply.number fits in
@@ -86,7 +88,8 @@ loop-reply-preserved g c =
           let longer : length (yielded ++ next ∷ []) ≡ done + 1 = length-append yielded (next ∷ []) in
           subst (λ (n : ℕ). IsReplyIn case.question plan 0 (min (n * size) many)
           (to_z w128 (of_z w128 (number +ℤ to_z w128 (of_z w128 reply.number)))) c.append.new.self.items) (sym longer)
-          (subst (λ (z : ℤ). IsReplyIn case.question plan 0 (min ((done + 1) * size) many) z c.append.new.self.items) (sym sum)
+          (subst (λ (z : ℤ). IsReplyIn case.question plan 0 (min ((done + 1) * size) many) z c.append.new.self.items)
+          (sym sum)
           (subst (λ (l : List DefenceMove). IsReplyIn case.question plan 0 (min ((done + 1) * size) many)
           (number +ℤ reply.number) l) (sym c.in_ok-append.ensures.items)
           (chunk_more case.question plan many size done (min size (many - done * size)) some refl number reply.number
