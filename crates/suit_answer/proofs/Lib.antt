@@ -3,3 +3,4 @@ pub mod Fronts
 pub mod Lowest
 pub mod Numerals
 pub mod RowLoops
+pub mod SpacedWords

@@ -7,3 +7,5 @@ pub mod Numbers
 pub mod Reading
 pub mod Results
 pub mod Rows
+pub mod Writable
+pub mod Writing

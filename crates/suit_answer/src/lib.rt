@@ -12,11 +12,13 @@ mod reading;
 mod rows;
 mod sharing;
 mod values;
+mod writing;
 
 pub use answer::Answer;
 pub use faults::AnswerFault;
 pub use letters::ClassLetters;
 pub use reading::{MOST_TEXT, read_answer};
+pub use writing::{answer_text, write_move, write_number};
 
 /// Memory ran out.
 pub type Memory = std::alloc::AllocError;
