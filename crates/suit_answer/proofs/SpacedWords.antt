@@ -177,7 +177,32 @@ wrote_defence letters row counts history shares o a b c d e p q r ea eb ec ed ee
     made ∙ glue_5 o (codes "west") west (codes " at") turn (10 ∷ [])
     ∙ ap (λ (line : List ℕ). o ++ line) (sym (defence_line letters row))
 
--- the lines of an answer, after one another
+-- the text of an answer, line by line
+pub answer_spelled : (letters : List ℕ) (answer : Answer)
+    → flat_map line_text (answer_lines letters answer)
+    ≡ codes "answer 1\n" ++ (line_text (value_words answer.value)
+    ++ (flat_map line_text
+    (part_lines (codes "plan") (plan_row_words letters) answer.plan.den answer.plan.rows)
+    ++ (flat_map line_text
+    (part_lines (codes "defence") (defence_row_words letters) answer.defence.den answer.defence.rows)
+    ++ codes "end\n")))
+answer_spelled letters answer =
+    let value = value_words answer.value in
+    let plan = part_lines (codes "plan") (plan_row_words letters) answer.plan.den answer.plan.rows in
+    let defence = part_lines (codes "defence") (defence_row_words letters) answer.defence.den answer.defence.rows in
+    let end = (codes "end" ∷ []) ∷ [] in
+    let tail : flat_map line_text (plan ++ (defence ++ end))
+    ≡ flat_map line_text plan ++ (flat_map line_text defence ++ codes "end\n") =
+    flat_map-append line_text plan (defence ++ end)
+    ∙ ap (λ (more : List ℕ). flat_map line_text plan ++ more) (flat_map-append line_text defence end
+    ∙ ap (λ (more : List ℕ). flat_map line_text defence ++ more) end_line) in
+    flat_map-cons line_text (codes "answer" ∷ codes "1" ∷ []) (value ∷ (plan ++ (defence ++ end)))
+    ∙ ap (λ (line : List ℕ). line ++ flat_map line_text (value ∷ (plan ++ (defence ++ end)))) version_line
+    ∙ ap (λ (more : List ℕ). codes "answer 1\n" ++ more)
+    (flat_map-cons line_text value (plan ++ (defence ++ end))
+    ∙ ap (λ (more : List ℕ). line_text value ++ more) tail)
+
+-- the lines of an answer are written
 pub wrote_lines : (letters : List ℕ) (answer : Answer) (o a b c d : List ℕ)
     → o ≡ codes "answer 1\n" → a ≡ o ++ line_text (value_words answer.value)
     → b ≡ a ++ flat_map line_text (part_lines (codes "plan") (plan_row_words letters) answer.plan.den answer.plan.rows)
@@ -187,25 +212,9 @@ pub wrote_lines : (letters : List ℕ) (answer : Answer) (o a b c d : List ℕ)
 wrote_lines letters answer o a b c d eo ea eb ec ed =
     let first = codes "answer 1\n" in
     let value = line_text (value_words answer.value) in
-    let plan = part_lines (codes "plan") (plan_row_words letters) answer.plan.den answer.plan.rows in
-    let defence = part_lines (codes "defence") (defence_row_words letters) answer.defence.den answer.defence.rows in
-    let end = (codes "end" ∷ []) ∷ [] in
-    let made : d
-    ≡ (((first ++ value) ++ flat_map line_text plan) ++ flat_map line_text defence) ++ codes "end\n" =
-    rw (ed, ec, eb, ea, eo) refl in
-    let glued : (((first ++ value) ++ flat_map line_text plan) ++ flat_map line_text defence) ++ codes "end\n"
-    ≡ first ++ (value ++ (flat_map line_text plan ++ (flat_map line_text defence ++ codes "end\n"))) =
-    glue_4 first value (flat_map line_text plan) (flat_map line_text defence) (codes "end\n") in
-    let tail : flat_map line_text (plan ++ (defence ++ end))
-    ≡ flat_map line_text plan ++ (flat_map line_text defence ++ codes "end\n") =
-    flat_map-append line_text plan (defence ++ end)
-    ∙ ap (λ (more : List ℕ). flat_map line_text plan ++ more) (flat_map-append line_text defence end
-    ∙ ap (λ (more : List ℕ). flat_map line_text defence ++ more) (end_line)) in
-    let lines : flat_map line_text (answer_lines letters answer)
-    ≡ first ++ (value ++ (flat_map line_text plan ++ (flat_map line_text defence ++ codes "end\n"))) =
-    flat_map-cons line_text (codes "answer" ∷ codes "1" ∷ []) (value_words answer.value ∷ (plan ++ (defence ++ end)))
-    ∙ ap (λ (line : List ℕ). line ++ flat_map line_text (value_words answer.value ∷ (plan ++ (defence ++ end))))
-    version_line
-    ∙ ap (λ (more : List ℕ). first ++ more) (flat_map-cons line_text (value_words answer.value) (plan ++ (defence ++ end))
-    ∙ ap (λ (more : List ℕ). value ++ more) tail) in
-    made ∙ glued ∙ sym lines
+    let plan = flat_map line_text
+    (part_lines (codes "plan") (plan_row_words letters) answer.plan.den answer.plan.rows) in
+    let defence = flat_map line_text
+    (part_lines (codes "defence") (defence_row_words letters) answer.defence.den answer.defence.rows) in
+    let made : d ≡ (((first ++ value) ++ plan) ++ defence) ++ codes "end\n" = rw (ed, ec, eb, ea, eo) refl in
+    made ∙ glue_4 first value plan defence (codes "end\n") ∙ sym (answer_spelled letters answer)

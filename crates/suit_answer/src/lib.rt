@@ -4,6 +4,7 @@
 mod answer;
 mod faults;
 mod forms;
+pub mod laws;
 mod letters;
 mod lines;
 mod numbers;
@@ -11,6 +12,8 @@ mod parts;
 mod reading;
 mod rows;
 mod sharing;
+#[cfg(test)]
+mod tests;
 mod values;
 mod writing;
 
