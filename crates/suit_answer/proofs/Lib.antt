@@ -1,5 +1,11 @@
 pub mod Cuts
 pub mod Fronts
 pub mod Lowest
+pub mod MoveWords
+pub mod NumberWords
 pub mod Numerals
 pub mod RowLoops
+pub mod RowWords
+pub mod SpacedWords
+pub mod Steps
+pub mod TextTaken

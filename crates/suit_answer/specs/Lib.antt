@@ -1,3 +1,4 @@
+pub mod AnswerLaws
 pub mod Forms
 pub mod Fractions
 pub mod Letters
@@ -7,3 +8,5 @@ pub mod Numbers
 pub mod Reading
 pub mod Results
 pub mod Rows
+pub mod Writable
+pub mod Writing

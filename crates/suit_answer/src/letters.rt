@@ -1,6 +1,6 @@
 //! The letters of classes, and the words of moves.
 ghost use Rattle.std.specs.Prelude.{◌≡◌, ◌<◌, ◌≤◌, ◌==◌, IfSome, length, position, slice_index};
-ghost use Rattle.suit_classes.specs.Classes.{hands_of};
+ghost use Rattle.suit_classes.specs.Classes.{hands_of, class_count};
 ghost use Rattle.suit_answer.specs.Letters.{class_letters, class_named, hand_named, follow_named, move_read, move_due};
 ghost use Rattle.suit_answer.specs.Results.{Gives};
 
@@ -32,7 +32,8 @@ impl ClassLetters {
     /// The letters of the classes of a question.
     #[tactic(auto, unfolding(crate::specs::Letters::class_letters))]
     pub fn of(question: &Question) -> ClassLetters
-        ensures { result ≡ class_letters (hands_of question.now) }
+        ensures value { result ≡ class_letters (hands_of question.now) }
+        ensures each { length result ≡ class_count (hands_of question.now) }
     {
         let classes = Classes::of(question);
         let mut letters = ArrayVec::new();

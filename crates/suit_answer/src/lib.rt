@@ -4,6 +4,7 @@
 mod answer;
 mod faults;
 mod forms;
+pub mod laws;
 mod letters;
 mod lines;
 mod numbers;
@@ -11,12 +12,16 @@ mod parts;
 mod reading;
 mod rows;
 mod sharing;
+#[cfg(test)]
+mod tests;
 mod values;
+mod writing;
 
 pub use answer::Answer;
 pub use faults::AnswerFault;
 pub use letters::ClassLetters;
 pub use reading::{MOST_TEXT, read_answer};
+pub use writing::{answer_text, write_move, write_number};
 
 /// Memory ran out.
 pub type Memory = std::alloc::AllocError;

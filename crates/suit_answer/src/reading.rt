@@ -4,6 +4,8 @@ ghost use Rattle.suit_classes.specs.declared.classes.TheConstants.{MOST_DEFENCE_
 ghost use Rattle.suit_answer.specs.Lines.{pieces_of};
 ghost use Rattle.suit_answer.specs.Reading.{version_due, end_due, answer_due, answer_read};
 ghost use Rattle.suit_answer.specs.Results.{Gives};
+ghost use Rattle.suit_answer.specs.Writable.{IsWritable};
+ghost use Rattle.suit_answer.specs.Writing.{text_of};
 ghost use Rattle.suit_answer.specs.declared.faults.AnswerFault.TheVariants.{Memory};
 
 use crate::answer::Answer;
@@ -34,6 +36,8 @@ pub const MOST_TEXT: usize = 16_777_216;
 pub fn read_answer(alloc: Global, question: &Question, bytes: &[u8]) -> Result<Answer, AnswerFault>
     requires { length bytes.now ≤ MOST_TEXT }
     ensures value { IfOk result (λ answer. answer_read question.now bytes.now ≡ Ok answer) }
+    ensures written { IfOk result (λ answer. bytes.now ≡ text_of question.now answer) }
+    ensures writable { IfOk result (λ answer. IsWritable question.now answer) }
     ensures fault { IfErr result (λ fault. (answer_read question.now bytes.now ≡ Err fault) ⊎ (fault ≡ Memory)) }
 {
     let letters = ClassLetters::of(question);
