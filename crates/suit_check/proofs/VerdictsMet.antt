@@ -5,7 +5,7 @@ use Rattle.std.specs.Ordering.{int_eq}
 use Rattle.std.proofs.lemmas.Bool.{and_from, and_parts}
 use Rattle.std.proofs.lemmas.Bool.Decides.{Decides-int_eq}
 use Rattle.std.proofs.lemmas.Int.{ints}
-use Rattle.suit_num.proofs.IntegerLaws.{mul_positive}
+use Rattle.suit_num.proofs.IntegerLaws.{mul_positive, int_le-true}
 use Rattle.suit_game.specs.declared.question.Question.{Question}
 use Rattle.suit_game.specs.Layouts.{total}
 use Rattle.suit_game.specs.Validity.{IsValid}
@@ -14,7 +14,6 @@ use Rattle.suit_plans.specs.Properness.{IsProperDefence, IsProperPlan, defence_v
 use Rattle.suit_plans.specs.declared.faults.PlanFault.{PlanFault}
 use Rattle.suit_plans.proofs.ProperDefences.{proper_defence}
 use Rattle.suit_plans.proofs.ProperPlans.{proper_plan}
-use Rattle.suit_plans.proofs.SharedSums.{int_le-true}
 use Rattle.suit_answer.specs.declared.answer.Answer.{Answer}
 use Rattle.suit_check.specs.Verdicts.{Defence, Least, Most, Parts, Plan, Valid, parts_of, same_parts, unless_fault}
 use Rattle.suit_check.specs.Verdicts.{unless_other, value_of, verdict_of}
