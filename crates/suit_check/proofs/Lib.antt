@@ -1,0 +1,4 @@
+pub mod LowestTerms
+pub mod ToldFindings
+pub mod VerdictsMet
+pub mod Wholes
