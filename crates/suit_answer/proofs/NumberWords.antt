@@ -87,7 +87,8 @@ read_taken text n h =
     let outer = passed (is_filled text && not (has_spare_zero text)) (digits_read text) n h in
     let form = both_pass (is_filled text) (not (has_spare_zero text)) outer.0 in
     let lead = no_spare text form.0 form.1 in
-    let inner = passed (all_ascii_digits text && nat_lt (digits_value 10 text) (2 ^ 127)) (Some (digits_value 10 text)) n
+    let inner = passed (all_ascii_digits text
+    && nat_lt (digits_value 10 text) (2 ^ 127)) (Some (digits_value 10 text)) n
     outer.1 in
     let tests = both_pass (all_ascii_digits text) (nat_lt (digits_value 10 text) (2 ^ 127)) inner.0 in
     let small : digits_value 10 text < 2 ^ 127 = below (digits_value 10 text) (2 ^ 127) tests.1 in

@@ -204,7 +204,8 @@ module _ (letters : Text) (line : ℕ) where
       ≡ map decimal counts.0.0 ++ codes "at" ∷ turn_words letters history.0.0 shares.0 =
       west.spelled ∙ ap (λ (rest : List Text). map decimal counts.0.0 ++ codes "at" ∷ rest) turn.0 in
       subst
-      (λ (r : DefenceRow). (word ∷ words ≡ defence_row_words letters r) × IsWritableDefenceRow (length letters) classes r)
+      (λ (r : DefenceRow). (word ∷ words ≡ defence_row_words letters r)
+      × IsWritableDefenceRow (length letters) classes r)
       (ok_is made row number.1) (
         (λ i. same_text word (codes "west") tests.0 i ∷ spelled i),
         record {

@@ -2,4 +2,8 @@
 #![tactic(auto)]
 
 #[cfg(test)]
+mod checking;
+#[cfg(test)]
+mod solved;
+#[cfg(test)]
 mod tests;

@@ -175,8 +175,10 @@ fn words_and_lengths(rt: HostRuntime) -> Result<(), Fail> {
     let spaces = vec![in rt.alloc(); b' '; 2_097_153]?;
     let cases = [
         (["solve"].as_slice(), 2_097_153, 11),
+        (["check"].as_slice(), 2_097_153, 11),
         (["weigh"].as_slice(), 2_097_153, 11),
         (["solve", "now"].as_slice(), 3, 2),
+        (["check", "now"].as_slice(), 3, 2),
         (["weigh", "now"].as_slice(), 3, 2),
         (["make", "1", "1"].as_slice(), 3, 2),
         (["make", "1", "0"].as_slice(), 3, 2),
