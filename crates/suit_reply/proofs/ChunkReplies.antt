@@ -1,5 +1,5 @@
 -- chunk_more, all_chunks: the best reply to a plan, chunk by chunk of the class layouts.
-use Rattle.std.proofs.Common.{◌≡◌, ℕ, ◌+◌, ◌-◌, ◌*◌, ◌/◌, ◌%◌, ◌<◌, ◌≤◌, List, [], ◌∷◌, ◌++◌, length, get_or, min, refl}
+use Rattle.std.proofs.Common.{◌≡◌, ℕ, ◌+◌, ◌-◌, ◌*◌, ◌/◌, ◌%◌, ◌<◌, List, [], ◌∷◌, ◌++◌, length, get_or, min, refl}
 use Rattle.std.proofs.Common.{Ok, sym, ap, ◌∙◌, subst, arith, inl, inr}
 use Rattle.std.specs.Prelude.{FitsSigned, IfOk, Result, ℤ, ◌+ℤ◌}
 use Rattle.std.specs.Int.{w128}

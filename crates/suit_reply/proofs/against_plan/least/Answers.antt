@@ -1,4 +1,4 @@
-use Rattle.std.proofs.Common.{length, of_z, rules, SFits, to_z, ap, ◌∙◌}
+use Rattle.std.proofs.Common.{length, rules, SFits, ap, ◌∙◌}
 use Rattle.std.specs.Int.{w128}
 use Rattle.std.proofs.lemmas.Int.{to_z-of_z}
 use Rattle.suit_reply.proofs.LeastTotals.{all_moves, all_numbers}

@@ -1,4 +1,4 @@
-use Rattle.std.proofs.Common.{rules, ◌≡◌, ◌+◌, ◌<◌, ◌≤◌, ◌^◌, ℕ, [], get_or, length, ◌-◌, SFits, ℤ, pos, ◌+ℤ◌, ◌*ℤ◌, to_z}
+use Rattle.std.proofs.Common.{rules, ◌≡◌, ◌<◌, ◌^◌, ℕ, [], get_or, length, ◌-◌, SFits, ℤ, pos, ◌+ℤ◌, ◌*ℤ◌, to_z}
 use Rattle.std.proofs.Common.{of_z, arith, sym, ap, ◌∙◌, subst}
 use Rattle.std.specs.Int.{w128}
 use Rattle.std.proofs.lemmas.Int.{to_z-of_z, to_z_pos}

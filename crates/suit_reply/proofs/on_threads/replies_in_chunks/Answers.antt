@@ -1,4 +1,4 @@
-use Rattle.std.proofs.Common.{◌≡◌, ℕ, ◌-◌, ◌*◌, ◌<◌, length, min, IfOk, arith, ap, ◌∙◌, subst}
+use Rattle.std.proofs.Common.{◌≡◌, ℕ, ◌-◌, ◌*◌, length, min, IfOk, arith, ap, ◌∙◌, subst}
 use Rattle.std.specs.Prelude.{slice_index_or}
 use Rattle.suit_reply.specs.AgainstPlan.{IsPlanFor}
 use Rattle.suit_reply.specs.LayoutsReplies.{IsReplyIn}
