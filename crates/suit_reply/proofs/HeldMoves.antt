@@ -1,5 +1,4 @@
 -- own_moves_on: at a turn of declarer the moves to the nodes below a node are his class moves, in order.
-pub mod FittedNodes
 use Rattle.std.proofs.Common.{◌≡◌, ℕ, Bool, true, false, List, [], ◌∷◌, ◌++◌, length, map, sym, ap, ◌∙◌}
 use Rattle.std.proofs.Common.{subst}
 use Rattle.std.specs.Prelude.{Some, Contains, get_or, nat_lt}
@@ -30,7 +29,7 @@ use Rattle.suit_tree.proofs.HeldMoves.{going_on, index_goes_on, some_held}
 use Rattle.suit_classes.proofs.EveryMove.{class_moves_listed}
 use Rattle.suit_layouts.specs.ClassLayouts.{class_layouts}
 use Rattle.suit_reply.specs.NodeMoves.{move_of, or_show_out}
-use Rattle.suit_reply.proofs.HeldMoves.FittedNodes.{map_fitted}
+use Rattle.suit_tree.proofs.FittedNodes.{map_fitted}
 use Rattle.std.proofs.lemmas.List.{map-id}
 
 -- ---- class histories, and the nodes of a tree

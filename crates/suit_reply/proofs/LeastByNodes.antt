@@ -31,7 +31,7 @@ use Rattle.suit_reply.specs.NodeReplies.{NodeReplyView, nothing}
 use Rattle.suit_reply.specs.Turns.{finished, gathered}
 use Rattle.suit_reply.specs.NodeMoves.{holds_layout, is_first_of, move_of, or_show_out}
 use Rattle.suit_reply.specs.AgainstPlan.{least_at, node_least, nodes_for, plan_share}
-use Rattle.suit_reply.proofs.HeldMoves.FittedNodes.{map_fitted, map_fitted_kept}
+use Rattle.suit_tree.proofs.FittedNodes.{map_fitted, map_fitted_kept}
 use Rattle.suit_reply.proofs.TurnReplies.GatheredWorths.{found_with, least_gathered, results_of, same_found}
 use Rattle.suit_plans.proofs.WhoseTurns.{Declarers, Defences, Over, WhoseTurn, whose_turn}
 use Rattle.suit_tree.proofs.HeldMoves.{held_decides, held_moves, index_goes_on}

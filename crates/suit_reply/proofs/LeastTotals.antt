@@ -47,6 +47,7 @@ pub first_case : (question : Question) (plan : Plan) (index : ℕ) → IsValid q
     → index < length (layouts_of question) → LeastCase 52 question plan index []
 first_case question plan index valid proper below = record {
   valid = valid;
+  proper = proper;
   realised = plans_are_realised question plan (layout_counts question index) valid proper;
   held = subst (λ (l : Indices). Contains l index) (sym (allowing_first question))
       (Contains-range 0 (length (layouts_of question)) index (omega arith) (omega (arith, below)));

@@ -37,7 +37,7 @@ use Rattle.suit_reply.specs.NodeReplies.{NodeReplyView, nothing}
 use Rattle.suit_reply.specs.Turns.{TurnView, finished, gathered, gathered_none, joined}
 use Rattle.suit_reply.specs.AgainstPlan.{LeastNode, goes_to, least_at, node_least, nodes_for, plan_share}
 use Rattle.suit_reply.specs.NodeMoves.{holds_layout, is_first_of, move_of, or_show_out}
-use Rattle.suit_reply.proofs.HeldMoves.FittedNodes.{fitted_node}
+use Rattle.suit_tree.proofs.FittedNodes.{fitted_node}
 use Rattle.suit_reply.proofs.TurnReplies.GatheredWorths.{found_with, gathered-push}
 use Rattle.suit_plans.proofs.WhoseTurns.{Declarers, Defences, Over, WhoseTurn, whose_turn}
 use Rattle.suit_tree.proofs.HeldMoves.{held_decides, index_goes_on}
@@ -311,6 +311,7 @@ module _ (rows : List Row) (index : ℕ) (history : ClassHistory) (mass : ℤ) (
   pub node_case : LeastCase (52 - length history) is.question is.plan index history
   node_case = record {
     valid = is.valid;
+    proper = is.proper;
     realised = plans_are_realised is.question is.plan (layout_counts is.question index) is.valid is.proper;
     held = is.held;
     left = refl;

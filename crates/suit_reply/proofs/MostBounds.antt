@@ -1,21 +1,23 @@
 -- most_paid: what the best reply to a defence is worth lies between nothing and thirteen tricks of the masses.
-use Rattle.std.proofs.Common.{◌≡◌, ℕ, zero, suc, ◌≤◌, Bool, true, false, List, [], ◌∷◌, ◌++◌, map, take, refl, sym, ap}
+use Rattle.std.proofs.Common.{◌≡◌, ℕ, suc, ◌≤◌, Bool, true, false, List, [], ◌∷◌, ◌++◌, map, take, refl, sym, ap}
 use Rattle.std.proofs.Common.{◌∙◌, subst, arith}
-use Rattle.std.specs.Prelude.{Contains, if◌then◌else◌, ℤ, pos, ◌*ℤ◌, ◌≤ℤ◌, int_lt}
-use Rattle.std.specs.Int.{int_max}
-use Rattle.std.proofs.lemmas.Int.{ints, clamps}
+use Rattle.std.specs.Prelude.{Contains, length, if◌then◌else◌, ℤ, pos, ◌*ℤ◌, ◌≤ℤ◌, int_lt}
+use Rattle.std.proofs.lemmas.Int.{ints}
 use Rattle.std.proofs.lemmas.List.Elements.{All-contains, filter_agree, filter_passes}
-use Rattle.suit_cards.specs.Cards.{Indices}
+use Rattle.std.proofs.lemmas.Bool.{lt-ltb}
+use Rattle.std.proofs.lemmas.Simd.{map-map}
+use Rattle.suit_cards.specs.Cards.{Counts, Indices}
 use Rattle.suit_game.specs.declared.question.Question.{Question}
 use Rattle.suit_game.proofs.EachElement.{Contains-nil, map_same}
 use Rattle.suit_classes.specs.declared.class_moves.ClassMove.{ClassMove}
 use Rattle.suit_classes.specs.AllowedHistories.{is_among}
 use Rattle.suit_classes.specs.ClassPlaces.{class_after, class_decided, class_payoff}
 use Rattle.suit_classes.specs.ClassMoves.{ClassHistory}
-use Rattle.suit_plans.specs.BestReplies.{Reply, best_of, reply_to_defence, worth_within}
+use Rattle.suit_plans.specs.BestReplies.{Reply, reply_to_defence, worth, worth_within}
 use Rattle.suit_plans.specs.Masses.{defence_mass}
-use Rattle.suit_plans.specs.Properness.{sum_of}
-use Rattle.suit_plans.specs.ReplyLaws.{IsPaid}
+use Rattle.suit_plans.specs.Properness.{some_allows, sum_of}
+use Rattle.suit_plans.specs.ReplyLaws.{IsPaid, masses_of}
+use Rattle.suit_plans.proofs.DefenceWorths.{defences_paid}
 use Rattle.suit_plans.proofs.NumberSums.{first_sums, sum_kept, sums_exchanged}
 use Rattle.suit_plans.proofs.PaidWorths.{paid_most, product_paid, sum_paid}
 use Rattle.suit_plans.specs.declared.defence.Defence.{Defence}
@@ -24,18 +26,17 @@ use Rattle.suit_tree.specs.declared.node.Node.{Node}
 use Rattle.suit_tree.specs.Nodes.{payoff_at}
 use Rattle.suit_tree.specs.Trees.{StandsAt, allowing, moves_on}
 use Rattle.suit_reply.specs.AgainstDefence.{LayoutMasses, is_live}
-use Rattle.suit_reply.proofs.MostByNodes.AllowingLayouts.{earned_at, mass_at}
+use Rattle.suit_reply.specs.LayoutsReplies.{layout_at}
+use Rattle.suit_reply.proofs.MostByNodes.AllowingLayouts.{allowing_at, mass_at, some_allows_at}
 use Rattle.suit_reply.proofs.Totals.{le_through}
 use Rattle.suit_plans.proofs.WhoseTurns.{Declarers, Defences, Over, WhoseTurn, whose_turn}
 use Rattle.suit_tree.proofs.HeldMoves.{held_is, held_moves}
 use Rattle.suit_tree.specs.Nodes.{is_held}
 use Rattle.suit_reply.proofs.HeldMoves.{IsDefencesTurn, IsGoing, layout_counts, layout_moves}
-use Rattle.suit_reply.proofs.LeastBounds.{best_paid}
 use Rattle.suit_reply.proofs.MostByNodes.LiveMasses.{held_at, live_total}
 use Rattle.suit_reply.proofs.MostByNodes.MassesBelow.{going_with, goes_with, masses_stay}
-use Rattle.suit_reply.proofs.MostByNodes.Cases.{MostCase, masses_at, most_decided, most_moves, most_next, none_left}
-use Rattle.suit_reply.proofs.MostByNodes.Cases.{index_allows, index_positive, index_realised, some_on, some_index}
-use Rattle.suit_reply.proofs.TurnReplies.{worth_on}
+use Rattle.suit_reply.proofs.MostByNodes.Cases.{MostCase, masses_at, most_next, none_left}
+use Rattle.suit_reply.proofs.MostByNodes.Cases.{index_allows, index_positive, index_realised, some_index}
 
 -- the mass that the defence lets through to a class history in all class layouts
 abbrev pub mass_sum : Question → Defence → ClassHistory → ℤ
@@ -44,15 +45,6 @@ mass_sum question defence history = sum_of (map (λ held. held.1) (masses_at que
 -- the same over all class layouts that allow the history
 abbrev mass_all : Question → Defence → ClassHistory → ℤ
 mass_all question defence history = sum_of (map (mass_at question defence history) (allowing question history))
-
-greater_paid : (mass a b : ℤ) → IsPaid mass a → IsPaid mass b → IsPaid mass (int_max a b)
-greater_paid mass a b first later =
-    let most = greater a b (pos 13 *ℤ mass) first.some first.few later.some later.few in
-    record { some = most.0; few = most.1 }
-  where
-    greater : (a b top : ℤ) → pos 0 ≤ℤ a → a ≤ℤ top → pos 0 ≤ℤ b → b ≤ℤ top
-        → (pos 0 ≤ℤ int_max a b) × (int_max a b ≤ℤ top)
-    greater a b top p q r s = (omega (arith, ints, clamps), omega (arith, ints, clamps))
 
 -- what the moves of a turn are worth
 abbrev most_next_worth : ℕ → Question → Defence → ClassHistory → ClassMove → ℤ
@@ -161,18 +153,6 @@ module _ (question : Question) (defence : Defence) where
 
   -- ---- what a history is worth
 
-  earned_paid : (more : ℕ) (history : ClassHistory) → MostCase more question defence history
-      → IsPaid (mass_sum question defence history) ((reply_to_defence question defence).earned history)
-  earned_paid more history is =
-      let payoff : ℕ = class_payoff (class_after question history) in
-      let mass : ℕ → ℤ = mass_at question defence history in
-      subst (λ (z : ℤ). IsPaid z ((reply_to_defence question defence).earned history)) (sym (sum_all more history is))
-      (subst (IsPaid (mass_all question defence history)) (sym (earned_at question defence history))
-      (sum_paid (λ index. pos payoff *ℤ mass index) mass (allowing question history)
-      (λ index found. product_paid payoff (mass index)
-      (paid_most question (layout_counts question index) history (index_allows question history index is.valid found))
-      (index_positive question defence more history index is found))))
-
   shared_paid : (more : ℕ) (history : ClassHistory) → MostCase (suc more) question defence history
       → ArePaid more question defence history → IsGoing question history → IsDefencesTurn question history
       → IsPaid (mass_sum question defence history)
@@ -184,53 +164,22 @@ module _ (question : Question) (defence : Defence) where
       (sum_paid (most_next_worth more question defence history)
       (λ move. mass_sum question defence (history ++ move ∷ [])) (moves_on question history) paid)
 
-  turn_paid : (more : ℕ) (history : ClassHistory) (moves : List ClassMove)
-      → MostCase (suc more) question defence history → ArePaid more question defence history
-      → moves_on question history ≡ moves → WhoseTurn (class_after question history)
-      → IsPaid (mass_sum question defence history) (worth_within (suc more) (reply_to_defence question defence) history)
-  turn_paid more history moves is paid some (Over decided turn) =
-      subst (IsPaid (mass_sum question defence history))
-      (sym (most_decided question defence (suc more) history decided)) (earned_paid (suc more) history is)
-  turn_paid more history [] is paid none (Declarers going own not_theirs) =
-      absurd (some_on question defence (suc more) history is going none)
-  turn_paid more history (move ∷ moves) is paid some (Declarers going own not_theirs) =
-      let reply : Reply = reply_to_defence question defence in
-      let worths : ClassMove → ℤ = most_next_worth more question defence history in
-      let whole : worth_within (suc more) reply history ≡ best_of int_max (map worths (move ∷ moves)) =
-      worth_on reply more history (move ∷ moves) (most_moves question defence history (move ∷ moves) some)
-      ∙ ap (λ (b : Bool). if b then best_of reply.best (map worths (move ∷ moves))
-      else sum_of (map worths (move ∷ moves))) own in
-      subst (IsPaid (mass_sum question defence history)) (sym whole)
-      (best_paid int_max worths (mass_sum question defence history) move moves
-      (greater_paid (mass_sum question defence history))
-      (λ other found.
-      let there : Contains (moves_on question history) other =
-      subst (λ (l : List ClassMove). Contains l other) (sym some) found in
-      subst (λ (l : LayoutMasses). IsPaid (sum_of (map (λ held. held.1) l)) (worths other))
-      (masses_stay question defence history other is.valid own not_theirs there) (paid other there)))
-  turn_paid more history [] is paid none (Defences going not_own theirs) =
-      absurd (some_on question defence (suc more) history is going none)
-  turn_paid more history (move ∷ moves) is paid some (Defences going not_own theirs) =
-      let reply : Reply = reply_to_defence question defence in
-      let worths : ClassMove → ℤ = most_next_worth more question defence history in
-      let whole : worth_within (suc more) reply history ≡ sum_of (map worths (move ∷ moves)) =
-      worth_on reply more history (move ∷ moves) (most_moves question defence history (move ∷ moves) some)
-      ∙ ap (λ (b : Bool). if b then best_of reply.best (map worths (move ∷ moves))
-      else sum_of (map worths (move ∷ moves))) not_own in
-      subst (IsPaid (mass_sum question defence history))
-      (ap (λ (l : List ClassMove). sum_of (map worths l)) some ∙ sym whole)
-      (shared_paid more history is paid going theirs)
-
   -- what the best reply to a defence is worth from a class history on is not negative, and at most thirteen tricks of
   -- the masses that come to it
   pub most_paid : (more : ℕ) (history : ClassHistory) → MostCase more question defence history
       → IsPaid (mass_sum question defence history) (worth_within more (reply_to_defence question defence) history)
-  unfolding worth_within
-  most_paid zero history is = earned_paid zero history is
-  most_paid (suc more) history is =
-      turn_paid more history (moves_on question history) is
-      (λ move found. most_paid more (history ++ move ∷ []) (most_next question defence more history move is found)) refl
-      (whose_turn (class_after question history))
+  most_paid more history is =
+      let reply : Reply = reply_to_defence question defence in
+      let mass : Counts × ℕ → ℤ = λ layout. defence_mass question defence layout.0 history in
+      let indices : Indices = allowing question history in
+      let masses : sum_of (masses_of question defence history) ≡ mass_sum question defence history =
+      ap (λ (l : List (Counts × ℕ)). sum_of (map mass l)) (allowing_at question history)
+      ∙ ap sum_of (map-map mass (layout_at question) indices) ∙ sym (sum_all more history is) in
+      let some : some_allows question history ≡ true =
+      some_allows_at question history ∙ lt-ltb 0 (length indices) is.some in
+      subst (λ (n : ℕ). IsPaid (mass_sum question defence history) (worth_within n reply history)) (sym is.left)
+      (subst (λ (z : ℤ). IsPaid z (worth reply history)) masses
+      (defences_paid question defence history is.valid is.proper some))
 
   -- ---- sums on the way
 

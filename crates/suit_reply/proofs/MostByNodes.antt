@@ -30,7 +30,7 @@ use Rattle.suit_reply.specs.NodeMoves.{holds_layout, move_of, or_show_out}
 use Rattle.suit_reply.specs.AgainstDefence.{LayoutMasses, if_live, is_live, layout_share, most_at, node_most}
 use Rattle.suit_reply.specs.AgainstDefence.{shared_masses}
 use Rattle.suit_reply.proofs.MostByNodes.AllowingLayouts.{earned_at, mass_at}
-use Rattle.suit_reply.proofs.HeldMoves.FittedNodes.{map_fitted}
+use Rattle.suit_tree.proofs.FittedNodes.{map_fitted}
 use Rattle.suit_reply.proofs.TurnReplies.GatheredWorths.{found_with, most_gathered, results_of, same_found}
 use Rattle.suit_plans.proofs.WhoseTurns.{Declarers, Defences, Over, WhoseTurn, whose_turn}
 use Rattle.suit_reply.proofs.HeldMoves.{AreBelow, AreChildren, IsDecided, IsDeclarersTurn, IsDefencesTurn, IsGoing}

@@ -33,7 +33,7 @@ use Rattle.suit_reply.specs.AgainstDefence.{LayoutMasses, MostNode, if_live, mos
 use Rattle.suit_reply.specs.AgainstDefence.{shared_masses}
 use Rattle.suit_reply.specs.NodeMoves.{move_of, or_show_out}
 use Rattle.suit_reply.proofs.MostWalks.AskedNodes.{HasBelow, IsStep, has_below, masses_below, node_case, none_gathered}
-use Rattle.suit_reply.proofs.HeldMoves.FittedNodes.{map_fitted}
+use Rattle.suit_tree.proofs.FittedNodes.{map_fitted}
 use Rattle.suit_reply.proofs.TurnReplies.GatheredWorths.{found_with, gathered-push, results_of, sum_gathered, worths_of}
 use Rattle.suit_plans.proofs.WhoseTurns.{Declarers, Defences, Over, WhoseTurn, whose_turn}
 use Rattle.suit_reply.proofs.HeldMoves.{AreBelow, IsDefencesTurn, IsGoing, layouts_of}

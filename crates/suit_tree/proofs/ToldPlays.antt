@@ -136,7 +136,7 @@ children_moves (suc more) question path index node valid long tree held going =
     (moves_on question path) (children_of node) tree.1
     (λ move child fits. let stands = tree_stands more question (path ++ move ∷ []) child fits.1 in
     ap (is_held index) stands.layouts)
-    (λ move child fits. fits.0)
+    (λ move child may fits. fits.0)
     ∙ ap (map Some) (held_moves question path index valid held going)
 
 -- a node at the path to which a legal history merges tells what play of single cards does after it
@@ -227,7 +227,7 @@ tree_rises (suc more) question path node tree =
     record {
       moves = moves_on question path;
       lead = map_fitted Fits move_to Some (moves_on question path) (children_of node) tree.1
-          (λ move child fits. fits.0);
+          (λ move child found fits. fits.0);
       order = moves_on-rises question path;
     }
 

@@ -17,6 +17,7 @@ use Rattle.suit_classes.specs.ClassMoves.{ClassHistory}
 use Rattle.suit_plans.specs.BestReplies.{Reply, reply_to_plan, worth_within}
 use Rattle.suit_plans.specs.Masses.{declarer}
 use Rattle.suit_plans.specs.PlanLaws.{AreRealised}
+use Rattle.suit_plans.specs.Properness.{IsProperPlan}
 use Rattle.suit_plans.specs.declared.plan.Plan.{Plan}
 use Rattle.suit_tree.specs.Trees.{allowing}
 use Rattle.suit_tree.proofs.CountedNodes.{kept_layouts}
@@ -28,6 +29,7 @@ use Rattle.suit_reply.proofs.TurnReplies.{walked_on, worth_on}
 -- what a node is asked for: the reply to a plan from a class history on, which the class layout at an index allows
 pub record LeastCase (more : ℕ) (question : Question) (plan : Plan) (index : ℕ) (history : ClassHistory) : Type 0 where
   pub valid : IsValid question
+  pub proper : IsProperPlan question plan
   pub realised : AreRealised question (declarer plan.den plan.rows) (layout_counts question index)
   pub held : Contains (allowing question history) index
   pub left : more ≡ 52 - length history
@@ -48,6 +50,7 @@ module _ (question : Question) (plan : Plan) (index : ℕ) where
       → LeastCase more question plan index (history ++ move ∷ [])
   case_next more history move is found = record {
     valid = is.valid;
+    proper = is.proper;
     realised = is.realised;
     held = (index_goes_on question history move index is.valid is.held).1 found;
     left = omega (arith, is.left, length-append history (move ∷ []));

@@ -29,7 +29,7 @@ use Rattle.suit_reply.specs.declared.turn_rule.TurnRule.TheVariants.{Sum, Least}
 use Rattle.suit_reply.specs.NodeReplies.{NodeReplyView}
 use Rattle.suit_reply.specs.Turns.{TurnView, gathered, joined}
 use Rattle.suit_reply.specs.AgainstPlan.{LeastNode, nodes_for, plan_share}
-use Rattle.suit_reply.proofs.HeldMoves.FittedNodes.{map_fitted}
+use Rattle.suit_tree.proofs.FittedNodes.{map_fitted}
 use Rattle.suit_reply.proofs.TurnReplies.GatheredWorths.{results_of, sum_gathered}
 use Rattle.suit_plans.proofs.WhoseTurns.{Declarers, Defences, Over, WhoseTurn, whose_turn}
 use Rattle.suit_reply.proofs.HeldMoves.{AreBelow, AreChildren, IsDeclarersTurn, IsGoing, NotDefencesTurn}

@@ -1,26 +1,25 @@
 -- most_next, most_empty: the class histories that some class layout allows, where declarer replies to a defence.
 use Rattle.std.proofs.Common.{◌≡◌, ℕ, zero, suc, ◌-◌, ◌<◌, Bool, true, false, List, [], ◌∷◌, ◌++◌, length, refl, sym}
 use Rattle.std.proofs.Common.{ap, ◌∙◌, subst, inl, inr, arith}
-use Rattle.std.specs.Prelude.{Contains, filter, get_or, nat_lt, if◌then◌else◌, ℤ, pos, ◌*ℤ◌, ◌≤ℤ◌}
+use Rattle.std.specs.Prelude.{Contains, filter, get_or, nat_lt, if◌then◌else◌, ℤ, pos, ◌≤ℤ◌}
 use Rattle.std.proofs.lemmas.Bool.{cases_Bool, lt-ltb}
-use Rattle.std.proofs.lemmas.Int.{ints}
 use Rattle.std.proofs.lemmas.List.{length-append}
 use Rattle.std.proofs.lemmas.List.Elements.{All-contains, All-contains_itself, All-filter, Contains-get_or}
-use Rattle.std.proofs.Math.IntN.{*ℤ_comm, zero-*ℤ}
 use Rattle.suit_cards.specs.Cards.{Counts, Indices}
 use Rattle.suit_game.specs.declared.question.Question.{Question}
 use Rattle.suit_game.specs.Validity.{IsValid}
-use Rattle.suit_game.proofs.EachElement.{Contains-first, Contains-nil}
+use Rattle.suit_game.proofs.EachElement.{Contains-first, Contains-map_from, Contains-nil}
 use Rattle.suit_classes.specs.declared.class_moves.ClassMove.{ClassMove}
 use Rattle.suit_classes.specs.AllowedHistories.{allows, every_move}
 use Rattle.suit_classes.specs.ClassGame.{Allows}
-use Rattle.suit_classes.specs.ClassPlaces.{class_after, class_moves, class_payoff}
+use Rattle.suit_classes.specs.ClassPlaces.{class_after, class_moves}
 use Rattle.suit_classes.proofs.AllowedHistories.{allowed_moves}
 use Rattle.suit_classes.proofs.DecidedPlays.{class_histories_are_short}
 use Rattle.suit_classes.specs.ClassMoves.{ClassHistory}
 use Rattle.suit_plans.specs.BestReplies.{Reply, reply_to_defence, worth_within}
 use Rattle.suit_plans.specs.Masses.{defence_mass, defenders}
 use Rattle.suit_plans.specs.PlanLaws.{AreRealised}
+use Rattle.suit_plans.specs.Properness.{IsProperDefence}
 use Rattle.suit_plans.specs.declared.defence.Defence.{Defence}
 use Rattle.suit_plans.proofs.MassBounds.{mass_falls}
 use Rattle.suit_classes.proofs.UndecidedMoves.{some_move}
@@ -28,8 +27,7 @@ use Rattle.suit_tree.specs.Trees.{allowing, counts_at, layout_indices, moves_on}
 use Rattle.suit_tree.proofs.CountedNodes.{kept_layouts, some_of}
 use Rattle.suit_tree.proofs.MovesOn.{Contains-moves_on, moves_on-parts}
 use Rattle.suit_reply.specs.NodeReplies.{nothing}
-use Rattle.suit_reply.proofs.MostByNodes.AllowingLayouts.{earned_at, live_at, mass_at, reply_goes_on}
-use Rattle.suit_reply.proofs.LeastByNodes.NoMass.{worth_none_at}
+use Rattle.suit_reply.proofs.MostByNodes.AllowingLayouts.{allowing_at, live_at, mass_at, reply_goes_on, some_allows_at}
 use Rattle.suit_reply.proofs.TurnReplies.GatheredWorths.{same_found}
 use Rattle.suit_tree.proofs.HeldMoves.{index_goes_on}
 use Rattle.suit_reply.proofs.HeldMoves.{IsDecided, IsGoing, layout_counts, layout_moves, layouts_of}
@@ -37,11 +35,13 @@ use Rattle.suit_reply.proofs.MostByNodes.LiveMasses.{any_live, live_masses, none
 use Rattle.suit_reply.proofs.TurnReplies.{found_from, walked_on, worth_on}
 use Rattle.suit_reply.proofs.ReachedChoices.Walks.{walked, walked_none}
 use Rattle.suit_reply.specs.AgainstDefence.{LayoutMasses}
-use Rattle.suit_plans.proofs.NumberSums.{sum_nothing}
+use Rattle.suit_plans.proofs.DefenceWorths.{no_masses_no_worth}
+use Rattle.suit_reply.specs.LayoutsReplies.{layout_at}
 
 -- what a node is asked for: the reply to a defence from a class history on, which some class layout allows
 pub record MostCase (more : ℕ) (question : Question) (defence : Defence) (history : ClassHistory) : Type 0 where
   pub valid : IsValid question
+  pub proper : IsProperDefence question defence
   pub realised : (index : ℕ) → Contains (layout_indices (layouts_of question)) index
       → AreRealised question (defenders question defence.den defence.rows (layout_counts question index))
       (layout_counts question index)
@@ -125,6 +125,7 @@ module _ (question : Question) (defence : Defence) where
       → Contains (moves_on question history) move → MostCase more question defence (history ++ move ∷ [])
   most_next more history move is found = record {
     valid = is.valid;
+    proper = is.proper;
     realised = is.realised;
     some = (moves_on-parts question history move found).1;
     left = omega (arith, is.left, length-append history (move ∷ []));
@@ -202,41 +203,18 @@ module _ (question : Question) (defence : Defence) where
       not_above (mass_at question defence history index) (index_positive more history index is found)
       (none_live (mass_at question defence history) (allowing question history) none index found)
 
-  none_after : (more : ℕ) (history : ClassHistory) (move : ClassMove) → MostCase (suc more) question defence history
-      → MostCase more question defence (history ++ move ∷ [])
-      → ((index : ℕ) → Contains (allowing question history) index → mass_at question defence history index ≡ pos 0)
-      → (index : ℕ) → Contains (allowing question (history ++ move ∷ [])) index
-      → mass_at question defence (history ++ move ∷ []) index ≡ pos 0
-  none_after more history move is next none index found =
-      let before = index_before question history move index is.valid found in
-      let falls : mass_at question defence (history ++ move ∷ []) index ≤ℤ mass_at question defence history index =
-      index_falls (suc more) history move index is before.0 before.1 in
-      let positive : pos 0 ≤ℤ mass_at question defence (history ++ move ∷ []) index =
-      index_positive more (history ++ move ∷ []) index next found in
-      omega (arith, ints, falls, positive, none index before.0)
-
-  none_paid : (history : ClassHistory)
-      → ((index : ℕ) → Contains (allowing question history) index → mass_at question defence history index ≡ pos 0)
-      → (reply_to_defence question defence).earned history ≡ pos 0
-  none_paid history none =
-      let payoff : ℤ = pos (class_payoff (class_after question history)) in
-      earned_at question defence history
-      ∙ sum_nothing (λ index. payoff *ℤ mass_at question defence history index) (allowing question history)
-      (λ index found. ap (λ (m : ℤ). payoff *ℤ m) (none index found) ∙ *ℤ_comm payoff (pos 0) ∙ zero-*ℤ payoff)
-
   most_none : (more : ℕ) (history : ClassHistory) → MostCase more question defence history
       → ((index : ℕ) → Contains (allowing question history) index → mass_at question defence history index ≡ pos 0)
       → worth_within more (reply_to_defence question defence) history ≡ pos 0
-  unfolding worth_within
-  most_none zero history is none = none_paid history none
-  most_none (suc more) history is none =
-      let reply : Reply = reply_to_defence question defence in
-      worth_on reply more history (moves_on question history) (reply_goes_on question defence history)
-      ∙ worth_none_at reply history (λ move. worth_within more reply (history ++ move ∷ [])) (moves_on question history)
-      (reply.replies history) refl refl (none_paid history none)
-      (λ move found.
-      let next = most_next more history move is found in
-      most_none more (history ++ move ∷ []) next (none_after more history move is next none))
+  most_none more history is none =
+      let indices : Indices = allowing question history in
+      ap (λ (n : ℕ). worth_within n (reply_to_defence question defence) history) is.left
+      ∙ no_masses_no_worth question defence history is.valid is.proper
+      (some_allows_at question history ∙ lt-ltb 0 (length indices) is.some)
+      (λ layout found.
+      let from = Contains-map_from (layout_at question) indices layout
+      (subst (λ (l : List (Counts × ℕ)). Contains l layout) (allowing_at question history) found) in
+      ap (λ (other : Counts × ℕ). defence_mass question defence other.0 history) (sym from.2) ∙ none from.0 from.1)
 
   -- where no mass is above 0 the reply is worth nothing and has no choices
   pub most_empty : (more : ℕ) (history : ClassHistory) → MostCase more question defence history

@@ -30,7 +30,7 @@ use Rattle.suit_tree.proofs.NodePaths.{tree_stands}
 use Rattle.suit_reply.specs.NodeMoves.{holds_layout, move_of, or_show_out}
 use Rattle.suit_reply.specs.AgainstDefence.{is_live, layout_share}
 use Rattle.suit_reply.proofs.MostByNodes.AllowingLayouts.{mass_at}
-use Rattle.suit_reply.proofs.HeldMoves.FittedNodes.{map_fitted_kept}
+use Rattle.suit_tree.proofs.FittedNodes.{map_fitted_kept}
 use Rattle.suit_tree.proofs.HeldMoves.{held_is, held_moves}
 use Rattle.suit_tree.specs.Nodes.{is_held}
 use Rattle.suit_reply.proofs.HeldMoves.{AreBelow, AreChildren, IsDeclarersTurn, IsDefencesTurn, IsGoing}

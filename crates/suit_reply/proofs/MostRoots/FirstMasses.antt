@@ -62,6 +62,7 @@ module _ (question : Question) (defence : Defence) (valid : IsValid question)
       let some : 0 < length layouts = some_weighed layouts (omega (arith, valid.has_weight, weights_add question)) in
       record {
         valid = valid;
+        proper = proper;
         realised =
             λ index found. defences_are_realised question defence (layout_counts question index) valid proper
             (index_weighs question index valid found).1;

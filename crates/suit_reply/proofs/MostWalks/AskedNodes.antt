@@ -31,7 +31,7 @@ use Rattle.suit_reply.proofs.MostByNodes.AllowingLayouts.{mass_at}
 use Rattle.suit_reply.proofs.MostRoots.FirstMasses.{index_weighs}
 use Rattle.suit_plans.proofs.WhoseTurns.{Declarers, Defences, Over, WhoseTurn, whose_turn}
 use Rattle.suit_reply.proofs.HeldMoves.{AreBelow, AreChildren, layout_counts, layouts_of}
-use Rattle.suit_reply.proofs.HeldMoves.FittedNodes.{fitted_at}
+use Rattle.suit_tree.proofs.FittedNodes.{fitted_at}
 use Rattle.suit_reply.proofs.MostByNodes.LiveMasses.{held_at}
 use Rattle.suit_reply.proofs.MostByNodes.MassesBelow.{masses_pass, masses_stay}
 use Rattle.suit_reply.proofs.MostBounds.{live_positive, mass_sum, node_pays, sum_falls}
@@ -113,6 +113,7 @@ module _ (layouts : List (Counts × ℕ)) (rows : List DefenceRow) (history : Cl
   pub node_case : MostCase (52 - length history) is.question is.defence history
   node_case = record {
     valid = is.valid;
+    proper = is.proper;
     realised =
         λ index found. defences_are_realised is.question is.defence (layout_counts is.question index) is.valid is.proper
         (index_weighs is.question index is.valid found).1;
