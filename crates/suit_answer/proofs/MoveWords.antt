@@ -1,18 +1,16 @@
 -- `move_taken`: a word that stands for a move is what is written for it.
-use Rattle.std.proofs.Common.{ℕ, ◌<◌, ◌≡◌, ◌==◌, Bool, true, false, cond, List, [], ◌∷◌, length, position, get_or}
-use Rattle.std.proofs.Common.{Option, Some, None, Ok, refl, sym, ap, ◌∙◌, subst, arith}
-use Rattle.std.specs.Prelude.{slice_index, ⊤}
+use Rattle.std.proofs.Common.{ℕ, ◌<◌, ◌≡◌, ◌==◌, Bool, true, false, cond, [], ◌∷◌, length}
+use Rattle.std.proofs.Common.{Option, Some, None, Ok, refl, sym, ap, subst, arith}
+use Rattle.std.specs.Prelude.{slice_index}
 use Rattle.std.specs.Option.{ok_or, option_map, option_and_then}
 use Rattle.std.proofs.lemmas.Bool.Decides.{nat_tests}
 use Rattle.std.proofs.lemmas.List.Quantifiers.{position-Some}
 use Rattle.suit_cards.specs.Cards.{Text}
-use Rattle.suit_cards.specs.declared.seats.Seat.{Seat}
 use Rattle.suit_cards.specs.declared.seats.Seat.TheVariants.{N, S}
 use Rattle.suit_classes.specs.declared.class_moves.ClassMove.{ClassMove}
 use Rattle.suit_classes.specs.declared.class_moves.ClassMove.TheVariants.{Lead, Follow, ShowOut}
-use Rattle.suit_answer.specs.Letters.{class_named, hand_named, follow_named, move_read, move_due, move_word}
+use Rattle.suit_answer.specs.Letters.{class_named, move_read, move_due, move_word}
 use Rattle.suit_answer.specs.Writable.{IsWritableMove}
-use Rattle.suit_answer.specs.declared.faults.AnswerFault.{AnswerFault}
 use Rattle.suit_answer.specs.declared.faults.AnswerFault.TheVariants.{Move}
 
 is_byte : (a b : ℕ) → (a == b) ≡ true → a ≡ b

@@ -1,7 +1,7 @@
 -- `number_taken` and `small_taken`: a word that stands for a number is what is written for it.
-use Rattle.std.proofs.Common.{ℕ, suc, ◌+◌, ◌-◌, ◌*◌, ◌/◌, ◌%◌, ◌^◌, ◌<◌, ◌≤◌, ◌≡◌, ◌==◌, ◌&&◌, nat_lt, nat_le, not}
+use Rattle.std.proofs.Common.{ℕ, ◌+◌, ◌*◌, ◌/◌, ◌%◌, ◌^◌, ◌<◌, ◌≤◌, ◌≡◌, ◌&&◌, nat_lt, nat_le, not}
 use Rattle.std.proofs.Common.{Bool, true, false, cond, List, [], ◌∷◌, ◌++◌, length, get_or, decimal, ℤ, pos}
-use Rattle.std.proofs.Common.{Option, Some, None, Result, Ok, Err, refl, sym, ap, ◌∙◌, subst, append_assoc, arith}
+use Rattle.std.proofs.Common.{Option, Some, None, Ok, Err, refl, sym, ap, ◌∙◌, subst, append_assoc, arith}
 use Rattle.std.specs.Char.{digit_value}
 use Rattle.std.specs.Fmt.{signed_decimal}
 use Rattle.std.specs.Option.{ok_or, option_map}
@@ -17,15 +17,11 @@ use Rattle.suit_answer.specs.Lines.{is_filled}
 use Rattle.suit_answer.specs.Numbers.{has_spare_zero, digits_read, number_read, number_due, small_due}
 use Rattle.suit_answer.specs.Results.{◌>>=◌}
 use Rattle.suit_answer.specs.Writable.{IsWritableNumber}
-use Rattle.suit_answer.specs.declared.faults.AnswerFault.{AnswerFault}
+use Rattle.suit_answer.proofs.Numerals.{le_after}
 use Rattle.suit_answer.specs.declared.faults.AnswerFault.TheVariants.{Number}
 
 pub numerals : IsNumeralModel (λ ds. all_ascii_digits ds ≡ true) (digits_value 10)
 numerals = numerals_by_value (λ ds. all_ascii_digits ds ≡ true) tells_all_ascii_digits
-
-le_after : (n : ℕ) (ds : List ℕ) → n ≤ digits_value_after 10 n ds
-le_after n [] = omega arith
-le_after n (c ∷ cs) = omega (arith, le_after (n * 10 + digit_value c) cs)
 
 digit_code : (c : ℕ) → digit_value c < 10 → 48 + digit_value c ≡ c
 digit_code c small = let range = digit_from_value c small in grind (arith, nat_tests)
@@ -88,7 +84,8 @@ read_taken text n h =
     let outer = passed (is_filled text && not (has_spare_zero text)) (digits_read text) n h in
     let form = both_pass (is_filled text) (not (has_spare_zero text)) outer.0 in
     let lead = no_spare text form.0 form.1 in
-    let inner = passed (all_ascii_digits text && nat_lt (digits_value 10 text) (2 ^ 127)) (Some (digits_value 10 text)) n
+    let inner = passed (all_ascii_digits text
+    && nat_lt (digits_value 10 text) (2 ^ 127)) (Some (digits_value 10 text)) n
     outer.1 in
     let tests = both_pass (all_ascii_digits text) (nat_lt (digits_value 10 text) (2 ^ 127)) inner.0 in
     let small : digits_value 10 text < 2 ^ 127 = below (digits_value 10 text) (2 ^ 127) tests.1 in

@@ -8,7 +8,8 @@ use Rattle.std.proofs.lemmas.Bool.Decides.{nat_tests}
 use Rattle.std.proofs.lemmas.List.{drop_more}
 use Rattle.suit_answer.specs.Numbers.{digits_read}
 
-le_after : (n : ℕ) (ds : List ℕ) → n ≤ digits_value_after 10 n ds
+-- digits that follow make no number smaller
+pub le_after : (n : ℕ) (ds : List ℕ) → n ≤ digits_value_after 10 n ds
 le_after n [] = omega arith
 le_after n (c ∷ cs) = omega (arith, le_after (n * 10 + digit_value c) cs)
 
@@ -22,7 +23,8 @@ never false = refl
 pub too_large : (text : List ℕ) (i n : ℕ) → i < length text
     → digits_value 10 text ≡ digits_value_after 10 n (drop i text) → 2 ^ 127 ≤ n * 10 → digits_read text ≡ None
 too_large text i n h value large =
-    let next : digits_value 10 text ≡ digits_value_after 10 (n * 10 + digit_value (get_or text i 0)) (drop (i + 1) text) =
+    let next : digits_value 10 text
+    ≡ digits_value_after 10 (n * 10 + digit_value (get_or text i 0)) (drop (i + 1) text) =
     rw (drop_more text i 0 h) at value in
     let past : 2 ^ 127 ≤ digits_value 10 text =
     omega (arith, le_after (n * 10 + digit_value (get_or text i 0)) (drop (i + 1) text)) in

@@ -1,7 +1,6 @@
 -- `plan_row_taken` and `defence_row_taken`: a row that is read from words is written by them.
 use Rattle.std.proofs.Common.{ℕ, ◌<◌, ◌≤◌, ◌≡◌, ◌==◌, ◌&&◌, Bool, true, false, cond, List, [], ◌∷◌, ◌++◌, length, map}
-use Rattle.std.proofs.Common.{codes, decimal, ℤ, Result, Ok, Err, All, refl, sym, ap, ◌∙◌, subst, arith}
-use Rattle.std.specs.Fmt.{signed_decimal}
+use Rattle.std.proofs.Common.{codes, decimal, ℤ, Ok, refl, sym, ap, ◌∙◌, subst, arith}
 use Rattle.std.specs.List.{AllByRecursion, flat_map}
 use Rattle.std.specs.Str.{bytes_eq}
 use Rattle.std.proofs.lemmas.Bool.Decides.{nat_tests}
@@ -24,7 +23,6 @@ use Rattle.suit_answer.specs.Rows.{plan_row_due, defence_row_due}
 use Rattle.suit_answer.specs.Writable.{IsWritableMove, IsWritableShare, IsWritableTurn, IsWritableRow}
 use Rattle.suit_answer.specs.Writable.{IsWritableDefenceRow}
 use Rattle.suit_answer.specs.Writing.{share_words, turn_words, plan_row_words, defence_row_words}
-use Rattle.suit_answer.specs.declared.faults.AnswerFault.{AnswerFault}
 use Rattle.suit_answer.specs.declared.faults.AnswerFault.TheVariants.{Line, Count}
 use Rattle.suit_answer.proofs.MoveWords.{move_taken}
 use Rattle.suit_answer.proofs.NumberWords.{both_pass, number_taken, small_taken}
@@ -206,7 +204,8 @@ module _ (letters : Text) (line : ℕ) where
       ≡ map decimal counts.0.0 ++ codes "at" ∷ turn_words letters history.0.0 shares.0 =
       west.spelled ∙ ap (λ (rest : List Text). map decimal counts.0.0 ++ codes "at" ∷ rest) turn.0 in
       subst
-      (λ (r : DefenceRow). (word ∷ words ≡ defence_row_words letters r) × IsWritableDefenceRow (length letters) classes r)
+      (λ (r : DefenceRow). (word ∷ words ≡ defence_row_words letters r)
+      × IsWritableDefenceRow (length letters) classes r)
       (ok_is made row number.1) (
         (λ i. same_text word (codes "west") tests.0 i ∷ spelled i),
         record {

@@ -1,6 +1,6 @@
 -- `text_taken`: what is read from a text is written as that text, and can be written.
-use Rattle.std.proofs.Common.{ℕ, zero, suc, ◌+◌, ◌<◌, ◌≤◌, ◌≡◌, ◌==◌, ◌&&◌, not, Bool, true, false, cond, List, [], ◌∷◌, ◌++◌}
-use Rattle.std.proofs.Common.{length, map, codes, decimal, ℤ, Option, Some, None, Result, Ok, Err, All, refl, sym, ap}
+use Rattle.std.proofs.Common.{ℕ, zero, suc, ◌+◌, ◌≤◌, ◌≡◌, ◌==◌, ◌&&◌, Bool, true, false, cond, List, [], ◌∷◌, ◌++◌}
+use Rattle.std.proofs.Common.{length, map, codes, ℤ, Option, Some, None, Result, Ok, Err, refl, sym, ap}
 use Rattle.std.proofs.Common.{◌∙◌, subst, append_assoc, arith}
 use Rattle.std.specs.Prelude.{⊤}
 use Rattle.std.specs.Fmt.{signed_decimal}
@@ -12,16 +12,13 @@ use Rattle.std.proofs.lemmas.List.Concat.{flat_map-cons}
 use Rattle.std.proofs.lemmas.List.Elements.{All-from_recursion}
 use Rattle.std.proofs.lemmas.List.FromFn.{length-map-range_with_len}
 use Rattle.std.proofs.lemmas.List.Splits.{join_with_byte-slice_split}
-use Rattle.std.proofs.lemmas.Grind.{flat_map-append}
 use Rattle.suit_cards.specs.Cards.{Text}
 use Rattle.suit_num.specs.declared.fraction.Frac.{Frac}
 use Rattle.suit_game.specs.declared.question.Question.{Question}
 use Rattle.suit_classes.specs.Classes.{class_count, defence_classes, hands_of}
 use Rattle.suit_plans.specs.declared.plan.Row.{Row}
-use Rattle.suit_plans.specs.declared.plan.Plan.{Plan}
 use Rattle.suit_plans.specs.declared.defence.DefenceRow.{DefenceRow}
-use Rattle.suit_plans.specs.declared.defence.Defence.{Defence}
-use Rattle.suit_answer.specs.Forms.{is_value, two_filled, after_keyword, slash_sides, one_fraction, value_form}
+use Rattle.suit_answer.specs.Forms.{two_filled, after_keyword, slash_sides, one_fraction, value_form}
 use Rattle.suit_answer.specs.Forms.{header_form}
 use Rattle.suit_answer.specs.Fractions.{fraction_by, fraction_of}
 use Rattle.suit_answer.specs.LowestTerms.{is_lowest}
@@ -37,9 +34,9 @@ use Rattle.suit_answer.specs.Writing.{spaced, line_text, value_words, header_wor
 use Rattle.suit_answer.specs.Writing.{part_lines, answer_lines, text_of}
 use Rattle.suit_answer.specs.declared.answer.Answer.{Answer}
 use Rattle.suit_answer.specs.declared.faults.AnswerFault.{AnswerFault}
-use Rattle.suit_answer.specs.declared.faults.AnswerFault.TheVariants.{Version, Line, Number, Tail, Truncated}
+use Rattle.suit_answer.specs.declared.faults.AnswerFault.TheVariants.{Version, Line, Number, Tail}
 use Rattle.suit_answer.specs.declared.parts.TheConstants.{MOST_ROWS}
-use Rattle.suit_answer.proofs.NumberWords.{both_pass, passed, number_taken, small_taken}
+use Rattle.suit_answer.proofs.NumberWords.{passed, number_taken, small_taken}
 use Rattle.suit_answer.proofs.RowWords.{plan_row_taken, defence_row_taken}
 use Rattle.suit_answer.proofs.SpacedWords.{spaced_none, spaced_next, answer_spelled}
 use Rattle.suit_answer.proofs.Steps.{bind_ok, ok_is, chosen_ok, some_ok, same_text}
@@ -52,10 +49,7 @@ pub joined_pieces : (text : Text) → joined (pieces_of text) ≡ text
 unfolding pieces_of
 joined_pieces text = join_with_byte-slice_split 10 text
 
--- a line with its words one space apart
-spaced_line : List Text → Text
-spaced_line words = join_with_byte 32 words
-
+-- words one space apart
 next_spaced : (word : Text) (words : List Text) → join_with_byte 32 (word ∷ words) ≡ word ++ spaced words
 next_spaced word [] = sym (ap (λ (rest : Text). word ++ rest) spaced_none ∙ append-nil word)
 next_spaced word (next ∷ words) =
@@ -357,7 +351,8 @@ answer_taken letters classes pieces answer h =
       defence_rows = against.rows;
     })
 
-letters_each : (question : Question) → length (class_letters (hands_of question)) ≡ class_count (hands_of question)
+-- there is a letter for each class
+pub letters_each : (question : Question) → length (class_letters (hands_of question)) ≡ class_count (hands_of question)
 unfolding class_letters
 letters_each question = length-map-range_with_len (class_letter (hands_of question)) 0 (class_count (hands_of question))
 

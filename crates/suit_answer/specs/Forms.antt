@@ -61,4 +61,5 @@ is_turn (word ∷ words) = if bytes_eq word (codes ":") then are_shares words el
 -- counts up to the first word `at`, and then a turn
 unfoldable pub is_layout_turn : List Text → Bool
 is_layout_turn [] = false
-is_layout_turn (word ∷ words) = if bytes_eq word (codes "at") then is_turn words else is_value word && is_layout_turn words
+is_layout_turn (word ∷ words) = if bytes_eq word (codes "at") then is_turn words
+    else is_value word && is_layout_turn words

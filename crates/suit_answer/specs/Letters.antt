@@ -31,7 +31,8 @@ hand_named byte = if byte == 78 then Some N else if byte == 83 then Some S else 
 
 -- a follow with a class, or a dash, which is 45, for showing out
 abbrev pub follow_named : Text → ℕ → Option ClassMove
-follow_named letters byte = if byte == 45 then Some ShowOut else option_map (λ class. Follow class) (class_named letters byte)
+follow_named letters byte = if byte == 45 then Some ShowOut
+    else option_map (λ class. Follow class) (class_named letters byte)
 
 -- the move that a word stands for
 abbrev pub move_read : Text → Text → Option ClassMove

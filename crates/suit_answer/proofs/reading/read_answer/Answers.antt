@@ -1,4 +1,4 @@
-use Rattle.std.proofs.Common.{◌≡◌, ℕ, Ok, length, ap, sym, ◌∙◌}
+use Rattle.std.proofs.Common.{◌≡◌, Ok, length, ap, sym, ◌∙◌}
 use Rattle.suit_classes.specs.Classes.{Hands, defence_classes, hands_of}
 use Rattle.suit_answer.specs.Lines.{pieces_of}
 use Rattle.suit_answer.specs.Reading.{answer_due, answer_read}

@@ -5,4 +5,5 @@ use Rattle.suit_answer.specs.Writing.{spaced}
 use Rattle.suit_answer.proofs.writing.write_history.Given as goal
 
 abbrev pub invariant-loop-mv : goal.invariant-loop-mv
-invariant-loop-mv l = l.text.items ≡ l.initial.text.items ++ spaced (map (move_word l.letters) (take l.mv-index l.history))
+invariant-loop-mv l = l.text.items ≡ l.initial.text.items
+    ++ spaced (map (move_word l.letters) (take l.mv-index l.history))
