@@ -47,7 +47,7 @@ far p xs h =
     grind (arith, nat_tests)
 
 -- what is cut has a part
-some_part : (p : ℕ → Bool) (xs : List ℕ)
+pub some_part : (p : ℕ → Bool) (xs : List ℕ)
     → (part : List ℕ) × (parts : List (List ℕ)) × (slice_split p xs ≡ part ∷ parts)
 some_part p [] = ([], [], refl)
 some_part p (x ∷ xs) = part_step (p x) x (slice_split p xs) where

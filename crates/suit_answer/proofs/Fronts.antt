@@ -16,8 +16,3 @@ pub front_grows : {A B : Type 0} (front : List A) (x : A) (read : Result (List A
     → with_front front (read >>= λ more. Ok (x ∷ more.0, more.1)) ≡ with_front (front ++ x ∷ []) read
 front_grows front x (Ok more) = ap (λ xs. Ok (xs, more.1)) (simp append_assoc)
 front_grows front x (Err fault) = refl
-
-pub in_front_grows : {A : Type 0} (front : List A) (x : A) (read : Result (List A) AnswerFault)
-    → in_front front (read >>= λ more. Ok (x ∷ more)) ≡ in_front (front ++ x ∷ []) read
-in_front_grows front x (Ok more) = ap (λ xs. Ok xs) (simp append_assoc)
-in_front_grows front x (Err fault) = refl

@@ -1,11 +1,15 @@
 pub mod Cuts
 pub mod Fronts
 pub mod Lowest
+pub mod MoveBack
 pub mod MoveWords
+pub mod NumberBack
 pub mod NumberWords
 pub mod Numerals
 pub mod RowLoops
+pub mod RowBack
 pub mod RowWords
 pub mod SpacedWords
 pub mod Steps
+pub mod TextBack
 pub mod TextTaken

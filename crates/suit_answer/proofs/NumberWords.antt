@@ -17,14 +17,11 @@ use Rattle.suit_answer.specs.Lines.{is_filled}
 use Rattle.suit_answer.specs.Numbers.{has_spare_zero, digits_read, number_read, number_due, small_due}
 use Rattle.suit_answer.specs.Results.{◌>>=◌}
 use Rattle.suit_answer.specs.Writable.{IsWritableNumber}
+use Rattle.suit_answer.proofs.Numerals.{le_after}
 use Rattle.suit_answer.specs.declared.faults.AnswerFault.TheVariants.{Number}
 
 pub numerals : IsNumeralModel (λ ds. all_ascii_digits ds ≡ true) (digits_value 10)
 numerals = numerals_by_value (λ ds. all_ascii_digits ds ≡ true) tells_all_ascii_digits
-
-le_after : (n : ℕ) (ds : List ℕ) → n ≤ digits_value_after 10 n ds
-le_after n [] = omega arith
-le_after n (c ∷ cs) = omega (arith, le_after (n * 10 + digit_value c) cs)
 
 digit_code : (c : ℕ) → digit_value c < 10 → 48 + digit_value c ≡ c
 digit_code c small = let range = digit_from_value c small in grind (arith, nat_tests)

@@ -8,7 +8,8 @@ use Rattle.std.proofs.lemmas.Bool.Decides.{nat_tests}
 use Rattle.std.proofs.lemmas.List.{drop_more}
 use Rattle.suit_answer.specs.Numbers.{digits_read}
 
-le_after : (n : ℕ) (ds : List ℕ) → n ≤ digits_value_after 10 n ds
+-- digits that follow make no number smaller
+pub le_after : (n : ℕ) (ds : List ℕ) → n ≤ digits_value_after 10 n ds
 le_after n [] = omega arith
 le_after n (c ∷ cs) = omega (arith, le_after (n * 10 + digit_value c) cs)
 

@@ -49,10 +49,7 @@ pub joined_pieces : (text : Text) → joined (pieces_of text) ≡ text
 unfolding pieces_of
 joined_pieces text = join_with_byte-slice_split 10 text
 
--- a line with its words one space apart
-spaced_line : List Text → Text
-spaced_line words = join_with_byte 32 words
-
+-- words one space apart
 next_spaced : (word : Text) (words : List Text) → join_with_byte 32 (word ∷ words) ≡ word ++ spaced words
 next_spaced word [] = sym (ap (λ (rest : Text). word ++ rest) spaced_none ∙ append-nil word)
 next_spaced word (next ∷ words) =
@@ -354,7 +351,8 @@ answer_taken letters classes pieces answer h =
       defence_rows = against.rows;
     })
 
-letters_each : (question : Question) → length (class_letters (hands_of question)) ≡ class_count (hands_of question)
+-- there is a letter for each class
+pub letters_each : (question : Question) → length (class_letters (hands_of question)) ≡ class_count (hands_of question)
 unfolding class_letters
 letters_each question = length-map-range_with_len (class_letter (hands_of question)) 0 (class_count (hands_of question))
 

@@ -12,3 +12,9 @@ abbrev pub ReadTextsAreWritten : Type 0
 ReadTextsAreWritten =
     (question : Question) (text : Text) (answer : Answer) → answer_read question text ≡ Ok answer
     → (text ≡ text_of question answer) × IsWritable question answer
+
+-- what is written of an answer that can be written is read as it
+abbrev pub WrittenTextsAreRead : Type 0
+WrittenTextsAreRead =
+    (question : Question) (answer : Answer) → IsWritable question answer
+    → answer_read question (text_of question answer) ≡ Ok answer

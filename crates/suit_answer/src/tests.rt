@@ -1,3 +1,5 @@
+ghost use Rattle.std.specs.Prelude.{◌≤◌, IfOk, length};
+
 use crate::{AnswerFault, answer_text, read_answer};
 use std::test::Fail;
 use suit_cards::Holding;
@@ -8,6 +10,17 @@ fn hands(north: &'static str, south: &'static str) -> Result<Question, Fail> {
     let north = Holding::read(north.as_bytes()).ok().ok_or(north)?;
     let south = Holding::read(south.as_bytes()).ok().ok_or(south)?;
     Ok(Question::plain(north, south, Goal::Tricks))
+}
+
+// The bytes of a text, which is not long.
+fn bytes_of(text: &'static str) -> Result<&'static [u8], Fail>
+    ensures { IfOk result (λ bytes. length bytes.now ≤ 1000) }
+{
+    let bytes = text.as_bytes();
+    if bytes.len() > 1000 {
+        return Err(Fail::from("a long text"));
+    }
+    Ok(bytes)
 }
 
 #[test]
@@ -46,7 +59,7 @@ fn writes_what_it_reads(rt: HostRuntime) -> Result<(), Fail> {
         ),
     ] {
         let question = hands(north, south)?;
-        let answer = read_answer(rt.alloc(), &question, text.as_bytes())
+        let answer = read_answer(rt.alloc(), &question, bytes_of(text)?)
             .ok()
             .ok_or("an answer")?;
         let written = answer_text(rt.alloc(), &question, &answer)?;
@@ -152,7 +165,7 @@ fn tells_the_first_fault(rt: HostRuntime) -> Result<(), Fail> {
             AnswerFault::Tail { line: 6 },
         ),
     ] {
-        let told = read_answer(rt.alloc(), &question, text.as_bytes()).err();
+        let told = read_answer(rt.alloc(), &question, bytes_of(text)?).err();
         assert_eq!(rt; told, Some(fault), "from {text}");
     }
     Ok(())

@@ -1,9 +1,11 @@
 //! Writing an answer text, and the words that all texts write moves and numbers by.
-ghost use Rattle.std.specs.Prelude.{◌≡◌, ◌∷◌, [], ◌++◌, ◌≤◌, codes, length, map, All, OnOk, IfOk, decimal};
+ghost use Rattle.std.specs.Prelude.{◌≡◌, ◌∷◌, [], ◌++◌, ◌≤◌, codes, length, map, All, Ok, OnOk, IfOk, decimal};
 ghost use Rattle.std.specs.Fmt.{signed_decimal};
 ghost use Rattle.std.specs.List.{flat_map};
 ghost use Rattle.suit_answer.specs.Letters.{move_word, seat_letter};
-ghost use Rattle.suit_answer.specs.Writable.{IsWritable, IsWritableMove, IsWritableRow, IsWritableShare, IsWritableTurn};
+ghost use Rattle.suit_answer.specs.Reading.{answer_read};
+ghost use Rattle.suit_answer.specs.Writable.{IsWritable, IsWritableMove, IsWritableRow};
+ghost use Rattle.suit_answer.specs.Writable.{IsWritableShare, IsWritableTurn};
 ghost use Rattle.suit_answer.specs.Writing.{spaced, line_text, share_words, turn_words, plan_row_words};
 ghost use Rattle.suit_answer.specs.Writing.{defence_row_words, header_words, value_words, part_lines, text_of};
 ghost use Rattle.suit_answer.specs.declared.parts.TheConstants.{MOST_ROWS};
@@ -223,6 +225,7 @@ fn write_defence(
 pub fn answer_text(alloc: Global, question: &Question, answer: &Answer) -> Result<Vec<u8>, Memory>
     requires { IsWritable question.now answer.now }
     ensures text { IfOk result (λ text. text.items ≡ text_of question.now answer.now) }
+    ensures reads_back { IfOk result (λ text. answer_read question.now text.items ≡ Ok answer.now) }
 {
     let letters = ClassLetters::of(question);
     let mut text = Vec::from_slice(alloc, b"answer 1\n")?;

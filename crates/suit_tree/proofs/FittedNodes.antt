@@ -1,4 +1,5 @@
--- What is made of nodes that fit moves, one after the other, is made of the moves (map_fitted, map_fitted_kept), and there
+-- What is made of nodes that fit moves, one after the other, is made of the moves (map_fitted, map_fitted_kept), and
+-- there
 -- are few (few_children).
 use Rattle.std.proofs.Common.{◌≡◌, ◌<◌, ◌≤◌, ℕ, zero, suc, Bool, true, false, cond, nat_lt, List, [], ◌∷◌, ◌++◌, length}
 use Rattle.std.proofs.Common.{get_or, map, refl, ap, ◌∙◌, subst, arith}
