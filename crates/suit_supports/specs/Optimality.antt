@@ -1,0 +1,34 @@
+-- What holds of the program of every support.
+use Rattle.std.specs.Prelude.{◌≡◌, ℕ, ℤ, ◌+ℤ◌, ◌-ℤ◌, ◌*ℤ◌}
+use Rattle.suit_game.specs.declared.question.Question.{Question}
+use Rattle.suit_game.specs.Validity.{IsValid}
+use Rattle.suit_tableaus.specs.Points.{dot}
+use Rattle.suit_tableaus.specs.Programs.{IsBounded, IsWellFormed}
+use Rattle.suit_supports.specs.Points.{no_point, point_of}
+use Rattle.suit_supports.specs.Programs.{Limit, columns, excess, program_of, row_of}
+use Rattle.suit_supports.specs.Supports.{Support}
+use Rattle.suit_supports.specs.Worths.{objective_at}
+
+-- at numbers for the columns over a denominator, a row of the program comes to what the play of the support exceeds it
+-- by
+abbrev pub RowsTell : Type 0
+RowsTell = (question : Question) (support : Support) (given : ℕ → ℤ) (den : ℤ) (limit : Limit)
+    → excess question support (point_of (columns question support) given den) limit
+    ≡ dot (row_of question support (columns question support) limit).entries given
+    -ℤ (row_of question support (columns question support) limit).bound *ℤ den
+
+-- and the objective, with what rests on no column, comes to what the play is worth
+abbrev pub CostsTell : Type 0
+CostsTell = (question : Question) (support : Support) (given : ℕ → ℤ) (den : ℤ)
+    → objective_at question support (point_of (columns question support) given den)
+    ≡ dot (program_of question support).costs given +ℤ objective_at question support no_point *ℤ den
+
+-- no right side is negative, each row has an entry for each column, and all numbers are narrow
+abbrev pub ProgramsAreWellFormed : Type 0
+ProgramsAreWellFormed = (question : Question) (support : Support) → IsValid question
+    → IsWellFormed (program_of question support)
+
+-- the objective has an upper limit
+abbrev pub ProgramsAreBounded : Type 0
+ProgramsAreBounded = (question : Question) (support : Support) → IsValid question
+    → IsBounded (program_of question support)
