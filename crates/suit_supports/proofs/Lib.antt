@@ -1,6 +1,14 @@
+pub mod Beginnings
+pub mod BoundedPrograms
 pub mod Dualities
+pub mod FormedPrograms
 pub mod LeastMet
+pub mod LinearWorths
 pub mod MetWorths
 pub mod MostMet
+pub mod ReachedPairs
 pub mod SummedOrders
+pub mod SupportedTurns
+pub mod TamePoints
 pub mod WorkedPrograms
+pub mod WorthBounds

@@ -1,5 +1,6 @@
 //! Laws of plans, defences and programs: each is the contract of an empty function.
 ghost use Rattle.suit_supports.specs.Duality.{MeetingsLieBetween, WeakDuality};
+ghost use Rattle.suit_supports.specs.Optimality.{CostsTell, ProgramsAreBounded, ProgramsAreWellFormed, RowsTell};
 
 /// What a proper plan and a proper defence earn when they meet lies between what each promises.
 pub fn meetings_lie_between()
@@ -9,4 +10,24 @@ pub fn meetings_lie_between()
 /// A proper plan promises no more than a proper defence allows.
 pub fn weak_duality()
     ensures { WeakDuality }
+{}
+
+/// A row of a support's program says how the play of the support keeps within it.
+pub fn rows_tell()
+    ensures { RowsTell }
+{}
+
+/// The objective says what the play is worth.
+pub fn costs_tell()
+    ensures { CostsTell }
+{}
+
+/// And bounded.
+pub fn programs_are_bounded()
+    ensures { ProgramsAreBounded }
+{}
+
+/// Every support's program is well formed.
+pub fn programs_are_well_formed()
+    ensures { ProgramsAreWellFormed }
 {}

@@ -1,0 +1,209 @@
+-- The objective of a support's program has an upper limit (`programs_are_bounded`).
+use Rattle.std.proofs.Common.{◌≡◌, ℕ, suc, ◌<◌, Bool, true, false, List, [], ◌∷◌, ◌++◌, length, map, refl}
+use Rattle.std.proofs.Common.{sym, ap, ◌∙◌, subst, arith}
+use Rattle.std.specs.Prelude.{Contains, ◌&&◌, nat_lt, if◌then◌else◌, ℤ, pos, ◌+ℤ◌, ◌-ℤ◌, ◌*ℤ◌, ◌≤ℤ◌}
+use Rattle.std.proofs.lemmas.Bool.{and_parts, false≢true}
+use Rattle.std.proofs.lemmas.Int.{ints}
+use Rattle.std.proofs.lemmas.List.{length-map}
+use Rattle.std.proofs.lemmas.List.Elements.{All-contains}
+use Rattle.std.proofs.Math.IntN.{*ℤ_comm}
+use Rattle.suit_cards.specs.Cards.{Counts}
+use Rattle.suit_num.proofs.IntegerLaws.{le-mul_right, mul-sub_right, mul_not_negative, mul_right_comm}
+use Rattle.suit_game.specs.declared.question.Question.{Question}
+use Rattle.suit_game.specs.Validity.{IsValid}
+use Rattle.suit_game.proofs.EachElement.{Contains-first, Contains-map}
+use Rattle.suit_classes.specs.declared.class_moves.ClassMove.{ClassMove}
+use Rattle.suit_classes.specs.ClassPlaces.{class_after, class_turn}
+use Rattle.suit_plans.specs.Masses.{is_defences, mass_from, mass_of}
+use Rattle.suit_plans.specs.Properness.{sum_of}
+use Rattle.suit_plans.specs.ReplyLaws.{IsPaid}
+use Rattle.suit_plans.proofs.NumberSums.{sum_times}
+use Rattle.suit_plans.proofs.PaidWorths.{paid_most}
+use Rattle.suit_plans.proofs.SharedSums.{count_case}
+use Rattle.suit_plans.proofs.TurnMoves.{HasFirst}
+use Rattle.suit_plans.proofs.WhoseTurns.{their_turn}
+use Rattle.suit_tableaus.specs.Points.{dot}
+use Rattle.suit_tableaus.specs.Programs.{IsFeasible}
+use Rattle.suit_supports.specs.Optimality.{ProgramsAreBounded}
+use Rattle.suit_supports.specs.Points.{Column, Held, Point, given_to, no_point, point_of, same_column, unit_point}
+use Rattle.suit_supports.specs.Programs.{Answered, Limit, Shared, columns, excess, limits, program_of, row_of, sum_passed}
+use Rattle.suit_supports.specs.Supports.{Support, declarer_chooses, defence_chooses, is_reached, layouts_of}
+use Rattle.suit_supports.specs.Supports.{legal_moves, supported_moves}
+use Rattle.suit_supports.specs.Worths.{mass_at, objective_at, worth_at}
+use Rattle.suit_supports.proofs.LinearWorths.{costs_tell, rows_tell}
+use Rattle.suit_supports.proofs.ReachedPairs.{answered_listed, reached_allows, reached_next, reached_none, shared_listed}
+use Rattle.suit_supports.proofs.SummedOrders.{le_trans, sum_le}
+use Rattle.suit_supports.proofs.SupportedTurns.{Ended, Forced, Own, Theirs, TurnAt, turn_at}
+use Rattle.suit_supports.proofs.WorthBounds.{AreKept, IsPositive, within_paid}
+
+-- ---- choices of the defence
+
+-- a choice of the defence has a first move, and its moves keep the masses
+pub record IsTheirs (question : Question) (support : Support) (west : Counts) (history : List ClassMove) : Type 0 where
+  pub some : HasFirst (supported_moves question support west history)
+  pub same : (point : Point) (move : ClassMove)
+      → mass_at question support point (history ++ move ∷ []) ≡ mass_at question support point history
+
+pub their_choice : (question : Question) (support : Support) (west : Counts) (history : List ClassMove)
+    → defence_chooses question west history ≡ true → IsTheirs question support west history
+their_choice question support west history chooses = at (turn_at question support west history)
+  where
+    at : TurnAt question support west history → IsTheirs question support west history
+    at (Ended none not) = absurd (false≢true (sym not ∙ chooses))
+    at (Forced move only not same) = absurd (false≢true (sym not ∙ chooses))
+    at (Own own not same some) = absurd (false≢true (sym not ∙ chooses))
+    at (Theirs theirs some same) = record { some = some; same = same }
+
+-- it is none of declarer's
+pub their_only : (question : Question) (west : Counts) (history : List ClassMove)
+    → defence_chooses question west history ≡ true → declarer_chooses question history ≡ false
+unfolding declarer_chooses defence_chooses
+their_only question west history chooses =
+    let several : Bool = nat_lt 1 (length (legal_moves question west history)) in
+    let theirs = (and_parts (is_defences (class_turn (class_after question history))) several chooses).0 in
+    ap (λ (b : Bool). b && nat_lt 1 (length (legal_moves question [] history)))
+    (their_turn (class_after question history) theirs).1
+
+-- ---- feasible points
+
+given_low : (all : List Column) (given : ℕ → ℤ) (wanted : Column)
+    → ((index : ℕ) → index < length all → pos 0 ≤ℤ given index) → pos 0 ≤ℤ given_to all given wanted
+unfolding given_to
+given_low [] given wanted low = omega (arith, ints)
+given_low (column ∷ all) given wanted low =
+    let b : Bool = same_column column wanted in
+    let here : pos 0 ≤ℤ (given 0 *ℤ (if b then pos 1 else pos 0)) =
+    mul_not_negative (given 0) (if b then pos 1 else pos 0) (low 0 (omega arith))
+    (count_case b (pos 1) (pos 0) (omega (arith, ints)) (omega (arith, ints))) in
+    let rest : pos 0 ≤ℤ given_to all (λ index. given (suc index)) wanted =
+    given_low all (λ index. given (suc index)) wanted (λ index below. low (suc index) (omega (arith, below))) in
+    added (given 0 *ℤ (if b then pos 1 else pos 0)) (given_to all (λ index. given (suc index)) wanted) here rest
+  where
+    added : (x y : ℤ) → pos 0 ≤ℤ x → pos 0 ≤ℤ y → pos 0 ≤ℤ (x +ℤ y)
+    added x y p q = omega (arith, ints, p, q)
+
+-- thirteen tricks in all class layouts
+pub thirteen_each : (question : Question) (worths : Counts × ℕ → ℤ) (den : ℤ)
+    → ((layout : Counts × ℕ) → Contains (layouts_of question) layout → IsPaid den (worths layout))
+    → sum_of (map (λ (layout : Counts × ℕ). pos layout.1 *ℤ worths layout) (layouts_of question))
+    ≤ℤ (sum_of (map (λ (layout : Counts × ℕ). pos layout.1 *ℤ pos 13) (layouts_of question)) *ℤ den)
+thirteen_each question worths den paid =
+    let layouts : List (Counts × ℕ) = layouts_of question in
+    let thirteen : Counts × ℕ → ℤ = λ layout. pos layout.1 *ℤ pos 13 in
+    subst (λ (z : ℤ). sum_of (map (λ (layout : Counts × ℕ). pos layout.1 *ℤ worths layout) layouts) ≤ℤ z)
+    (sym (*ℤ_comm (sum_of (map thirteen layouts)) den ∙ sum_times den thirteen layouts))
+    (sum_le (λ layout. pos layout.1 *ℤ worths layout) (λ layout. den *ℤ thirteen layout) layouts
+    (λ layout found. weighed (pos layout.1) den (worths layout) (omega (arith, ints)) (paid layout found)))
+  where
+    weighed : (weight den worth : ℤ) → pos 0 ≤ℤ weight → IsPaid den worth
+        → (weight *ℤ worth) ≤ℤ (den *ℤ (weight *ℤ pos 13))
+    weighed weight den worth low paid =
+        subst (λ (z : ℤ). z ≤ℤ (den *ℤ (weight *ℤ pos 13))) (*ℤ_comm worth weight)
+        (subst (λ (z : ℤ). (worth *ℤ weight) ≤ℤ z)
+        (mul_right_comm (pos 13) den weight ∙ ap (λ (z : ℤ). z *ℤ den) (*ℤ_comm (pos 13) weight)
+        ∙ *ℤ_comm (weight *ℤ pos 13) den)
+        (le-mul_right worth (pos 13 *ℤ den) weight paid.few low))
+
+module _ (question : Question) (support : Support) (valid : IsValid question) (given : ℕ → ℤ) (den : ℤ)
+    (feasible : IsFeasible (program_of question support) given den) where
+  abbrev point : Point
+  point = point_of (columns question support) given den
+
+  pub feasible_positive : IsPositive point
+  unfolding program_of
+  feasible_positive = record {
+    at = λ column. given_low (columns question support) given column
+        (λ index below. feasible.columns index (subst (λ (n : ℕ). index < n)
+        (sym (length-map (columns question support) (λ other. objective_at question support (unit_point other)))) below));
+    one = let over = feasible.over in omega (arith, ints, over);
+  }
+
+  -- it keeps within each row
+  pub rows_kept : (limit : Limit) → Contains (limits question support) limit → excess question support point limit ≤ℤ pos 0
+  unfolding program_of
+  rows_kept limit found =
+      let row = row_of question support (columns question support) in
+      let within = All-contains (λ other. dot other.entries given ≤ℤ (other.bound *ℤ den)) (map row (limits question
+      support)) (row limit) feasible.rows (Contains-map row (limits question support) limit found) in
+      below (excess question support point limit) (dot (row limit).entries given) ((row limit).bound *ℤ den)
+      (rows_tell question support given den limit) within
+    where
+      below : (x a b : ℤ) → x ≡ a -ℤ b → a ≤ℤ b → x ≤ℤ pos 0
+      below x a b is le = omega (arith, ints, is, le)
+
+  module _ (layout : Counts × ℕ) (listed : Contains (layouts_of question) layout) where
+    abbrev Reached : List ClassMove → Type 0
+    Reached history = is_reached question support layout.0 history ≡ true
+
+    shared_kept : (history : List ClassMove) → Reached history → declarer_chooses question history ≡ true
+        → sum_passed question support point history ≤ℤ mass_at question support point history
+    unfolding excess
+    shared_kept history reached chooses =
+        under (sum_passed question support point history) (mass_at question support point history)
+        (rows_kept (Shared history) (shared_listed question support valid layout listed history reached chooses))
+      where
+        under : (a b : ℤ) → (a -ℤ b) ≤ℤ pos 0 → a ≤ℤ b
+        under a b le = omega (arith, ints, le)
+
+    held_kept : (history : List ClassMove) → Reached history → defence_chooses question layout.0 history ≡ true
+        → (move : ClassMove) → Contains (supported_moves question support layout.0 history) move
+        → point.at (Held layout.0 history) ≤ℤ worth_at question support point layout.0 (history ++ move ∷ [])
+    unfolding excess
+    held_kept history reached chooses move found =
+        under (point.at (Held layout.0 history)) (worth_at question support point layout.0 (history ++ move ∷ []))
+        (rows_kept (Answered layout.0 history move)
+        (answered_listed question support valid layout listed history move reached
+        (their_only question layout.0 history chooses) chooses found))
+      where
+        under : (a b : ℤ) → (a -ℤ b) ≤ℤ pos 0 → a ≤ℤ b
+        under a b le = omega (arith, ints, le)
+
+    kept : AreKept question support point layout.0 Reached
+    kept = record {
+      goes = λ history move reached found. reached_next question support layout.0 history move reached found;
+      payoffs = λ history reached. paid_most question layout.0 history
+          (reached_allows question support valid layout listed history reached);
+      shared = shared_kept;
+      held = λ history reached chooses paid.
+          let theirs = their_choice question support layout.0 history chooses in
+          let first : ClassMove = theirs.some.first in
+          let found : Contains (supported_moves question support layout.0 history) first =
+          subst (λ (l : List ClassMove). Contains l first) (sym theirs.some.parts)
+          (Contains-first first theirs.some.more) in
+          held_paid (mass_at question support point history)
+          (worth_at question support point layout.0 (history ++ first ∷ [])) (point.at (Held layout.0 history))
+          (feasible_positive.at (Held layout.0 history)) (held_kept history reached chooses first found)
+          (paid first found);
+    }
+      where
+        held_paid : (mass worth held : ℤ) → pos 0 ≤ℤ held → held ≤ℤ worth → IsPaid mass worth → IsPaid mass held
+        held_paid mass worth held low le paid =
+            record { some = low; few = le_trans held worth (pos 13 *ℤ mass) le paid.few }
+
+    -- at the start a class layout is worth no more than thirteen tricks
+    pub start_paid : IsPaid den (worth_at question support point layout.0 [])
+    unfolding mass_of mass_from
+    start_paid = within_paid question support point layout.0 Reached feasible_positive kept 53 []
+        (reached_none question support layout.0) refl
+
+  pub objective_paid : objective_at question support point
+      ≤ℤ (sum_of (map (λ (layout : Counts × ℕ). pos layout.1 *ℤ pos 13) (layouts_of question)) *ℤ den)
+  unfolding objective_at
+  objective_paid = thirteen_each question (λ layout. worth_at question support point layout.0 []) den start_paid
+
+pub programs_are_bounded : ProgramsAreBounded
+programs_are_bounded question support valid =
+    let most : ℤ = sum_of (map (λ (layout : Counts × ℕ). pos layout.1 *ℤ pos 13) (layouts_of question)) in
+    let none : ℤ = objective_at question support no_point in (
+      most -ℤ none,
+      λ given den feasible.
+          limited (dot (program_of question support).costs given)
+          (objective_at question support (point_of (columns question support) given den)) most none den
+          (costs_tell question support given den) (objective_paid question support valid given den feasible),
+    )
+  where
+    limited : (costs all most none den : ℤ) → all ≡ costs +ℤ none *ℤ den → all ≤ℤ (most *ℤ den)
+        → costs ≤ℤ ((most -ℤ none) *ℤ den)
+    limited costs all most none den told le =
+        let parts = mul-sub_right most none den in
+        omega (arith, ints, told, le, parts)
