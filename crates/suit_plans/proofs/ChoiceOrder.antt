@@ -34,7 +34,7 @@ abbrev IsEarlier : ClassHistory → ClassHistory → Type 0
 IsEarlier here there = history_before here there ≡ true
 
 -- what holds of each element and all later ones, element by element
-pairs_chained : {X : Type 0} (R : X → X → Type 0) (xs : List X) → AllPairs R xs → Chained R xs
+pub pairs_chained : {X : Type 0} (R : X → X → Type 0) (xs : List X) → AllPairs R xs → Chained R xs
 unfolding Chained
 pairs_chained R [] pairs = tt
 pairs_chained R (x ∷ xs) pairs = (
@@ -103,7 +103,7 @@ module _ (reply : Reply) (rises : (history : ClassHistory) → Chained IsBefore 
       (each_begins more (history ++ move ∷ [])))
 
   -- so all stand in order
-  chained_within : (more : ℕ) (history : ClassHistory) → Chained IsEarlier (histories_within more reply history)
+  pub chained_within : (more : ℕ) (history : ClassHistory) → Chained IsEarlier (histories_within more reply history)
   unfolding histories_within Chained
   chained_within zero history = (tt, tt)
   chained_within (suc more) history = (

@@ -1,8 +1,7 @@
 -- The objective of a support's program has an upper limit (`programs_are_bounded`).
-use Rattle.std.proofs.Common.{◌≡◌, ℕ, suc, ◌<◌, Bool, true, false, List, [], ◌∷◌, ◌++◌, length, map, refl}
+use Rattle.std.proofs.Common.{◌≡◌, ℕ, suc, ◌<◌, Bool, true, List, [], ◌∷◌, length, map, refl}
 use Rattle.std.proofs.Common.{sym, ap, ◌∙◌, subst, arith}
-use Rattle.std.specs.Prelude.{Contains, ◌&&◌, nat_lt, if◌then◌else◌, ℤ, pos, ◌+ℤ◌, ◌-ℤ◌, ◌*ℤ◌, ◌≤ℤ◌}
-use Rattle.std.proofs.lemmas.Bool.{and_parts, false≢true}
+use Rattle.std.specs.Prelude.{Contains, if◌then◌else◌, ℤ, pos, ◌+ℤ◌, ◌-ℤ◌, ◌*ℤ◌, ◌≤ℤ◌}
 use Rattle.std.proofs.lemmas.Int.{ints}
 use Rattle.std.proofs.lemmas.List.{length-map}
 use Rattle.std.proofs.lemmas.List.Elements.{All-contains}
@@ -11,58 +10,24 @@ use Rattle.suit_cards.specs.Cards.{Counts}
 use Rattle.suit_num.proofs.IntegerLaws.{le-mul_right, mul-sub_right, mul_not_negative, mul_right_comm}
 use Rattle.suit_game.specs.declared.question.Question.{Question}
 use Rattle.suit_game.specs.Validity.{IsValid}
-use Rattle.suit_game.proofs.EachElement.{Contains-first, Contains-map}
-use Rattle.suit_classes.specs.declared.class_moves.ClassMove.{ClassMove}
-use Rattle.suit_classes.specs.ClassPlaces.{class_after, class_turn}
-use Rattle.suit_plans.specs.Masses.{is_defences, mass_from, mass_of}
+use Rattle.suit_game.proofs.EachElement.{Contains-map}
+use Rattle.suit_plans.specs.Masses.{mass_from, mass_of}
 use Rattle.suit_plans.specs.Properness.{sum_of}
 use Rattle.suit_plans.specs.ReplyLaws.{IsPaid}
 use Rattle.suit_plans.proofs.NumberSums.{sum_times}
-use Rattle.suit_plans.proofs.PaidWorths.{paid_most}
 use Rattle.suit_plans.proofs.SharedSums.{count_case}
-use Rattle.suit_plans.proofs.TurnMoves.{HasFirst}
-use Rattle.suit_plans.proofs.WhoseTurns.{their_turn}
 use Rattle.suit_tableaus.specs.Points.{dot}
 use Rattle.suit_tableaus.specs.Programs.{IsFeasible}
 use Rattle.suit_supports.specs.Optimality.{ProgramsAreBounded}
-use Rattle.suit_supports.specs.Points.{Column, Held, Point, given_to, no_point, point_of, same_column, unit_point}
-use Rattle.suit_supports.specs.Programs.{Answered, Limit, Shared, columns, excess, limits, program_of, row_of, sum_passed}
-use Rattle.suit_supports.specs.Supports.{Support, declarer_chooses, defence_chooses, is_reached, layouts_of}
-use Rattle.suit_supports.specs.Supports.{legal_moves, supported_moves}
-use Rattle.suit_supports.specs.Worths.{mass_at, objective_at, worth_at}
+use Rattle.suit_supports.specs.Points.{Column, IsPositive, Point, given_to, no_point, point_of, same_column, unit_point}
+use Rattle.suit_supports.specs.Programs.{Limit, columns, excess, limits, program_of, row_of}
+use Rattle.suit_supports.specs.Supports.{Support, is_reached, layouts_of}
+use Rattle.suit_supports.specs.Worths.{objective_at, worth_at}
 use Rattle.suit_supports.proofs.LinearWorths.{costs_tell, rows_tell}
-use Rattle.suit_supports.proofs.ReachedPairs.{answered_listed, reached_allows, reached_next, reached_none, shared_listed}
-use Rattle.suit_supports.proofs.SummedOrders.{le_trans, sum_le}
-use Rattle.suit_supports.proofs.SupportedTurns.{Ended, Forced, Own, Theirs, TurnAt, turn_at}
-use Rattle.suit_supports.proofs.WorthBounds.{AreKept, IsPositive, within_paid}
-
--- ---- choices of the defence
-
--- a choice of the defence has a first move, and its moves keep the masses
-pub record IsTheirs (question : Question) (support : Support) (west : Counts) (history : List ClassMove) : Type 0 where
-  pub some : HasFirst (supported_moves question support west history)
-  pub same : (point : Point) (move : ClassMove)
-      → mass_at question support point (history ++ move ∷ []) ≡ mass_at question support point history
-
-pub their_choice : (question : Question) (support : Support) (west : Counts) (history : List ClassMove)
-    → defence_chooses question west history ≡ true → IsTheirs question support west history
-their_choice question support west history chooses = at (turn_at question support west history)
-  where
-    at : TurnAt question support west history → IsTheirs question support west history
-    at (Ended none not) = absurd (false≢true (sym not ∙ chooses))
-    at (Forced move only not same) = absurd (false≢true (sym not ∙ chooses))
-    at (Own own not same some) = absurd (false≢true (sym not ∙ chooses))
-    at (Theirs theirs some same) = record { some = some; same = same }
-
--- it is none of declarer's
-pub their_only : (question : Question) (west : Counts) (history : List ClassMove)
-    → defence_chooses question west history ≡ true → declarer_chooses question history ≡ false
-unfolding declarer_chooses defence_chooses
-their_only question west history chooses =
-    let several : Bool = nat_lt 1 (length (legal_moves question west history)) in
-    let theirs = (and_parts (is_defences (class_turn (class_after question history))) several chooses).0 in
-    ap (λ (b : Bool). b && nat_lt 1 (length (legal_moves question [] history)))
-    (their_turn (class_after question history) theirs).1
+use Rattle.suit_supports.proofs.ReachedPairs.{reached_none}
+use Rattle.suit_supports.proofs.PointsWithin.{IsWithin, kept_within}
+use Rattle.suit_supports.proofs.SummedOrders.{sum_le}
+use Rattle.suit_supports.proofs.WorthBounds.{within_paid}
 
 -- ---- feasible points
 
@@ -131,60 +96,17 @@ module _ (question : Question) (support : Support) (valid : IsValid question) (g
       below : (x a b : ℤ) → x ≡ a -ℤ b → a ≤ℤ b → x ≤ℤ pos 0
       below x a b is le = omega (arith, ints, is, le)
 
-  module _ (layout : Counts × ℕ) (listed : Contains (layouts_of question) layout) where
-    abbrev Reached : List ClassMove → Type 0
-    Reached history = is_reached question support layout.0 history ≡ true
+  pub feasible_within : IsWithin question support point
+  feasible_within = record { positive = feasible_positive; rows = rows_kept }
 
-    shared_kept : (history : List ClassMove) → Reached history → declarer_chooses question history ≡ true
-        → sum_passed question support point history ≤ℤ mass_at question support point history
-    unfolding excess
-    shared_kept history reached chooses =
-        under (sum_passed question support point history) (mass_at question support point history)
-        (rows_kept (Shared history) (shared_listed question support valid layout listed history reached chooses))
-      where
-        under : (a b : ℤ) → (a -ℤ b) ≤ℤ pos 0 → a ≤ℤ b
-        under a b le = omega (arith, ints, le)
-
-    held_kept : (history : List ClassMove) → Reached history → defence_chooses question layout.0 history ≡ true
-        → (move : ClassMove) → Contains (supported_moves question support layout.0 history) move
-        → point.at (Held layout.0 history) ≤ℤ worth_at question support point layout.0 (history ++ move ∷ [])
-    unfolding excess
-    held_kept history reached chooses move found =
-        under (point.at (Held layout.0 history)) (worth_at question support point layout.0 (history ++ move ∷ []))
-        (rows_kept (Answered layout.0 history move)
-        (answered_listed question support valid layout listed history move reached
-        (their_only question layout.0 history chooses) chooses found))
-      where
-        under : (a b : ℤ) → (a -ℤ b) ≤ℤ pos 0 → a ≤ℤ b
-        under a b le = omega (arith, ints, le)
-
-    kept : AreKept question support point layout.0 Reached
-    kept = record {
-      goes = λ history move reached found. reached_next question support layout.0 history move reached found;
-      payoffs = λ history reached. paid_most question layout.0 history
-          (reached_allows question support valid layout listed history reached);
-      shared = shared_kept;
-      held = λ history reached chooses paid.
-          let theirs = their_choice question support layout.0 history chooses in
-          let first : ClassMove = theirs.some.first in
-          let found : Contains (supported_moves question support layout.0 history) first =
-          subst (λ (l : List ClassMove). Contains l first) (sym theirs.some.parts)
-          (Contains-first first theirs.some.more) in
-          held_paid (mass_at question support point history)
-          (worth_at question support point layout.0 (history ++ first ∷ [])) (point.at (Held layout.0 history))
-          (feasible_positive.at (Held layout.0 history)) (held_kept history reached chooses first found)
-          (paid first found);
-    }
-      where
-        held_paid : (mass worth held : ℤ) → pos 0 ≤ℤ held → held ≤ℤ worth → IsPaid mass worth → IsPaid mass held
-        held_paid mass worth held low le paid =
-            record { some = low; few = le_trans held worth (pos 13 *ℤ mass) le paid.few }
-
-    -- at the start a class layout is worth no more than thirteen tricks
-    pub start_paid : IsPaid den (worth_at question support point layout.0 [])
-    unfolding mass_of mass_from
-    start_paid = within_paid question support point layout.0 Reached feasible_positive kept 53 []
-        (reached_none question support layout.0) refl
+  -- at the start a class layout is worth no more than thirteen tricks
+  pub start_paid : (layout : Counts × ℕ) → Contains (layouts_of question) layout
+      → IsPaid den (worth_at question support point layout.0 [])
+  unfolding mass_of mass_from
+  start_paid layout listed =
+      within_paid question support point layout.0 (λ history. is_reached question support layout.0 history ≡ true)
+      feasible_positive (kept_within question support valid point feasible_within layout listed) 53 []
+      (reached_none question support layout.0) refl
 
   pub objective_paid : objective_at question support point
       ≤ℤ (sum_of (map (λ (layout : Counts × ℕ). pos layout.1 *ℤ pos 13) (layouts_of question)) *ℤ den)

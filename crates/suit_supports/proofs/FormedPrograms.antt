@@ -25,7 +25,7 @@ use Rattle.suit_plans.proofs.HistoryOrder.{same_class_history_is}
 use Rattle.suit_plans.proofs.NumberSums.{sum_nothing}
 use Rattle.suit_tableaus.specs.declared.program.ProgramRow.{ProgramRow}
 use Rattle.suit_supports.specs.Optimality.{ProgramsAreWellFormed}
-use Rattle.suit_supports.specs.Points.{Column, Held, Passed, Point, no_point, same_column, unit_point}
+use Rattle.suit_supports.specs.Points.{IsPositive, Column, Held, Passed, Point, no_point, same_column, unit_point}
 use Rattle.suit_supports.specs.Programs.{Answered, Limit, Shared, columns, excess, limits, program_of, row_of, sum_passed}
 use Rattle.suit_supports.specs.Supports.{Support, layouts_of, supported_moves}
 use Rattle.suit_supports.specs.Worths.{mass_at, objective_at, worth_at}
@@ -33,7 +33,7 @@ use Rattle.suit_supports.proofs.Beginnings.{begins, begins_itself, begins_part}
 use Rattle.suit_supports.proofs.BoundedPrograms.{thirteen_each}
 use Rattle.suit_supports.proofs.ReachedPairs.{AtOwn, AtTheirs, StandsAt, limits_reached, reached_next, reached_none}
 use Rattle.suit_supports.proofs.TamePoints.{IsBetween, IsTame, path, tame_masses, tame_sums, tame_worths}
-use Rattle.suit_supports.proofs.WorthBounds.{IsPositive, masses_low, objective_low, within_low}
+use Rattle.suit_supports.proofs.WorthBounds.{masses_low, objective_low, within_low}
 
 -- ---- tame points
 

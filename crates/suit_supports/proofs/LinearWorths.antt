@@ -186,11 +186,11 @@ module _ (question : Question) (support : Support) (k : ℤ) (first second all :
 -- ---- the numbers of a program
 
 -- nothing at all
-abbrev nowhere : Point
+abbrev pub nowhere : Point
 nowhere = record { at = λ column. pos 0; one = pos 0 }
 
 module _ (f : Point → ℤ) (linear : IsLinear f) where
-  nowhere_nothing : f nowhere ≡ pos 0
+  pub nowhere_nothing : f nowhere ≡ pos 0
   nowhere_nothing =
       let twice : f nowhere ≡ pos 1 *ℤ f nowhere +ℤ f nowhere = linear (pos 1) nowhere nowhere nowhere (record {
         at = λ column. refl;

@@ -82,6 +82,14 @@ module _ (question : Question) (support : Support) where
       (legal_case (class_decided (class_after question history)) (class_moves (class_after question history) west) move
       (supported_legal west history move found)).1
 
+  -- at a class history that is not decided
+  pub supported_going : (west : Counts) (history : List ClassMove) (move : ClassMove)
+      → Contains (supported_moves question support west history) move
+      → class_decided (class_after question history) ≡ false
+  supported_going west history move found =
+      (legal_case (class_decided (class_after question history)) (class_moves (class_after question history) west) move
+      (supported_legal west history move found)).0
+
   -- each once
   pub supported_once : (west : Counts) (history : List ClassMove)
       → IsOnce (supported_moves question support west history)
@@ -112,10 +120,12 @@ module _ (question : Question) (support : Support) where
 
 -- what a class history is in a class layout
 pub data TurnAt (question : Question) (support : Support) (west : Counts) (history : List ClassMove) : Type 0 where
-  Ended : supported_moves question support west history ≡ [] → defence_chooses question west history ≡ false
-      → TurnAt question support west history
-  Forced : (move : ClassMove) → supported_moves question support west history ≡ move ∷ []
+  Ended : legal_moves question west history ≡ [] → supported_moves question support west history ≡ []
       → defence_chooses question west history ≡ false
+      → TurnAt question support west history
+  Forced : (move : ClassMove) → legal_moves question west history ≡ move ∷ []
+      → supported_moves question support west history ≡ move ∷ []
+      → (declarer_chooses question history ≡ false) × (defence_chooses question west history ≡ false)
       → ((point : Point) → mass_at question support point (history ++ move ∷ [])
       ≡ mass_at question support point history) → TurnAt question support west history
   Own : declarer_chooses question history ≡ true → defence_chooses question west history ≡ false
@@ -154,6 +164,10 @@ module _ (question : Question) (support : Support) (west : Counts) (history : Li
   no_defence : is_defences (class_turn view) ≡ false → defence_chooses question west history ≡ false
   unfolding defence_chooses
   no_defence not_theirs = ap (λ (b : Bool). b && nat_lt 1 (length legal)) not_theirs
+
+  no_own : is_declarers (class_turn view) ≡ false → declarer_chooses question history ≡ false
+  unfolding declarer_chooses
+  no_own not_own = ap (λ (b : Bool). b && nat_lt 1 (length (legal_moves question [] history))) not_own
 
   few_defence : (moves : List ClassMove) → legal ≡ moves → nat_lt 1 (length moves) ≡ false
       → defence_chooses question west history ≡ false
@@ -214,12 +228,13 @@ module _ (question : Question) (support : Support) (west : Counts) (history : Li
   over_none moves is decided = sym is ∙ ap (λ (b : Bool). if b then [] else class_moves view west) decided
 
   turn_in : (moves : List ClassMove) → legal ≡ moves → WhoseTurn view → TurnAt question support west history
-  turn_in [] is whose = Ended (supported_of [] is) (few_defence [] is refl)
+  turn_in [] is whose = Ended is (supported_of [] is) (few_defence [] is refl)
   turn_in (move ∷ []) is (Over decided turn) = absurd (nothing (over_none (move ∷ []) is decided))
   turn_in (move ∷ []) is (Declarers going own not_theirs) =
-      Forced move (supported_of (move ∷ []) is) (no_defence not_theirs) (forced_mass move is going own)
+      Forced move is (supported_of (move ∷ []) is) (own_choice (move ∷ []) is going own, no_defence not_theirs)
+      (forced_mass move is going own)
   turn_in (move ∷ []) is (Defences going not_own theirs) =
-      Forced move (supported_of (move ∷ []) is) (few_defence (move ∷ []) is refl)
+      Forced move is (supported_of (move ∷ []) is) (no_own not_own, few_defence (move ∷ []) is refl)
       (λ point. kept_mass not_own point move)
   turn_in (move ∷ next ∷ moves) is (Over decided turn) = absurd (nothing (over_none (move ∷ next ∷ moves) is decided))
   turn_in (move ∷ next ∷ moves) is (Declarers going own not_theirs) =

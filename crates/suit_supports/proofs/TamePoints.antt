@@ -13,7 +13,7 @@ use Rattle.suit_plans.specs.Masses.{mass_from, mass_of}
 use Rattle.suit_plans.specs.ReplyLaws.{IsPaid}
 use Rattle.suit_plans.proofs.PaidWorths.{paid_most}
 use Rattle.suit_plans.proofs.SharedSums.{sum_positive}
-use Rattle.suit_supports.specs.Points.{Column, Held, Passed, Point}
+use Rattle.suit_supports.specs.Points.{IsPositive, Column, Held, Passed, Point}
 use Rattle.suit_supports.specs.Programs.{sum_passed}
 use Rattle.suit_supports.specs.Supports.{Support, declarer_chooses, is_reached, layouts_of, supported_moves}
 use Rattle.suit_supports.specs.Worths.{mass_at, worth_at}
@@ -22,7 +22,7 @@ use Rattle.suit_supports.proofs.LinearWorths.{AreCombined, masses_linear, within
 use Rattle.suit_supports.proofs.ReachedPairs.{reached_allows, reached_fits, reached_next, reached_none}
 use Rattle.suit_supports.proofs.SummedOrders.{le_trans, sum_le}
 use Rattle.suit_supports.proofs.SupportedTurns.{Ended, Forced, Own, Theirs, TurnAt, mass_passed, supported_once, turn_at}
-use Rattle.suit_supports.proofs.WorthBounds.{AreKept, IsPositive, masses_low, within_low, within_paid}
+use Rattle.suit_supports.proofs.WorthBounds.{AreKept, masses_low, within_low, within_paid}
 
 abbrev path_at : List ClassMove → Column → ℤ
 path_at target (Passed history move) = begins (history ++ move ∷ []) target
@@ -90,9 +90,9 @@ module _ (question : Question) (support : Support) (valid : IsValid question) (t
   goes_on : (history : List ClassMove) (move : ClassMove) → Along history
       → Contains (supported_moves question support layout.0 history) move
       → TurnAt question support layout.0 history → Along (history ++ move ∷ [])
-  goes_on history move along found (Ended none not_theirs) =
+  goes_on history move along found (Ended over none not_theirs) =
       absurd (Contains-nil move (subst (λ (l : List ClassMove). Contains l move) none found))
-  goes_on history move along found (Forced only is not_theirs same) =
+  goes_on history move along found (Forced only alone is nobody same) =
       elim (Contains-cons_cases only [] move (subst (λ (l : List ClassMove). Contains l move) is found)) [
         | inl here ↦ kept_on history move along found (subst (λ (m : ClassMove). mass_on (history ++ m ∷ [])
             ≡ mass_on history) here (same (path target)))

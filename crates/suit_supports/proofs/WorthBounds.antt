@@ -18,16 +18,11 @@ use Rattle.suit_plans.specs.ReplyLaws.{IsPaid}
 use Rattle.suit_plans.proofs.PaidWorths.{product_paid, sum_paid}
 use Rattle.suit_plans.proofs.SharedSums.{count_case, sum_positive}
 use Rattle.suit_plans.proofs.TurnMoves.{HasFirst}
-use Rattle.suit_supports.specs.Points.{Column, Held, Passed, Point}
+use Rattle.suit_supports.specs.Points.{IsPositive, Held, Passed, Point}
 use Rattle.suit_supports.specs.Programs.{sum_passed}
 use Rattle.suit_supports.specs.Supports.{Support, declarer_chooses, defence_chooses, layouts_of, supported_moves}
 use Rattle.suit_supports.specs.Worths.{mass_at, objective_at, passed, player, summed, worth_at, worth_within}
 use Rattle.suit_supports.proofs.SupportedTurns.{Ended, Forced, Own, Theirs, TurnAt, mass_passed, turn_at}
-
--- a point without negative numbers
-pub record IsPositive (point : Point) : Type 0 where
-  pub at : (column : Column) → pos 0 ≤ℤ point.at column
-  pub one : pos 0 ≤ℤ point.one
 
 zero_low : pos 0 ≤ℤ pos 0
 zero_low = omega (arith, ints)
@@ -50,16 +45,22 @@ module _ (question : Question) (support : Support) (point : Point) (positive : I
   share_low history false true mass move low = low
   share_low history false false mass move low = zero_low
 
+  -- what a move lets through
+  pub through_low : (history : List ClassMove) (mass : ℤ) (move : ClassMove) → pos 0 ≤ℤ mass
+      → pos 0 ≤ℤ let_through question (player question support point) history mass move
+  through_low history mass move low =
+      let leads : Bool = is_first (class_moves (class_after question history) []) move in
+      count_case (is_declarers (class_turn (class_after question history)))
+      (share (if declarer_chooses question history then Some (passed question support point history) else None) leads
+      mass move) mass (share_low history (declarer_chooses question history) leads mass move low) low
+
   from_low : (history : List ClassMove) (mass : ℤ) (moves : List ClassMove) → pos 0 ≤ℤ mass
       → pos 0 ≤ℤ mass_from question (player question support point) history mass moves
   unfolding mass_from
   from_low history mass [] low = low
   from_low history mass (move ∷ moves) low =
-      let leads : Bool = is_first (class_moves (class_after question history) []) move in
       from_low (history ++ move ∷ []) (let_through question (player question support point) history mass move) moves
-      (count_case (is_declarers (class_turn (class_after question history)))
-      (share (if declarer_chooses question history then Some (passed question support point history) else None) leads
-      mass move) mass (share_low history (declarer_chooses question history) leads mass move low) low)
+      (through_low history mass move low)
 
   pub masses_low : (history : List ClassMove) → pos 0 ≤ℤ mass_at question support point history
   unfolding mass_of
@@ -132,6 +133,30 @@ pub record AreKept (question : Question) (support : Support) (point : Point) (we
       → IsPaid (mass_at question support point history) (worth_at question support point west (history ++ move ∷ [])))
       → IsPaid (mass_at question support point history) (point.at (Held west history))
 
+module _ (question : Question) (support : Support) (point : Point) (west : Counts) where
+  abbrev next_in : ℕ → List ClassMove → ClassMove → ℤ
+  next_in more history move = worth_within question support point more west (history ++ move ∷ [])
+
+  -- a class history that is no choice of the defence
+  pub going : (more : ℕ) (history : List ClassMove) (moves : List ClassMove)
+      → defence_chooses question west history ≡ false → supported_moves question support west history ≡ moves
+      → worth_within question support point (suc more) west history
+      ≡ summed question support point history (map (next_in more history) moves)
+  unfolding worth_within
+  going more history moves not_theirs is =
+      ap (λ (b : Bool). if b then point.at (Held west history)
+      else summed question support point history
+      (map (next_in more history) (supported_moves question support west history))) not_theirs
+      ∙ ap (λ (l : List ClassMove). summed question support point history (map (next_in more history) l)) is
+
+  pub choosing : (more : ℕ) (history : List ClassMove) → defence_chooses question west history ≡ true
+      → worth_within question support point (suc more) west history ≡ point.at (Held west history)
+  unfolding worth_within
+  choosing more history theirs =
+      ap (λ (b : Bool). if b then point.at (Held west history)
+      else summed question support point history
+      (map (next_in more history) (supported_moves question support west history))) theirs
+
 module _ (question : Question) (support : Support) (point : Point) (west : Counts) (Fits : List ClassMove → Type 0)
     (positive : IsPositive point) (kept : AreKept question support point west Fits) where
   abbrev mass : List ClassMove → ℤ
@@ -144,26 +169,6 @@ module _ (question : Question) (support : Support) (point : Point) (west : Count
   abbrev ArePaid : ℕ → List ClassMove → Type 0
   ArePaid more history = (move : ClassMove) → Contains (supported_moves question support west history) move
       → IsPaid (mass (history ++ move ∷ [])) (next more history move)
-
-  -- a class history that is no choice of the defence
-  going : (more : ℕ) (history : List ClassMove) (moves : List ClassMove)
-      → defence_chooses question west history ≡ false → supported_moves question support west history ≡ moves
-      → worth_within question support point (suc more) west history
-      ≡ summed question support point history (map (next more history) moves)
-  unfolding worth_within
-  going more history moves not_theirs is =
-      ap (λ (b : Bool). if b then point.at (Held west history)
-      else summed question support point history
-      (map (next more history) (supported_moves question support west history))) not_theirs
-      ∙ ap (λ (l : List ClassMove). summed question support point history (map (next more history) l)) is
-
-  choosing : (more : ℕ) (history : List ClassMove) → defence_chooses question west history ≡ true
-      → worth_within question support point (suc more) west history ≡ point.at (Held west history)
-  unfolding worth_within
-  choosing more history theirs =
-      ap (λ (b : Bool). if b then point.at (Held west history)
-      else summed question support point history
-      (map (next more history) (supported_moves question support west history))) theirs
 
   -- the sum over the moves of declarer's choice
   own_paid : (more : ℕ) (history : List ClassMove) → Fits history → declarer_chooses question history ≡ true
@@ -184,23 +189,23 @@ module _ (question : Question) (support : Support) (point : Point) (west : Count
   turn_paid : (more : ℕ) (history : List ClassMove) → Fits history → suc more ≡ 53 - length history
       → ArePaid more history → TurnAt question support west history
       → IsPaid (mass history) (worth_within question support point (suc more) west history)
-  turn_paid more history fits left paid (Ended none not_theirs) =
-      subst (IsPaid (mass history)) (sym (going more history [] not_theirs none))
+  turn_paid more history fits left paid (Ended over none not_theirs) =
+      subst (IsPaid (mass history)) (sym (going question support point west more history [] not_theirs none))
       (product_paid (class_payoff (class_after question history)) (mass history) (kept.payoffs history fits)
       (masses_low question support point positive history))
-  turn_paid more history fits left paid (Forced move only not_theirs same) =
+  turn_paid more history fits left paid (Forced move alone only nobody same) =
       let one : IsPaid (mass history) (next more history move) =
       subst (λ (z : ℤ). IsPaid z (next more history move)) (same point)
       (paid move (subst (λ (l : List ClassMove). Contains l move) (sym only) (Contains-first move []))) in
-      subst (IsPaid (mass history)) (sym (going more history (move ∷ []) not_theirs only ∙ only_one (next more history
+      subst (IsPaid (mass history)) (sym (going question support point west more history (move ∷ []) nobody.1 only ∙ only_one (next more history
       move))) one
   turn_paid more history fits left paid (Own chooses not_theirs same some) =
       let moves : List ClassMove = supported_moves question support [] history in
-      subst (IsPaid (mass history)) (sym (going more history moves not_theirs same ∙ some_summed question support point history
+      subst (IsPaid (mass history)) (sym (going question support point west more history moves not_theirs same ∙ some_summed question support point history
       (next more history) moves some))
       (own_paid more history fits chooses same paid)
   turn_paid more history fits left paid (Theirs chooses some same) =
-      subst (IsPaid (mass history)) (sym (choosing more history chooses))
+      subst (IsPaid (mass history)) (sym (choosing question support point west more history chooses))
       (kept.held history fits chooses
       (λ move found. subst (IsPaid (mass history))
       (ap (λ (n : ℕ). worth_within question support point n west (history ++ move ∷ []))

@@ -3,6 +3,7 @@ pub mod Examples
 pub mod Optimality
 pub mod Points
 pub mod Programs
+pub mod ReadingLaws
 pub mod Readings
 pub mod Supports
 pub mod Worths

@@ -1,5 +1,5 @@
 -- The columns of a support's program by name, and points, which give each a number.
-use Rattle.std.specs.Prelude.{ℕ, suc, ◌&&◌, Bool, false, List, [], ◌∷◌, ℤ, pos, ◌+ℤ◌, ◌*ℤ◌, bytes_eq, if◌then◌else◌}
+use Rattle.std.specs.Prelude.{ℕ, suc, ◌&&◌, Bool, false, List, [], ◌∷◌, ℤ, pos, ◌+ℤ◌, ◌*ℤ◌, ◌≤ℤ◌, bytes_eq, if◌then◌else◌}
 use Rattle.suit_cards.specs.Cards.{Counts}
 use Rattle.suit_classes.specs.declared.class_moves.ClassMove.{ClassMove}
 use Rattle.suit_classes.specs.ClassMoves.{ClassHistory, same_class_move}
@@ -41,3 +41,8 @@ given_to (column ∷ columns) given wanted =
 -- the point that gives the columns of a list these numbers, in their order, over a denominator
 abbrev pub point_of : List Column → (ℕ → ℤ) → ℤ → Point
 point_of columns given den = record { at = given_to columns given; one = den }
+
+-- a point has no negative number
+pub record IsPositive (point : Point) : Type 0 where
+  pub at : (column : Column) → pos 0 ≤ℤ point.at column
+  pub one : pos 0 ≤ℤ point.one

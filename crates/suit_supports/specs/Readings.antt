@@ -5,6 +5,7 @@ use Rattle.std.specs.Int.{int_min, int_max}
 use Rattle.std.specs.Ordering.{int_eq}
 use Rattle.std.specs.List.{flat_map}
 use Rattle.suit_cards.specs.Cards.{Counts}
+use Rattle.suit_num.specs.declared.fraction.Frac.{Frac}
 use Rattle.suit_num.specs.Divisors.{lcm_of}
 use Rattle.suit_game.specs.declared.question.Question.{Question}
 use Rattle.suit_classes.specs.declared.class_moves.ClassMove.{ClassMove}
@@ -57,8 +58,8 @@ all_on_first (first ∷ shares) mass = int_eq first.1 mass
 -- whether a class history has a row: there is a choice and some mass, which is not all on the first move
 unfoldable pub has_row : Reading → ClassHistory → Bool
 has_row reading history =
-    reading.chooses history && int_lt (pos 0) (read_mass reading history)
-    && not (all_on_first (read_shares reading history) (read_mass reading history))
+    reading.chooses history && (int_lt (pos 0) (read_mass reading history)
+    && not (all_on_first (read_shares reading history) (read_mass reading history)))
 
 -- the counts of its row: those that are not 0
 unfoldable pub row_counts : Reading → ClassHistory → Shares
@@ -79,6 +80,10 @@ topped_up mass (first ∷ shares) = (first.0, int_max first.1 (mass -ℤ sum_cou
 -- a number of an optimum's point, as a numerator and a denominator
 abbrev pub Part : Type 0
 Part = ℤ × ℤ
+
+-- the numbers of a point
+abbrev pub parts_of : List Frac → List Part
+parts_of point = map (λ (part : Frac). (part.num, part.den)) point
 
 -- whether a column is declarer's
 abbrev pub is_passed : Column → Bool
