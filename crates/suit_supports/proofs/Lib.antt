@@ -1,6 +1,7 @@
 pub mod Beginnings
 pub mod BoundedPrograms
 pub mod ChoicePlaces
+pub mod DistinctLimits
 pub mod Dualities
 pub mod FormedPrograms
 pub mod KeptWorths
@@ -11,6 +12,7 @@ pub mod MostMet
 pub mod PlanLaws
 pub mod PlanPoints
 pub mod PointsWithin
+pub mod PricedRows
 pub mod ReachedOrder
 pub mod ReachedPairs
 pub mod ReadMasses
@@ -21,5 +23,6 @@ pub mod SummedOrders
 pub mod SupportedReplies
 pub mod SupportedTurns
 pub mod TamePoints
+pub mod TreeSums
 pub mod WorkedPrograms
 pub mod WorthBounds
