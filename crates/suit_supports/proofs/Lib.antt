@@ -12,6 +12,8 @@ pub mod MostMet
 pub mod PlanLaws
 pub mod PlanPoints
 pub mod PointsWithin
+pub mod PriceBounds
+pub mod PricedPoints
 pub mod PricedRows
 pub mod ReachedOrder
 pub mod ReachedPairs

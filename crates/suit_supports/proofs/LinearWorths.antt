@@ -146,7 +146,7 @@ module _ (question : Question) (support : Support) (k : ℤ) (first second all :
       (summed_linear history (next first) (next second) (next all) moves
       (λ move. within_linear more west (history ++ move ∷ [])))
 
-  objectives_linear : objective_at question support all
+  pub objectives_linear : objective_at question support all
       ≡ k *ℤ objective_at question support first +ℤ objective_at question support second
   unfolding objective_at
   objectives_linear =
@@ -167,7 +167,7 @@ module _ (question : Question) (support : Support) (k : ℤ) (first second all :
       (λ move. all.at (Passed history move)) (supported_moves question support [] history)
       (λ move. combined.at (Passed history move))
 
-  excess_linear : (limit : Limit)
+  pub excess_linear : (limit : Limit)
       → excess question support all limit
       ≡ k *ℤ excess question support first limit +ℤ excess question support second limit
   unfolding excess
