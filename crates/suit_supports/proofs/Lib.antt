@@ -1,6 +1,7 @@
 pub mod Beginnings
 pub mod BoundedPrograms
 pub mod ChoicePlaces
+pub mod DefenceLaws
 pub mod DistinctLimits
 pub mod Dualities
 pub mod FormedPrograms
@@ -17,6 +18,7 @@ pub mod PricedPoints
 pub mod PricedRows
 pub mod ReachedOrder
 pub mod ReachedPairs
+pub mod ReadDefences
 pub mod ReadMasses
 pub mod ReadPlans
 pub mod RowFacts

@@ -135,6 +135,17 @@ reached_undecided question support west history reached =
     both true true p q = absurd (false≢true (sym q))
     both false b p q = absurd (false≢true p)
 
+-- of one move the first
+pub only_first : (moves : List ClassMove) (move : ClassMove) → nat_lt 1 (length moves) ≡ false → Contains moves move
+    → is_first moves move ≡ true
+only_first [] move few found = absurd (Contains-nil move found)
+only_first (first ∷ []) move few found = elim (Contains-cons_cases first [] move found) [
+  | inl here ↦ subst (λ (m : ClassMove). same_class_move first m ≡ true) here (same_move-itself first)
+  | inr there ↦ absurd (Contains-nil move there)
+]
+only_first (first ∷ next ∷ moves) move few found =
+    absurd (false≢true (sym few ∙ lt-ltb 1 (suc (suc (length moves))) (omega arith)))
+
 -- a move without a choice is the first
 forced_first : (question : Question) (support : Support) (west : Counts) (history : List ClassMove) (move : ClassMove)
     → is_declarers (class_turn (class_after question history)) ≡ true → declarer_chooses question history ≡ false
@@ -150,21 +161,11 @@ forced_first question support west history move own waits found =
     only_first moves move few (subst (λ (l : List ClassMove). Contains l move)
     (declarers_moves (class_after question history) west [] own)
     (supported_class_move question support west history move found))
-  where
-    only_first : (moves : List ClassMove) (move : ClassMove) → nat_lt 1 (length moves) ≡ false → Contains moves move
-        → is_first moves move ≡ true
-    only_first [] move few found = absurd (Contains-nil move found)
-    only_first (first ∷ []) move few found = elim (Contains-cons_cases first [] move found) [
-      | inl here ↦ subst (λ (m : ClassMove). same_class_move first m ≡ true) here (same_move-itself first)
-      | inr there ↦ absurd (Contains-nil move there)
-    ]
-    only_first (first ∷ next ∷ moves) move few found =
-        absurd (false≢true (sym few ∙ lt-ltb 1 (suc (suc (length moves))) (omega arith)))
 
 -- ---- class histories in order
 
 -- all of some stand before what comes after them
-chain_before : (done : List (List ClassMove)) (history : List ClassMove) (rest : List (List ClassMove))
+pub chain_before : (done : List (List ClassMove)) (history : List ClassMove) (rest : List (List ClassMove))
     → Chained IsEarlier (done ++ history ∷ rest) → AllByRecursion (λ other. IsEarlier other history) done
 unfolding Chained
 chain_before [] history rest chain = tt
@@ -197,7 +198,7 @@ any_append test [] ys none = none
 any_append test (x ∷ xs) ys none = ap (λ (b : Bool). test x || b) (any_append test xs ys none)
 
 -- a beginning of a class history is found only before it
-any_before : (done : List (List ClassMove)) (history : List ClassMove) (rest : List (List ClassMove))
+pub any_before : (done : List (List ClassMove)) (history : List ClassMove) (rest : List (List ClassMove))
     (begun : List ClassMove) → Chained IsEarlier (done ++ history ∷ rest) → IsEarlier begun history
     → list_any (λ other. same_class_history other begun) (done ++ history ∷ rest)
     ≡ list_any (λ other. same_class_history other begun) done

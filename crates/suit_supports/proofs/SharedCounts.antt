@@ -3,7 +3,7 @@
 use Rattle.std.proofs.Common.{◌≡◌, Bool, true, false, List, [], ◌∷◌, None, map, refl, sym, ap, ◌∙◌, subst}
 use Rattle.std.proofs.Common.{arith}
 use Rattle.std.specs.Prelude.{◌&&◌, cond, filter, not, if◌then◌else◌, ℤ, pos, ◌+ℤ◌, ◌-ℤ◌, ◌≤ℤ◌, int_lt}
-use Rattle.std.specs.Int.{int_max}
+use Rattle.std.specs.Int.{int_max, int_min}
 use Rattle.std.specs.List.{AllByRecursion}
 use Rattle.std.specs.Ordering.{int_eq}
 use Rattle.std.proofs.lemmas.Bool.{false_from_ne_true}
@@ -17,7 +17,7 @@ use Rattle.suit_classes.proofs.SameMoves.{same_move_is}
 use Rattle.suit_plans.specs.Masses.{Shares, count_of, is_first, share}
 use Rattle.suit_plans.specs.Properness.{moves_of, sum_of}
 use Rattle.suit_plans.proofs.TurnMoves.{HasFirst}
-use Rattle.suit_supports.specs.Readings.{all_on_first, sum_counts, topped_up}
+use Rattle.suit_supports.specs.Readings.{all_on_first, filled, sum_counts, topped_up}
 
 -- no count is negative
 abbrev pub AreLow : Shares → Type 0
@@ -220,3 +220,40 @@ topped_of_moves f [] mass is low le = absurd (cc)
 topped_of_moves f (move ∷ moves) mass is low le =
     topped_out mass (move, f move) (map (λ other. (other, f other)) moves) (low_mapped f (move ∷ moves) low)
     (subst (λ (z : ℤ). z ≤ℤ mass) (sym (sum_mapped f (move ∷ moves))) le)
+
+-- ---- counts that are cut
+
+pub filled_moves : (mass : ℤ) (shares : Shares) → moves_of (filled mass shares) ≡ moves_of shares
+unfolding filled
+filled_moves mass [] = refl
+filled_moves mass (count ∷ shares) =
+    ap (λ (l : List ClassMove). count.0 ∷ l) (filled_moves (mass -ℤ int_min count.1 mass) shares)
+
+-- they share out the mass, where they do not add up to less
+pub filled_out : (mass : ℤ) (shares : Shares) → pos 0 ≤ℤ mass → AreLow shares → mass ≤ℤ sum_counts shares
+    → ShareOut mass (filled mass shares)
+unfolding filled sum_of
+filled_out mass [] some low enough = record { low = tt; adds = none mass some enough }
+  where
+    none : (mass : ℤ) → pos 0 ≤ℤ mass → mass ≤ℤ pos 0 → pos 0 ≡ mass
+    none mass some enough = omega (arith, ints, some, enough)
+filled_out mass (count ∷ shares) some low enough =
+    let taken : ℤ = int_min count.1 mass in
+    let rest = filled_out (mass -ℤ taken) shares (left count.1 mass some) low.1
+    (still count.1 mass (sum_counts shares) enough (counts_low shares low.1)) in
+    record {
+      low = (taken_low count.1 mass low.0 some, rest.low);
+      adds = all taken mass (sum_counts (filled (mass -ℤ taken) shares)) rest.adds;
+    }
+  where
+    left : (x mass : ℤ) → pos 0 ≤ℤ mass → pos 0 ≤ℤ (mass -ℤ int_min x mass)
+    left x mass some = omega (arith, ints, clamps, some)
+
+    still : (x mass sum : ℤ) → mass ≤ℤ (x +ℤ sum) → pos 0 ≤ℤ sum → (mass -ℤ int_min x mass) ≤ℤ sum
+    still x mass sum enough low = omega (arith, ints, clamps, enough, low)
+
+    taken_low : (x mass : ℤ) → pos 0 ≤ℤ x → pos 0 ≤ℤ mass → pos 0 ≤ℤ int_min x mass
+    taken_low x mass low some = omega (arith, ints, clamps, low, some)
+
+    all : (taken mass sum : ℤ) → sum ≡ mass -ℤ taken → taken +ℤ sum ≡ mass
+    all taken mass sum is = omega (arith, ints, is)

@@ -3,12 +3,12 @@ use Rattle.std.specs.Prelude.{◌≡◌, false, [], length, pos, ◌*ℤ◌, ◌
 use Rattle.suit_game.specs.declared.question.Question.{Question}
 use Rattle.suit_game.specs.Validity.{IsValid}
 use Rattle.suit_classes.specs.ClassMoves.{ClassHistory}
-use Rattle.suit_plans.specs.BestReplies.{least, least_reply}
-use Rattle.suit_plans.specs.Properness.{IsProperPlan}
+use Rattle.suit_plans.specs.BestReplies.{least, least_reply, most, most_reply}
+use Rattle.suit_plans.specs.Properness.{IsProperDefence, IsProperPlan}
 use Rattle.suit_tableaus.specs.declared.ends.Optimum.{Optimum}
-use Rattle.suit_tableaus.specs.Optima.{IsPrimalOptimum}
+use Rattle.suit_tableaus.specs.Optima.{IsDualOptimum, IsPrimalOptimum}
 use Rattle.suit_supports.specs.Points.{IsPositive, Point}
-use Rattle.suit_supports.specs.Readings.{is_wide, parts_of, plan_den, plan_of, plan_reading, read_mass}
+use Rattle.suit_supports.specs.Readings.{defence_of, is_wide, parts_of, plan_den, plan_of, plan_reading, read_mass}
 use Rattle.suit_supports.specs.Programs.{columns, program_of, supported_worth}
 use Rattle.suit_supports.specs.Supports.{Support, are_new}
 use Rattle.suit_supports.specs.Worths.{mass_at}
@@ -44,3 +44,17 @@ ReadPlansKeepTheWorth = (question : Question) (support : Support) (optimum : Opt
     → (supported_worth question support optimum.value optimum.scale
     *ℤ plan_den question support (parts_of optimum.point))
     ≤ℤ (least question (plan_of question support (parts_of optimum.point)) *ℤ optimum.scale)
+
+-- ---- the defence
+
+-- an optimum's prices are those of a support's program, and what is read from it is not too wide
+pub record IsPriced (question : Question) (support : Support) (optimum : Optimum) : Type 0 where
+  pub valid : IsValid question
+  pub dual : IsDualOptimum (program_of question support) optimum
+  pub narrow : is_wide question support (parts_of optimum.point) optimum.scale ≡ false
+
+-- the defence that is read is proper
+abbrev pub ReadDefencesAreProper : Type 0
+ReadDefencesAreProper = (question : Question) (support : Support) (optimum : Optimum)
+    → IsPriced question support optimum
+    → IsProperDefence question (defence_of question support optimum.duals optimum.scale)

@@ -2,6 +2,7 @@
 ghost use Rattle.suit_supports.specs.Duality.{MeetingsLieBetween, WeakDuality};
 ghost use Rattle.suit_supports.specs.Optimality.{CostsTell, ProgramsAreBounded, ProgramsAreWellFormed, RowsTell};
 ghost use Rattle.suit_supports.specs.ReadingLaws.{MassesAreRead, ReadPlansAreProper, ReadPlansKeepTheWorth};
+ghost use Rattle.suit_supports.specs.ReadingLaws.{ReadDefencesAreProper};
 
 /// What a proper plan and a proper defence earn when they meet lies between what each promises.
 pub fn meetings_lie_between()
@@ -46,4 +47,9 @@ pub fn read_plans_are_proper()
 /// Where a support has all moves of the best reply to it, it earns at least what the game of the support is worth.
 pub fn read_plans_keep_the_worth()
     ensures { ReadPlansKeepTheWorth }
+{}
+
+/// The defence that is read from an optimum is proper.
+pub fn read_defences_are_proper()
+    ensures { ReadDefencesAreProper }
 {}

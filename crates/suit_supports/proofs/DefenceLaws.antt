@@ -1,0 +1,24 @@
+-- What holds of the defence that is read from an optimum (`read_defences_are_proper`).
+use Rattle.std.proofs.Common.{◌≡◌, Bool, true, false, refl, arith}
+use Rattle.std.specs.Prelude.{◌||◌, ◌^◌, ℤ, pos, ◌<ℤ◌, ◌≤ℤ◌, int_le, int_lt}
+use Rattle.std.proofs.lemmas.Bool.{or_parts}
+use Rattle.std.proofs.lemmas.Int.{ints}
+use Rattle.suit_num.proofs.IntegerLaws.{int_lt-false}
+use Rattle.suit_supports.specs.ReadingLaws.{IsPriced, ReadDefencesAreProper}
+use Rattle.suit_supports.specs.Readings.{is_wide, parts_of, plan_den}
+use Rattle.suit_supports.proofs.ReadDefences.{read_defence_proper}
+
+low_told : (x y : ℤ) → x ≤ℤ y → int_le x y ≡ true
+low_told x y le = grind (arith, ints, le)
+
+some_told : (x : ℤ) → pos 0 <ℤ x → int_le (pos 1) x ≡ true
+some_told x some = low_told (pos 1) x (omega (arith, ints, some))
+
+pub read_defences_are_proper : ReadDefencesAreProper
+unfolding is_wide
+read_defences_are_proper question support optimum priced =
+    read_defence_proper question support priced.valid optimum.duals optimum.scale priced.dual.0
+    (some_told optimum.scale priced.dual.0.over)
+    (low_told optimum.scale (pos (2 ^ 90)) (int_lt-false (pos (2 ^ 90)) optimum.scale
+    (or_parts (int_lt (pos (2 ^ 90)) (plan_den question support (parts_of optimum.point)))
+    (int_lt (pos (2 ^ 90)) optimum.scale) priced.narrow).1))
