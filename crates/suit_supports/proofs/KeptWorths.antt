@@ -181,7 +181,7 @@ filter_le named (move ∷ moves) f g le low =
     (λ other found. low other (Contains-later move moves other found)))
 
 -- the first that passes does
-first_passes : (test : ClassMove → Bool) (moves : List ClassMove) (move : ClassMove) → Contains moves move
+pub first_passes : (test : ClassMove → Bool) (moves : List ClassMove) (move : ClassMove) → Contains moves move
     → test move ≡ true → test (first_of (filter test moves)) ≡ true
 first_passes test [] move found passes = absurd (Contains-nil move found)
 first_passes test (first ∷ moves) move found passes =

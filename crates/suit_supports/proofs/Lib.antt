@@ -26,6 +26,7 @@ pub mod SharedCounts
 pub mod SummedOrders
 pub mod SupportedReplies
 pub mod SupportedTurns
+pub mod TakenMoves
 pub mod TamePoints
 pub mod TreeSums
 pub mod WorkedPrograms

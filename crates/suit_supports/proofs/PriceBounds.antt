@@ -52,7 +52,7 @@ use Rattle.suit_supports.proofs.WorthBounds.{choosing, going, left_next, only_on
 
 -- ---- numbers
 
-sum_none_more : {X : Type 0} (f : X → ℤ) (xs : List X) → ((x : X) → Contains xs x → f x ≤ℤ pos 0)
+pub sum_none_more : {X : Type 0} (f : X → ℤ) (xs : List X) → ((x : X) → Contains xs x → f x ≤ℤ pos 0)
     → sum_of (map f xs) ≤ℤ pos 0
 unfolding sum_of
 sum_none_more f [] low = omega (arith, ints)

@@ -23,7 +23,7 @@ use Rattle.suit_plans.specs.Masses.{plan_mass}
 use Rattle.suit_plans.specs.ReplyLaws.{counts_at}
 use Rattle.suit_supports.specs.Supports.{Support, are_new, defence_chooses, goes_supported, is_reached, layouts_of}
 use Rattle.suit_supports.specs.Supports.{supported_moves}
-use Rattle.suit_supports.proofs.ReachedPairs.{reached_allows}
+use Rattle.suit_supports.proofs.ReachedPairs.{reached_allows, reached_next, reached_none}
 use Rattle.suit_supports.proofs.SupportedTurns.{supported_legal}
 
 -- ---- a reply goes on
@@ -55,7 +55,7 @@ follows-push reply history (first ∷ moves) move =
     && (if reply.replies h then same_class_move (reply_move reply h) move else true))
     (append_assoc history (first ∷ []) moves)
 
-both_true : (a b : Bool) → a ≡ true → b ≡ true → (a && b) ≡ true
+pub both_true : (a b : Bool) → a ≡ true → b ≡ true → (a && b) ≡ true
 both_true true b one other = other
 both_true false b one other = one
 
@@ -76,29 +76,33 @@ follows_next reply history move goes same =
 -- ---- where it is listed
 
 -- what goes on with the moves of a reply is among its class histories
-goes_within : (question : Question) (support : Support) (west : Counts) (reply : Reply)
-    → ((history : ClassHistory) (move : ClassMove) → Contains (supported_moves question support west history) move
+pub goes_within : (question : Question) (support : Support) (west : Counts) (reply : Reply)
+    → ((history : ClassHistory) (move : ClassMove) → is_reached question support west history ≡ true
+    → Contains (supported_moves question support west history) move
     → Contains (reply.moves history) move)
     → (more : ℕ) (history moves : ClassHistory) → length moves ≤ more
+    → is_reached question support west history ≡ true
     → goes_supported question support west history moves ≡ true
     → Contains (histories_within more reply history) (history ++ moves)
 unfolding histories_within goes_supported
-goes_within question support west reply held zero history [] within goes =
+goes_within question support west reply held zero history [] within reached goes =
     subst (Contains (history ∷ [])) (sym (append-nil history)) (Contains-first history [])
-goes_within question support west reply held (suc more) history [] within goes =
+goes_within question support west reply held (suc more) history [] within reached goes =
     subst (Contains (histories_within (suc more) reply history)) (sym (append-nil history))
     (Contains-first history (flat_map (λ move. histories_within more reply (history ++ move ∷ []))
     (reply.moves history)))
-goes_within question support west reply held zero history (move ∷ moves) within goes = absurd (omega (arith, within))
-goes_within question support west reply held (suc more) history (move ∷ moves) within goes =
+goes_within question support west reply held zero history (move ∷ moves) within reached goes =
+    absurd (omega (arith, within))
+goes_within question support west reply held (suc more) history (move ∷ moves) within reached goes =
     let parts = and_parts (is_among (supported_moves question support west history) move)
     (goes_supported question support west (history ++ move ∷ []) moves) goes in
     let found = among-Contains (supported_moves question support west history) move parts.0 in
     let next : ClassMove → List ClassHistory = λ other. histories_within more reply (history ++ other ∷ []) in
     Contains-later history (flat_map next (reply.moves history)) (history ++ move ∷ moves)
-    (Contains-flat_map next (reply.moves history) move (history ++ move ∷ moves) (held history move found)
+    (Contains-flat_map next (reply.moves history) move (history ++ move ∷ moves) (held history move reached found)
     (subst (Contains (next move)) (append_assoc history (move ∷ []) moves)
-    (goes_within question support west reply held more (history ++ move ∷ []) moves (omega (arith, within)) parts.1)))
+    (goes_within question support west reply held more (history ++ move ∷ []) moves (omega (arith, within))
+    (reached_next question support west history move reached found) parts.1)))
 
 -- an element stands at an index
 pub index_of : {X : Type 0} (xs : List X) (x d : X) → Contains xs x → (index : ℕ) × (index < length xs)
@@ -112,7 +116,7 @@ index_of (first ∷ xs) x d found = elim (Contains-cons_cases first xs x found) 
 ]
 
 -- what fails of none passes of each
-none_fails : {X : Type 0} (test : X → Bool) (xs : List X) (x : X) → list_any (λ y. not (test y)) xs ≡ false
+pub none_fails : {X : Type 0} (test : X → Bool) (xs : List X) (x : X) → list_any (λ y. not (test y)) xs ≡ false
     → Contains xs x → test x ≡ true
 none_fails test [] x none found = absurd (Contains-nil x found)
 none_fails test (first ∷ xs) x none found = elim (Contains-cons_cases first xs x found) [
@@ -159,7 +163,8 @@ module _ (question : Question) (support : Support) (plan : Plan) (valid : IsVali
       Contains-filter (λ other. has_choice reply other && reply_reaches reply other) (histories_within 52 reply [])
       history
       (goes_within question support layout.0 reply
-      (λ other move found. supported_legal question support layout.0 other move found) 52 [] history short reached)
+      (λ other move there found. supported_legal question support layout.0 other move found) 52 [] history short
+      (reached_none question support layout.0) reached)
       (both_true (has_choice reply history) (reply_reaches reply history) chooses
       (both_true (reply.live history) (follows reply [] history) live goes)) in
       let entry : DefenceMove = record { layout = at.0; history = history; mv = reply_move reply history } in

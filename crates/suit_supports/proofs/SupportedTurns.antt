@@ -152,12 +152,12 @@ module _ (question : Question) (support : Support) (west : Counts) (history : Li
   abbrev legal : List ClassMove
   legal = legal_moves question west history
 
-  legal_going : (counts : Counts) → class_decided view ≡ false → legal_moves question counts history
+  pub legal_going : (counts : Counts) → class_decided view ≡ false → legal_moves question counts history
       ≡ class_moves view counts
   legal_going counts going = ap (λ (b : Bool). if b then [] else class_moves view counts) going
 
   -- declarer's moves are the same whatever West has
-  own_legal : class_decided view ≡ false → is_declarers (class_turn view) ≡ true
+  pub own_legal : class_decided view ≡ false → is_declarers (class_turn view) ≡ true
       → legal_moves question [] history ≡ legal
   own_legal going own = legal_going [] going ∙ declarers_moves view [] west own ∙ sym (legal_going west going)
 
@@ -196,7 +196,7 @@ module _ (question : Question) (support : Support) (west : Counts) (history : Li
   supported_of moves is = ap (first_and (names question support west history)) is
 
   -- the names of declarer's do not rest on West's counts
-  own_supported : class_decided view ≡ false → is_declarers (class_turn view) ≡ true
+  pub own_supported : class_decided view ≡ false → is_declarers (class_turn view) ≡ true
       → supported_moves question support west history ≡ supported_moves question support [] history
   unfolding supported_moves
   own_supported going own =

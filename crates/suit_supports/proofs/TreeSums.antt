@@ -127,7 +127,7 @@ module _ (question : Question) (support : Support) where
       ∙ sym (supported_all layout.0 history)
 
   -- the class layouts in which a class history is reached with a move more
-  layouts_next : (history : List ClassMove) (move : ClassMove)
+  pub layouts_next : (history : List ClassMove) (move : ClassMove)
       → filter (λ (layout : Counts × ℕ). is_among (supported_moves question support layout.0 history) move)
       (reached_layouts question support history) ≡ reached_layouts question support (history ++ move ∷ [])
   unfolding reached_layouts
