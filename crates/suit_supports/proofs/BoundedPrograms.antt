@@ -31,7 +31,7 @@ use Rattle.suit_supports.proofs.WorthBounds.{within_paid}
 
 -- ---- feasible points
 
-given_low : (all : List Column) (given : ℕ → ℤ) (wanted : Column)
+pub given_low : (all : List Column) (given : ℕ → ℤ) (wanted : Column)
     → ((index : ℕ) → index < length all → pos 0 ≤ℤ given index) → pos 0 ≤ℤ given_to all given wanted
 unfolding given_to
 given_low [] given wanted low = omega (arith, ints)

@@ -29,5 +29,6 @@ pub mod SupportedTurns
 pub mod TakenMoves
 pub mod TamePoints
 pub mod TreeSums
+pub mod UpperBounds
 pub mod WorkedPrograms
 pub mod WorthBounds

@@ -195,7 +195,7 @@ module _ (question : Question) (support : Support) where
       (subst (λ (b : Bool). Contains (if b then column ∷ [] else []) column) (sym chooses)
       (Contains-first column []))))
 
-negated : (f g : ClassMove → ℤ) (moves : List ClassMove)
+pub negated : (f g : ClassMove → ℤ) (moves : List ClassMove)
     → sum_of (map (λ move. f move *ℤ (pos 0 -ℤ g move)) moves)
     ≡ pos 0 -ℤ sum_of (map (λ move. f move *ℤ g move) moves)
 unfolding sum_of

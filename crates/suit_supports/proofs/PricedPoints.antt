@@ -45,7 +45,7 @@ mapped_twice : {X Y Z : Type 0} (f : Y → Z) (g : X → Y) (xs : List X) → ma
 mapped_twice f g [] = refl
 mapped_twice {X} {Y} {Z} f g (x ∷ xs) = ap (λ (l : List Z). f (g x) ∷ l) (mapped_twice f g xs)
 
-filter_all : {X : Type 0} (test : X → Bool) (xs : List X) → ((x : X) → test x ≡ true) → filter test xs ≡ xs
+pub filter_all : {X : Type 0} (test : X → Bool) (xs : List X) → ((x : X) → test x ≡ true) → filter test xs ≡ xs
 filter_all test [] all = refl
 filter_all {X} test (x ∷ xs) all =
     ap (λ (b : Bool). cond b (x ∷ filter test xs) (filter test xs)) (all x)

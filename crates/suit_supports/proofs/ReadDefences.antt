@@ -14,7 +14,7 @@ use Rattle.suit_cards.specs.Cards.{Counts}
 use Rattle.suit_num.proofs.IntegerLaws.{mul_not_negative}
 use Rattle.suit_game.specs.declared.question.Question.{Question}
 use Rattle.suit_game.specs.Validity.{IsValid}
-use Rattle.suit_game.proofs.EachElement.{Contains-cons_cases, Contains-filter, Contains-first, Contains-nil, each_append}
+use Rattle.suit_game.proofs.EachElement.{Contains-cons_cases, Contains-filter, Contains-first, Contains-later, Contains-nil, each_append}
 use Rattle.suit_game.proofs.EachElement.{each_at, each_gives, each_map, each_of}
 use Rattle.suit_classes.specs.declared.class_moves.ClassMove.{ClassMove}
 use Rattle.suit_classes.specs.AllowedHistories.{allows}
@@ -23,7 +23,7 @@ use Rattle.suit_classes.specs.MoveOrder.{stands_before}
 use Rattle.suit_classes.specs.ClassPlaces.{class_after, class_decided, class_moves, class_start, class_turn}
 use Rattle.suit_classes.proofs.DistinctMoves.{IsOnce, each_flat_map}
 use Rattle.suit_classes.proofs.RisingMoves.{Chained}
-use Rattle.suit_classes.proofs.SameMoves.{same_move-itself}
+use Rattle.suit_classes.proofs.SameMoves.{same_move_is}
 use Rattle.suit_plans.specs.declared.faults.PlanKind.{PlanKind}
 use Rattle.suit_plans.specs.declared.faults.PlanKind.TheVariants.{Den, Layout}
 use Rattle.suit_plans.specs.declared.defence.Defence.{Defence}
@@ -42,7 +42,7 @@ use Rattle.suit_tableaus.specs.Programs.{IsDualFeasible}
 use Rattle.suit_supports.specs.Programs.{limits, program_of}
 use Rattle.suit_supports.specs.Readings.{Reading, all_on_first, defence_of, defence_reading, defence_rows_in, filled, has_row}
 use Rattle.suit_supports.specs.Readings.{price_of, read_from, read_mass, read_shares, row_counts}
-use Rattle.suit_supports.specs.Supports.{Support, defence_chooses, is_reached, layouts_of, legal_moves, reached_histories}
+use Rattle.suit_supports.specs.Supports.{Support, defence_chooses, first_and, is_reached, layouts_of, legal_moves, names, reached_histories}
 use Rattle.suit_supports.specs.Supports.{supported_moves}
 use Rattle.suit_supports.proofs.ChoicePlaces.{IsChoice, their_place}
 use Rattle.suit_supports.proofs.DistinctLimits.{IsLayoutBefore, counts-never, layouts_chained}
@@ -181,7 +181,7 @@ forced_first question support west history move theirs waits found =
     only_first moves move few (supported_class_move question support west history move found)
 
 -- the defence chooses at no turn of declarer's
-none_theirs : (question : Question) (west : Counts) (history : List ClassMove)
+pub none_theirs : (question : Question) (west : Counts) (history : List ClassMove)
     → is_defences (class_turn (class_after question history)) ≡ false → defence_chooses question west history ≡ false
 unfolding defence_chooses
 none_theirs question west history own =
@@ -193,6 +193,38 @@ unfolding count_of
 count_low [] move low = omega (arith, ints)
 count_low (count ∷ shares) move low =
     count_case (same_class_move count.0 move) count.1 (count_of shares move) low.0 (count_low shares move low.1)
+
+-- a move that is not named has no count
+count_out : (shares : Shares) (move : ClassMove) → (Contains (moves_of shares) move → ⊥) → count_of shares move ≡ pos 0
+unfolding count_of
+count_out [] move out = refl
+count_out (count ∷ shares) move out =
+    ap (λ (b : Bool). if b then count.1 else count_of shares move)
+    (false_from_ne_true (same_class_move count.0 move) (λ same. out (subst (λ (m : ClassMove). Contains
+    (count.0 ∷ moves_of shares) m) (same_move_is count.0 move same) (Contains-first count.0 (moves_of shares)))))
+    ∙ count_out shares move (λ found. out (Contains-later count.0 (moves_of shares) move found))
+
+few_all : (named : ClassMove → Bool) (moves : List ClassMove) → nat_lt 1 (length moves) ≡ false
+    → first_and named moves ≡ moves
+few_all named [] few = refl
+few_all named (move ∷ []) few = refl
+few_all named (move ∷ next ∷ moves) few = absurd (false≢true (sym few
+    ∙ lt-ltb 1 (suc (suc (length moves))) (omega arith)))
+
+-- where there is no choice the legal move is in the support
+alone_supported : (question : Question) (support : Support) (west : Counts) (history : List ClassMove)
+    (move : ClassMove) → is_defences (class_turn (class_after question history)) ≡ true
+    → class_decided (class_after question history) ≡ false → defence_chooses question west history ≡ false
+    → Contains (class_moves (class_after question history) west) move
+    → Contains (supported_moves question support west history) move
+unfolding defence_chooses supported_moves
+alone_supported question support west history move theirs going waits found =
+    let legal : List ClassMove = legal_moves question west history in
+    let few : nat_lt 1 (length legal) ≡ false =
+    sym (ap (λ (b : Bool). b && nat_lt 1 (length legal)) theirs) ∙ waits in
+    subst (λ (l : List ClassMove). Contains l move)
+    (sym (few_all (names question support west history) legal few
+    ∙ ap (λ (b : Bool). if b then [] else class_moves (class_after question history) west) going)) found
 
 -- ---- the defence
 
@@ -429,6 +461,26 @@ module _ (question : Question) (support : Support) (valid : IsValid question) (p
         at true chooses = count_low (shares history) move (shares_out history reached low chooses).low
         at false waits = low
 
+    -- what is not in the support gets nothing
+    left_out : (history : List ClassMove) (move : ClassMove) → is_reached question support west history ≡ true
+        → pos 0 ≤ℤ mass history → mass_of question side history ≡ mass history
+        → is_defences (class_turn (class_after question history)) ≡ true
+        → class_decided (class_after question history) ≡ false
+        → Contains (class_moves (class_after question history) west) move
+        → (Contains (supported_moves question support west history) move → ⊥)
+        → mass_of question side (history ++ move ∷ []) ≡ pos 0
+    left_out history move reached low same theirs going found out =
+        elim (cases_Bool (defence_chooses question west history)) [
+      | inl chooses ↦
+          mass_shared question side history move theirs
+          ∙ ap (λ (z : ℤ). share (defence_shares_at all_rows west history)
+          (is_first (class_moves (class_after question history) west) move) z move) same
+          ∙ choice_gives history move reached low chooses (has_row reading history) refl
+          ∙ count_out (shares history) move (λ named. out (subst (λ (l : List ClassMove). Contains l move)
+          (shares_moves history) named))
+      | inr waits ↦ absurd (out (alone_supported question support west history move theirs going waits found))
+    ]
+
     -- what holds of each class history that is reached: it has the mass that is read, which is not negative
     abbrev IsRead : List ClassMove → Type 0
     IsRead history = (is_reached question support west history ≡ true) × (pos 0 ≤ℤ mass history)
@@ -602,3 +654,17 @@ module _ (question : Question) (support : Support) (valid : IsValid question) (p
       let parted = parted_at (layouts_of question) layout found in
       let fits = reads layout parted.front parted.back parted.parts history reached in
       (fits.2, fits.1)
+
+  -- what is not in the support gets nothing of them
+  pub unsupported_none : (layout : Counts × ℕ) → Contains (layouts_of question) layout → (history : List ClassMove)
+      (move : ClassMove) → is_reached question support layout.0 history ≡ true
+      → is_defences (class_turn (class_after question history)) ≡ true
+      → class_decided (class_after question history) ≡ false
+      → Contains (class_moves (class_after question history) layout.0) move
+      → (Contains (supported_moves question support layout.0 history) move → ⊥)
+      → defence_mass question (defence_of question support prices scale) layout.0 (history ++ move ∷ []) ≡ pos 0
+  unfolding defence_mass defence_of
+  unsupported_none layout found history move reached theirs going legal out =
+      let parted = parted_at (layouts_of question) layout found in
+      let fits = reads layout parted.front parted.back parted.parts history reached in
+      left_out layout parted.front parted.back parted.parts history move reached fits.1 fits.2 theirs going legal out

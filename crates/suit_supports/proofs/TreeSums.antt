@@ -73,7 +73,7 @@ among_filter moves test is =
     is ∙ kept_by_among test every_move
     ∙ ap (λ (l : List ClassMove). filter (is_among l) every_move) (sym is)
 
-both_second : (b c : Bool) → (c ≡ true → b ≡ true) → (b && c) ≡ c
+pub both_second : (b c : Bool) → (c ≡ true → b ≡ true) → (b && c) ≡ c
 both_second true c gives = refl
 both_second false true gives = gives refl
 both_second false false gives = refl
@@ -99,7 +99,7 @@ module _ (question : Question) (support : Support) where
       (once_class_moves (class_after question history) west)
 
   -- the moves of a support are all moves that are among them
-  supported_all : (west : Counts) (history : List ClassMove)
+  pub supported_all : (west : Counts) (history : List ClassMove)
       → supported_moves question support west history
       ≡ filter (is_among (supported_moves question support west history)) every_move
   unfolding supported_moves
