@@ -8,6 +8,7 @@ pub mod FormedPrograms
 pub mod KeptWorths
 pub mod LeastMet
 pub mod LinearWorths
+pub mod MetReadings
 pub mod MetWorths
 pub mod MostMet
 pub mod PlanLaws

@@ -1,8 +1,9 @@
 -- What holds of the plan that is read from an optimum (`read_plans_are_proper`, `read_plans_keep_the_worth`).
 use Rattle.std.proofs.Common.{◌≡◌, ℕ, ◌<◌, true, sym, ap, ◌∙◌, subst, arith}
-use Rattle.std.specs.Prelude.{◌^◌, ℤ, pos, ◌+ℤ◌, ◌*ℤ◌, ◌<ℤ◌, ◌≤ℤ◌, int_le, int_lt}
+use Rattle.std.specs.Prelude.{◌^◌, length, ℤ, pos, ◌+ℤ◌, ◌*ℤ◌, ◌<ℤ◌, ◌≤ℤ◌, int_le, int_lt}
 use Rattle.std.proofs.lemmas.Bool.{or_parts}
 use Rattle.std.proofs.lemmas.Int.{ints}
+use Rattle.std.proofs.lemmas.List.{length-map}
 use Rattle.std.proofs.Math.IntN.{*ℤ_comm}
 use Rattle.suit_num.proofs.IntegerLaws.{int_lt-false, le-mul_right, le_from_mul, mul-add_right, mul_assoc, mul_right_comm}
 use Rattle.suit_game.specs.declared.question.Question.{Question}
@@ -13,7 +14,7 @@ use Rattle.suit_tableaus.specs.Optima.{IsCommon}
 use Rattle.suit_tableaus.specs.Points.{dot}
 use Rattle.suit_tableaus.specs.Programs.{IsFeasible}
 use Rattle.suit_tableaus.proofs.CommonDenominators.{common_denominator}
-use Rattle.suit_supports.specs.Points.{Point, no_point, point_of}
+use Rattle.suit_supports.specs.Points.{Point, no_point, point_of, unit_point}
 use Rattle.suit_supports.specs.Programs.{columns, program_of, supported_worth}
 use Rattle.suit_supports.specs.ReadingLaws.{IsReadable, ReadPlansAreProper, ReadPlansKeepTheWorth}
 use Rattle.suit_supports.specs.Readings.{common_den, is_wide, parts_of, plan_at, plan_den, plan_point}
@@ -63,10 +64,15 @@ module _ (question : Question) (support : Support) (optimum : Optimum)
   within : IsWithin question support full
   within = feasible_within question support readable.valid given den feasible
 
-  part : (k : ℤ) × IsPartOf point full k
-  part = plan_part question support optimum.point given den common readable.parts
+  columns_long : length optimum.point ≡ length (columns question support)
+  unfolding program_of
+  columns_long = readable.columns
+      ∙ length-map (columns question support) (λ column. objective_at question support (unit_point column))
 
-  over : pos 0 <ℤ point.one
+  part : (k : ℤ) × IsPartOf point full k
+  part = plan_part question support optimum.point given den common columns_long
+
+  pub over : pos 0 <ℤ point.one
   unfolding plan_point plan_den
   over = some_number (common_den (columns question support) (parts_of optimum.point))
       (common_positive (columns question support) optimum.point)

@@ -1,10 +1,10 @@
 -- At a choice of the defence that is reached the prices of its moves are no less than the mass that is read there
 -- (`prices_enough`).
-use Rattle.std.proofs.Common.{◌≡◌, ℕ, zero, suc, ◌-◌, ◌+◌, ◌<◌, ◌≤◌, Bool, true, false, List, [], ◌∷◌, ◌++◌, length, map}
+use Rattle.std.proofs.Common.{◌≡◌, ℕ, zero, suc, ◌-◌, Bool, true, false, List, [], ◌∷◌, ◌++◌, length, map}
 use Rattle.std.proofs.Common.{◌⊎◌, refl, sym, ap, ◌∙◌, subst, inl, inr, append_assoc, append-nil, arith}
 use Rattle.std.specs.Prelude.{Contains, ◌&&◌, bytes_eq, if◌then◌else◌, ℤ, pos, ◌+ℤ◌, ◌-ℤ◌, ◌*ℤ◌, ◌<ℤ◌, ◌≤ℤ◌, int_lt}
 use Rattle.std.specs.Int.{int_min}
-use Rattle.std.specs.List.{AllByRecursion, flat_map}
+use Rattle.std.specs.List.{flat_map}
 use Rattle.std.proofs.lemmas.Bool.{and_from, and_parts, cases_Bool, false≢true, false_from_ne_true}
 use Rattle.std.proofs.lemmas.Int.{clamps, ints}
 use Rattle.std.proofs.lemmas.List.{length-append}
@@ -20,10 +20,9 @@ use Rattle.suit_game.proofs.EachElement.{map_same}
 use Rattle.suit_classes.specs.declared.class_moves.ClassMove.{ClassMove}
 use Rattle.suit_classes.specs.AllowedHistories.{is_among}
 use Rattle.suit_classes.specs.ClassMoves.{same_class_move}
-use Rattle.suit_classes.specs.ClassGame.{Allows}
 use Rattle.suit_classes.proofs.DecidedPlays.{class_histories_are_short}
 use Rattle.suit_classes.proofs.SameMoves.{among-Contains, same_move-itself, same_move_is}
-use Rattle.suit_plans.specs.Masses.{Shares, count_of, mass_from, mass_of, weight_of}
+use Rattle.suit_plans.specs.Masses.{count_of, weight_of}
 use Rattle.suit_plans.specs.Orders.{same_class_history}
 use Rattle.suit_plans.specs.Properness.{sum_of}
 use Rattle.suit_plans.proofs.BoundedReplies.{weight_listed}
@@ -36,19 +35,18 @@ use Rattle.suit_tableaus.specs.Programs.{IsDualFeasible}
 use Rattle.suit_supports.specs.Points.{Column, Held, IsPositive, Passed, Point, same_column, unit_point}
 use Rattle.suit_supports.specs.Programs.{Shared, columns, columns_at, excess, held_column, limits, program_of, sum_passed}
 use Rattle.suit_supports.specs.Readings.{Reading, defence_reading, filled, price_of, read_from, read_mass, read_shares}
-use Rattle.suit_supports.specs.Supports.{Support, declarer_chooses, defence_chooses, goes_supported, is_reached, layouts_of}
+use Rattle.suit_supports.specs.Supports.{Support, defence_chooses, goes_supported, is_reached, layouts_of}
 use Rattle.suit_supports.specs.Supports.{reached_histories, reached_layouts, supported_moves}
 use Rattle.suit_supports.specs.Worths.{mass_at, objective_at, worth_at, worth_within}
-use Rattle.suit_supports.proofs.LinearWorths.{masses_linear, nowhere, nowhere_nothing}
-use Rattle.suit_supports.proofs.PointsWithin.{their_choice, their_only}
+use Rattle.suit_supports.proofs.LinearWorths.{masses_linear, nowhere_nothing}
+use Rattle.suit_supports.proofs.PointsWithin.{their_only}
 use Rattle.suit_supports.proofs.PricedPoints.{exceeds, exceeds_by_play, part_of, units_bounded}
 use Rattle.suit_supports.proofs.PricedRows.{price_low}
 use Rattle.suit_supports.proofs.ReachedPairs.{reached_allows, reached_layout, reached_listed, reached_next, reached_none}
 use Rattle.suit_supports.proofs.ReadMasses.{read_mass-push}
 use Rattle.suit_supports.proofs.SummedOrders.{le_trans, sum_le}
-use Rattle.suit_supports.proofs.SupportedTurns.{Ended, Forced, Own, Theirs, TurnAt, supported_class_move, turn_at}
 use Rattle.suit_supports.proofs.TreeSums.{play_sum}
-use Rattle.suit_supports.proofs.WorthBounds.{choosing, going, left_next, only_one, some_summed, within_low}
+use Rattle.suit_supports.proofs.WorthBounds.{choosing, going, some_summed, within_low}
 
 -- ---- numbers
 

@@ -1,7 +1,7 @@
 -- At feasible prices a point is worth no more than what it exceeds the rows by comes to (`units_bounded`,
 -- `points_bounded`), class layout by class layout (`exceeds_by_play`).
 use Rattle.std.proofs.Common.{◌≡◌, ℕ, zero, suc, ◌<◌, Bool, true, false, List, [], ◌∷◌, ◌++◌, length, map, refl, sym, ap}
-use Rattle.std.proofs.Common.{◌∙◌, subst, inl, inr, arith}
+use Rattle.std.proofs.Common.{◌∙◌, subst, arith}
 use Rattle.std.specs.Prelude.{Contains, cond, filter, slice_index_or, if◌then◌else◌, ℤ, pos, neg_ℤ, ◌+ℤ◌, ◌-ℤ◌, ◌*ℤ◌}
 use Rattle.std.specs.Prelude.{◌≤ℤ◌}
 use Rattle.std.specs.List.{flat_map}
@@ -10,7 +10,7 @@ use Rattle.std.proofs.lemmas.Int.{ints}
 use Rattle.std.proofs.lemmas.List.{length-map}
 use Rattle.std.proofs.Math.IntN.{*ℤ_comm}
 use Rattle.suit_cards.specs.Cards.{Counts}
-use Rattle.suit_num.proofs.IntegerLaws.{mul-add_left, mul-add_right, mul_assoc, mul_right_comm}
+use Rattle.suit_num.proofs.IntegerLaws.{mul-add_left}
 use Rattle.suit_game.specs.declared.question.Question.{Question}
 use Rattle.suit_game.proofs.EachElement.{Contains-first, Contains-later, map_same}
 use Rattle.suit_classes.specs.declared.class_moves.ClassMove.{ClassMove}

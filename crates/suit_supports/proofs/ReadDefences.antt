@@ -1,9 +1,9 @@
 -- The defence that is read from feasible prices is proper, and its masses are those that were read (`defence_masses`,
 -- `read_defence_proper`).
-use Rattle.std.proofs.Common.{◌≡◌, ℕ, suc, ◌<◌, Bool, true, false, cond, List, [], ◌∷◌, ◌++◌, Option, Some, None, Result}
-use Rattle.std.proofs.Common.{Ok, Err, map, refl, sym, ap, ◌∙◌, subst, inl, inr, arith, append_assoc, append-nil}
+use Rattle.std.proofs.Common.{◌≡◌, ℕ, suc, Bool, true, false, cond, List, [], ◌∷◌, ◌++◌, Option, Some, None}
+use Rattle.std.proofs.Common.{Err, map, refl, sym, ap, ◌∙◌, subst, inl, inr, arith, append_assoc, append-nil}
 use Rattle.std.specs.Prelude.{Contains, ◌&&◌, ◌||◌, ◌^◌, bytes_eq, filter, find, length, nat_lt, not, option_map}
-use Rattle.std.specs.Prelude.{if◌then◌else◌, ℤ, pos, ◌*ℤ◌, ◌≤ℤ◌, ◌<ℤ◌, int_le, int_lt}
+use Rattle.std.specs.Prelude.{if◌then◌else◌, ℤ, pos, ◌≤ℤ◌, int_le, int_lt}
 use Rattle.std.specs.List.{AllByRecursion, flat_map, list_any}
 use Rattle.std.proofs.lemmas.Bool.{and_from, and_parts, cases_Bool, false≢true, false_from_ne_true, lt-ltb, or_left, or_right}
 use Rattle.std.proofs.lemmas.Int.{ints}
@@ -20,31 +20,30 @@ use Rattle.suit_classes.specs.declared.class_moves.ClassMove.{ClassMove}
 use Rattle.suit_classes.specs.AllowedHistories.{allows}
 use Rattle.suit_classes.specs.ClassMoves.{same_class_move}
 use Rattle.suit_classes.specs.MoveOrder.{stands_before}
-use Rattle.suit_classes.specs.ClassPlaces.{class_after, class_decided, class_moves, class_start, class_turn}
+use Rattle.suit_classes.specs.ClassPlaces.{class_after, class_decided, class_moves, class_turn}
 use Rattle.suit_classes.proofs.DistinctMoves.{IsOnce, each_flat_map}
 use Rattle.suit_classes.proofs.RisingMoves.{Chained}
 use Rattle.suit_classes.proofs.SameMoves.{same_move_is}
 use Rattle.suit_plans.specs.declared.faults.PlanKind.{PlanKind}
 use Rattle.suit_plans.specs.declared.faults.PlanKind.TheVariants.{Den, Layout}
-use Rattle.suit_plans.specs.declared.defence.Defence.{Defence}
 use Rattle.suit_plans.specs.declared.defence.DefenceRow.{DefenceRow}
 use Rattle.suit_plans.specs.Masses.{Shares, Side, count_of, defence_mass, defence_shares_at, defenders, is_defences, is_first, mass_from}
 use Rattle.suit_plans.specs.Masses.{mass_of, share, weight_of}
 use Rattle.suit_plans.specs.Orders.{counts_before, defence_row_before, history_before, key_before, same_class_history}
 use Rattle.suit_plans.specs.Properness.{IsProperDefence, defence_row_fault, defence_verdict, first_fault, last_passes}
-use Rattle.suit_plans.specs.Properness.{moves_of, row_fault, sum_of}
-use Rattle.suit_plans.proofs.FirstFaults.{FitsTurn, IsFaultless}
+use Rattle.suit_plans.specs.Properness.{moves_of, row_fault}
+use Rattle.suit_plans.proofs.FirstFaults.{IsFaultless}
 use Rattle.suit_plans.proofs.HistoryOrder.{IsStrict-moves, earlier-start, same_class_history_is}
 use Rattle.suit_plans.proofs.MassSteps.{mass_kept, mass_of_same, mass_shared}
 use Rattle.suit_plans.proofs.PublicMoves.{kept_parts, layout_tells, layout_weighs}
 use Rattle.suit_plans.proofs.SharedSums.{count_case}
 use Rattle.suit_tableaus.specs.Programs.{IsDualFeasible}
 use Rattle.suit_supports.specs.Programs.{limits, program_of}
-use Rattle.suit_supports.specs.Readings.{Reading, all_on_first, defence_of, defence_reading, defence_rows_in, filled, has_row}
+use Rattle.suit_supports.specs.Readings.{Reading, all_on_first, defence_of, defence_reading, has_row}
 use Rattle.suit_supports.specs.Readings.{price_of, read_from, read_mass, read_shares, row_counts}
 use Rattle.suit_supports.specs.Supports.{Support, defence_chooses, first_and, is_reached, layouts_of, legal_moves, names, reached_histories}
 use Rattle.suit_supports.specs.Supports.{supported_moves}
-use Rattle.suit_supports.proofs.ChoicePlaces.{IsChoice, their_place}
+use Rattle.suit_supports.proofs.ChoicePlaces.{their_place}
 use Rattle.suit_supports.proofs.DistinctLimits.{IsLayoutBefore, counts-never, layouts_chained}
 use Rattle.suit_supports.proofs.PriceBounds.{prices_enough}
 use Rattle.suit_supports.proofs.PricedRows.{price_low}
@@ -53,7 +52,7 @@ use Rattle.suit_supports.proofs.ReachedOrder.{kept_chained}
 use Rattle.suit_supports.proofs.ReadMasses.{read_mass-push}
 use Rattle.suit_supports.proofs.ReadPlans.{any_before, any_found, chain_before, first_same, found_any, only_first}
 use Rattle.suit_supports.proofs.ReadPlans.{reached_undecided, supported_rise}
-use Rattle.suit_supports.proofs.RowFacts.{FitsCounts, faultless_ok, fits_counts, last_of_all, row_fits}
+use Rattle.suit_supports.proofs.RowFacts.{faultless_ok, fits_counts, last_of_all, row_fits}
 use Rattle.suit_supports.proofs.SharedCounts.{AreLow, ShareOut, filled_moves, filled_out, kept_counts, low_mapped, moves_mapped}
 use Rattle.suit_supports.proofs.SharedCounts.{no_row_of, some_shares, sum_mapped, wants_row}
 use Rattle.suit_supports.proofs.SupportedTurns.{supported_class_move, supported_going, supported_once}
@@ -471,15 +470,15 @@ module _ (question : Question) (support : Support) (valid : IsValid question) (p
         → mass_of question side (history ++ move ∷ []) ≡ pos 0
     left_out history move reached low same theirs going found out =
         elim (cases_Bool (defence_chooses question west history)) [
-      | inl chooses ↦
-          mass_shared question side history move theirs
-          ∙ ap (λ (z : ℤ). share (defence_shares_at all_rows west history)
-          (is_first (class_moves (class_after question history) west) move) z move) same
-          ∙ choice_gives history move reached low chooses (has_row reading history) refl
-          ∙ count_out (shares history) move (λ named. out (subst (λ (l : List ClassMove). Contains l move)
-          (shares_moves history) named))
-      | inr waits ↦ absurd (out (alone_supported question support west history move theirs going waits found))
-    ]
+          | inl chooses ↦
+              mass_shared question side history move theirs
+              ∙ ap (λ (z : ℤ). share (defence_shares_at all_rows west history)
+              (is_first (class_moves (class_after question history) west) move) z move) same
+              ∙ choice_gives history move reached low chooses (has_row reading history) refl
+              ∙ count_out (shares history) move (λ named. out (subst (λ (l : List ClassMove). Contains l move)
+              (shares_moves history) named))
+          | inr waits ↦ absurd (out (alone_supported question support west history move theirs going waits found))
+        ]
 
     -- what holds of each class history that is reached: it has the mass that is read, which is not negative
     abbrev IsRead : List ClassMove → Type 0
@@ -496,8 +495,7 @@ module _ (question : Question) (support : Support) (valid : IsValid question) (p
           next_low before move fits.0 fits.1,
           next_mass before move fits.0 fits.1 found (is_defences (class_turn (class_after question before))) refl
               fits.2,
-        ))
-        (
+        )) (
           reached_none question support west,
           mul_not_negative (pos (weight_of question west)) scale (omega (arith, ints)) (omega (arith, ints, some)),
           refl,

@@ -1,5 +1,5 @@
 -- The point at which declarer makes one supported move at each choice (`taken_masses`, `taken_tight`).
-use Rattle.std.proofs.Common.{◌≡◌, ℕ, suc, Bool, true, false, List, [], ◌∷◌, ◌++◌, map, refl, sym, ap, ◌∙◌, subst, inl, inr}
+use Rattle.std.proofs.Common.{◌≡◌, ℕ, Bool, true, false, List, [], ◌∷◌, ◌++◌, map, refl, sym, ap, ◌∙◌, subst, inl, inr}
 use Rattle.std.proofs.Common.{append_assoc, append-nil, arith}
 use Rattle.std.specs.Prelude.{Contains, ◌&&◌, if◌then◌else◌, ℤ, pos, ◌+ℤ◌, ◌-ℤ◌, ◌*ℤ◌}
 use Rattle.std.specs.List.{AllByRecursion, flat_map}
@@ -8,7 +8,7 @@ use Rattle.std.proofs.lemmas.Int.{ints}
 use Rattle.suit_cards.specs.Cards.{Counts}
 use Rattle.suit_game.specs.declared.question.Question.{Question}
 use Rattle.suit_game.specs.Validity.{IsValid}
-use Rattle.suit_game.proofs.EachElement.{Contains-cons_cases, Contains-first, Contains-flat_map, Contains-map, Contains-nil}
+use Rattle.suit_game.proofs.EachElement.{Contains-cons_cases, Contains-flat_map, Contains-map, Contains-nil}
 use Rattle.suit_game.proofs.EachElement.{each_at, map_same}
 use Rattle.suit_classes.specs.declared.class_moves.ClassMove.{ClassMove}
 use Rattle.suit_classes.specs.ClassMoves.{same_class_move}

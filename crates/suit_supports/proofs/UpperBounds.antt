@@ -1,10 +1,10 @@
 -- A defence that is read from feasible prices lets declarer earn no more than the game of the support is worth, where
 -- the support has the moves of the best reply to it (`defence_holds`).
-use Rattle.std.proofs.Common.{◌≡◌, ◌⊎◌, ℕ, zero, suc, ◌-◌, ◌<◌, ◌≤◌, Bool, true, false, cond, List, [], ◌∷◌, ◌++◌, length}
+use Rattle.std.proofs.Common.{◌≡◌, ◌⊎◌, ℕ, zero, suc, ◌-◌, ◌≤◌, Bool, true, false, List, [], ◌∷◌, ◌++◌, length}
 use Rattle.std.proofs.Common.{map, refl, sym, ap, ◌∙◌, subst, inl, inr, arith}
-use Rattle.std.specs.Prelude.{Contains, ◌&&◌, ◌||◌, filter, nat_lt, not, if◌then◌else◌, ℤ, pos, ◌+ℤ◌, ◌-ℤ◌, ◌*ℤ◌}
-use Rattle.std.specs.Prelude.{◌≤ℤ◌, ◌<ℤ◌, int_lt}
-use Rattle.std.specs.List.{AllByRecursion, list_any}
+use Rattle.std.specs.Prelude.{Contains, ◌&&◌, filter, nat_lt, not, if◌then◌else◌, ℤ, pos, ◌+ℤ◌, ◌-ℤ◌, ◌*ℤ◌}
+use Rattle.std.specs.Prelude.{◌≤ℤ◌, int_lt}
+use Rattle.std.specs.List.{list_any}
 use Rattle.std.specs.Ordering.{int_eq}
 use Rattle.std.proofs.lemmas.Bool.{and_parts, cases_Bool, false≢true, false_from_ne_true, lt-ltb, or_parts}
 use Rattle.std.proofs.lemmas.Bool.Decides.{Decides-int_eq}
@@ -30,23 +30,21 @@ use Rattle.suit_plans.specs.BestReplies.{Reply, allowing_layouts, choices, first
 use Rattle.suit_plans.specs.BestReplies.{is_reached as reply_reaches, most, most_reply, public_moves, reply_move}
 use Rattle.suit_plans.specs.BestReplies.{reply_to_defence, worth}
 use Rattle.suit_plans.specs.Masses.{count_of, defence_mass, defenders, is_declarers, is_defences, weight_of}
-use Rattle.suit_plans.specs.PlanLaws.{AreRealised}
 use Rattle.suit_plans.specs.Properness.{IsProperDefence, some_allows, sum_of}
-use Rattle.suit_plans.specs.ReplyLaws.{worths_with}
-use Rattle.suit_plans.proofs.BoundedReplies.{allowing_none, some_allow_none, weight_listed}
+use Rattle.suit_plans.proofs.BoundedReplies.{some_allow_none, weight_listed}
 use Rattle.suit_plans.proofs.DefenceWorths.{defences_at_decided, defences_at_declarers, defences_at_defences, mass_positive}
 use Rattle.suit_plans.proofs.DefenceWorths.{no_masses_no_worth, room}
 use Rattle.suit_plans.proofs.MassBounds.{mass_falls}
 use Rattle.suit_plans.proofs.MassSteps.{mass_kept}
-use Rattle.suit_plans.proofs.NumberSums.{sum_kept, sum_nothing, sum_times, sums_exchanged}
+use Rattle.suit_plans.proofs.NumberSums.{sum_kept, sum_times, sums_exchanged}
 use Rattle.suit_plans.proofs.ProperDefences.{defences_are_realised}
 use Rattle.suit_plans.proofs.PublicMoves.{Contains-allowing, Contains-public, allowing_before, allowing_parts, HasFirst-found, filter_both, kept_parts}
 use Rattle.suit_plans.proofs.PublicMoves.{layout_weighs, own_moves_on, passing_some, public_allowed, public_going}
-use Rattle.suit_plans.proofs.PublicMoves.{public_short, some_layout, some_passing, some_public}
+use Rattle.suit_plans.proofs.PublicMoves.{some_passing, some_public}
 use Rattle.suit_plans.proofs.ReplyChoices.{reply_move_found}
 use Rattle.suit_plans.proofs.SharedSums.{sum_positive, within_sum}
 use Rattle.suit_plans.proofs.TurnMoves.{HasFirst, declarers_moves}
-use Rattle.suit_plans.proofs.WhoseTurns.{Declarers, Defences, Over, WhoseTurn, own_turn, their_turn, whose_turn}
+use Rattle.suit_plans.proofs.WhoseTurns.{Declarers, Defences, Over, WhoseTurn, own_turn, whose_turn}
 use Rattle.suit_plans.proofs.WorthsAtTurns.{max_picks}
 use Rattle.suit_tableaus.specs.Points.{dot, number_at}
 use Rattle.suit_tableaus.specs.Programs.{IsDualFeasible}
@@ -54,10 +52,10 @@ use Rattle.suit_supports.specs.Points.{Held, IsPositive, Point}
 use Rattle.suit_supports.specs.Programs.{limits, program_of, supported_worth}
 use Rattle.suit_supports.specs.Readings.{Reading, defence_of, defence_reading, price_of, read_from, read_mass, read_shares}
 use Rattle.suit_supports.specs.Supports.{Support, are_new, declarer_chooses, defence_chooses, first_and, is_reached}
-use Rattle.suit_supports.specs.Supports.{layouts_of, legal_moves, names, next_moves, reached_layouts, supported_moves}
-use Rattle.suit_supports.specs.Worths.{mass_at, objective_at, worth_at, worth_within}
+use Rattle.suit_supports.specs.Supports.{layouts_of, legal_moves, names, reached_layouts, supported_moves}
+use Rattle.suit_supports.specs.Worths.{objective_at, worth_at, worth_within}
 use Rattle.suit_supports.proofs.BoundedPrograms.{given_low}
-use Rattle.suit_supports.proofs.ChoicePlaces.{IsChoice, own_place}
+use Rattle.suit_supports.proofs.ChoicePlaces.{own_place}
 use Rattle.suit_supports.proofs.KeptWorths.{first_passes}
 use Rattle.suit_supports.proofs.PriceBounds.{filled_most, negated, sum_less, sum_none_more}
 use Rattle.suit_supports.proofs.PricedPoints.{exceeds, exceeds_by_play, filter_all, part_of, points_bounded}
@@ -259,8 +257,7 @@ module _ (question : Question) (support : Support) (valid : IsValid question) (p
       let same = bound_price west history move chooses found in
       let reading : Reading = defence_reading question support prices scale west in
       let here = read_mass-push reading history move
-      ∙ ap (λ (b : Bool). if b then count_of (read_shares reading history) move else read_in west history) chooses in
-      (
+      ∙ ap (λ (b : Bool). if b then count_of (read_shares reading history) move else read_in west history) chooses in (
         subst (λ (z : ℤ). pos 0 ≤ℤ z) (sym same) (prices_low west history move),
         subst (λ (z : ℤ). read_in west (history ++ move ∷ []) ≤ℤ z) (sym same)
             (subst (λ (z : ℤ). z ≤ℤ price west history move) (sym here)
@@ -271,8 +268,7 @@ module _ (question : Question) (support : Support) (valid : IsValid question) (p
       let same = bound_stays west history move waits in
       let reading : Reading = defence_reading question support prices scale west in
       let here = read_mass-push reading history move
-      ∙ ap (λ (b : Bool). if b then count_of (read_shares reading history) move else read_in west history) waits in
-      (
+      ∙ ap (λ (b : Bool). if b then count_of (read_shares reading history) move else read_in west history) waits in (
         subst (λ (z : ℤ). pos 0 ≤ℤ z) (sym same) low,
         subst (λ (z : ℤ). read_in west (history ++ move ∷ []) ≤ℤ z) (sym same)
             (subst (λ (z : ℤ). z ≤ℤ bound west history) (sym here) le),
@@ -287,8 +283,7 @@ module _ (question : Question) (support : Support) (valid : IsValid question) (p
       reached_fits question support west (IsBounded west)
       (λ before move fits found.
       let next = next_bounded west before move fits.1 fits.2 found (defence_chooses question west before) refl in
-      (reached_next question support west before move fits.0 found, next.0, next.1))
-      (
+      (reached_next question support west before move fits.0 found, next.0, next.1)) (
         reached_none question support west,
         mul_not_negative (pos (weight_of question west)) scale (omega (arith, ints)) (omega (arith, ints, some)),
         itself whole,
@@ -627,14 +622,14 @@ module _ (question : Question) (support : Support) (valid : IsValid question) (p
                   ∙ same_move-itself (reply_move reply history),
             )
         | inr waits ↦ (
-            alone_own history (reply_move reply history) not_over own waits
-                (subst (λ (l : List ClassMove). Contains l (reply_move reply history))
-                (own_moves_on question valid history not_over layout
-                (Contains-allowing question valid history layout listed
-                (reached_allows question support valid layout listed history reached)) own
-                ∙ declarers_moves (class_after question history) layout.0 [] own) found),
-            ap (λ (b : Bool). if b then same_class_move (taken history) (reply_move reply history) else true) waits,
-          )
+          alone_own history (reply_move reply history) not_over own waits
+              (subst (λ (l : List ClassMove). Contains l (reply_move reply history))
+              (own_moves_on question valid history not_over layout
+              (Contains-allowing question valid history layout listed
+              (reached_allows question support valid layout listed history reached)) own
+              ∙ declarers_moves (class_after question history) layout.0 [] own) found),
+          ap (λ (b : Bool). if b then same_class_move (taken history) (reply_move reply history) else true) waits,
+        )
       ]
 
   -- a supported move of declarer's is one in each class layout
@@ -800,12 +795,12 @@ module _ (question : Question) (support : Support) (valid : IsValid question) (p
       let listed = (allowing_parts question valid history layout before.0).0 in
       elim (traced layout before.0) [
         | inl reached ↦ elim (cases_Bool (is_among (supported_moves question support layout.0 history) move)) [
-            | inl among ↦ inl (reached_next question support layout.0 history move reached
-                (among-Contains (supported_moves question support layout.0 history) move among))
-            | inr out ↦ inr (unsupported_none question support valid prices scale dual layout listed history move reached
-                theirs not_over before.1 (λ found. false≢true (sym out
-                ∙ among_contained (supported_moves question support layout.0 history) move found)))
-          ]
+          | inl among ↦ inl (reached_next question support layout.0 history move reached
+              (among-Contains (supported_moves question support layout.0 history) move among))
+          | inr out ↦ inr (unsupported_none question support valid prices scale dual layout listed history move reached
+              theirs not_over before.1 (λ found. false≢true (sym out
+              ∙ among_contained (supported_moves question support layout.0 history) move found)))
+        ]
         | inr none ↦ inr (none_next layout listed history move before.0 before.1 there none)
       ]
 

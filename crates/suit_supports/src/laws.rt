@@ -1,8 +1,9 @@
 //! Laws of plans, defences and programs: each is the contract of an empty function.
 ghost use Rattle.suit_supports.specs.Duality.{MeetingsLieBetween, WeakDuality};
 ghost use Rattle.suit_supports.specs.Optimality.{CostsTell, ProgramsAreBounded, ProgramsAreWellFormed, RowsTell};
-ghost use Rattle.suit_supports.specs.ReadingLaws.{MassesAreRead, ReadPlansAreProper, ReadPlansKeepTheWorth};
-ghost use Rattle.suit_supports.specs.ReadingLaws.{ReadDefencesAreProper};
+ghost use Rattle.suit_supports.specs.ReadingLaws.{MassesAreRead, ReadDefencesAreProper, ReadDefencesHoldTheWorth};
+ghost use Rattle.suit_supports.specs.ReadingLaws.{ReadPlansAreProper, ReadPlansKeepTheWorth, SupportedRepliesMeet};
+ghost use Rattle.suit_supports.specs.ReadingLaws.{SupportsGrow, WholeSupportsMeet};
 
 /// What a proper plan and a proper defence earn when they meet lies between what each promises.
 pub fn meetings_lie_between()
@@ -24,14 +25,14 @@ pub fn costs_tell()
     ensures { CostsTell }
 {}
 
-/// And bounded.
-pub fn programs_are_bounded()
-    ensures { ProgramsAreBounded }
-{}
-
 /// Every support's program is well formed.
 pub fn programs_are_well_formed()
     ensures { ProgramsAreWellFormed }
+{}
+
+/// And bounded.
+pub fn programs_are_bounded()
+    ensures { ProgramsAreBounded }
 {}
 
 /// The plan that is read from a point lets through at least what the point does.
@@ -52,4 +53,25 @@ pub fn read_plans_keep_the_worth()
 /// The defence that is read from an optimum is proper.
 pub fn read_defences_are_proper()
     ensures { ReadDefencesAreProper }
+{}
+
+/// Where a support has all moves of the best reply to it, it lets declarer earn no more than what the game of the
+/// support is worth.
+pub fn read_defences_hold_the_worth()
+    ensures { ReadDefencesHoldTheWorth }
+{}
+
+/// Where a support has all moves of both replies, both numbers are what the game of the support is worth.
+pub fn supported_replies_meet()
+    ensures { SupportedRepliesMeet }
+{}
+
+/// So it is with the support of all moves.
+pub fn whole_supports_meet()
+    ensures { WholeSupportsMeet }
+{}
+
+/// Where the numbers differ, one of the replies has a move that the support has not.
+pub fn supports_grow()
+    ensures { SupportsGrow }
 {}
