@@ -79,12 +79,14 @@ module _ (question : Question) (support : Support) (valid : IsValid question) (g
   feasible_positive = record {
     at = λ column. given_low (columns question support) given column
         (λ index below. feasible.columns index (subst (λ (n : ℕ). index < n)
-        (sym (length-map (columns question support) (λ other. objective_at question support (unit_point other)))) below));
+        (sym (length-map (columns question support) (λ other. objective_at question support (unit_point other))))
+        below));
     one = let over = feasible.over in omega (arith, ints, over);
   }
 
   -- it keeps within each row
-  pub rows_kept : (limit : Limit) → Contains (limits question support) limit → excess question support point limit ≤ℤ pos 0
+  pub rows_kept : (limit : Limit) → Contains (limits question support) limit
+      → excess question support point limit ≤ℤ pos 0
   unfolding program_of
   rows_kept limit found =
       let row = row_of question support (columns question support) in

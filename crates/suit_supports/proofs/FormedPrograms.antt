@@ -1,4 +1,4 @@
--- Every support's program is well formed (`programs_are_well_formed`): no bound is negative, and all numbers are narrow.
+-- Every support's program is well formed (`programs_are_well_formed`): no bound is negative, all numbers are narrow.
 use Rattle.std.proofs.Common.{◌≡◌, ℕ, ◌<◌, ◌≤◌, Bool, true, false, List, [], ◌∷◌, ◌++◌, length, map, refl, sym}
 use Rattle.std.proofs.Common.{ap, ◌∙◌, arith}
 use Rattle.std.specs.Prelude.{All, Contains, ◌&&◌, ◌^◌, if◌then◌else◌, ℤ, pos, negsuc, neg_ℤ, ◌-ℤ◌, ◌*ℤ◌}
@@ -26,7 +26,8 @@ use Rattle.suit_plans.proofs.NumberSums.{sum_nothing}
 use Rattle.suit_tableaus.specs.declared.program.ProgramRow.{ProgramRow}
 use Rattle.suit_supports.specs.Optimality.{ProgramsAreWellFormed}
 use Rattle.suit_supports.specs.Points.{IsPositive, Column, Held, Passed, Point, no_point, same_column, unit_point}
-use Rattle.suit_supports.specs.Programs.{Answered, Limit, Shared, columns, excess, limits, program_of, row_of, sum_passed}
+use Rattle.suit_supports.specs.Programs.{Answered, Limit, Shared, columns, excess, limits, program_of, row_of}
+use Rattle.suit_supports.specs.Programs.{sum_passed}
 use Rattle.suit_supports.specs.Supports.{Support, layouts_of, supported_moves}
 use Rattle.suit_supports.specs.Worths.{mass_at, objective_at, worth_at}
 use Rattle.suit_supports.proofs.Beginnings.{begins, begins_itself, begins_part}

@@ -12,10 +12,12 @@ use Rattle.std.proofs.lemmas.Int.{ints}
 use Rattle.std.proofs.lemmas.List.{length-append}
 use Rattle.std.proofs.Math.IntN.{*ℤ_comm}
 use Rattle.suit_cards.specs.Cards.{Counts}
-use Rattle.suit_num.proofs.IntegerLaws.{int_lt-false, le-mul_right, le_from_mul, mul_assoc, mul_left_comm, mul_not_negative, mul_not_positive}
+use Rattle.suit_num.proofs.IntegerLaws.{int_lt-false, le-mul_right, le_from_mul, mul_assoc, mul_left_comm}
+use Rattle.suit_num.proofs.IntegerLaws.{mul_not_negative, mul_not_positive}
 use Rattle.suit_game.specs.declared.question.Question.{Question}
 use Rattle.suit_game.specs.Validity.{IsValid}
-use Rattle.suit_game.proofs.EachElement.{Contains-cons_cases, Contains-filter, Contains-first, Contains-later, Contains-map_from, Contains-nil, map_same}
+use Rattle.suit_game.proofs.EachElement.{Contains-cons_cases, Contains-filter, Contains-first, Contains-later}
+use Rattle.suit_game.proofs.EachElement.{Contains-map_from, Contains-nil, map_same}
 use Rattle.suit_classes.specs.declared.class_moves.ClassMove.{ClassMove}
 use Rattle.suit_classes.specs.ClassMoves.{same_class_move}
 use Rattle.suit_classes.specs.ClassGame.{Allows}
@@ -24,7 +26,8 @@ use Rattle.suit_classes.proofs.AllowedHistories.{allowed_moves}
 use Rattle.suit_classes.proofs.DecidedPlays.{class_histories_are_short}
 use Rattle.suit_classes.proofs.SameMoves.{among-Contains, same_move-itself}
 use Rattle.suit_plans.specs.declared.plan.Plan.{Plan}
-use Rattle.suit_plans.specs.BestReplies.{Reply, best_of, first_of, follows, least, least_reply, reply_move, reply_to_plan}
+use Rattle.suit_plans.specs.BestReplies.{Reply, best_of, first_of, follows, least, least_reply, reply_move}
+use Rattle.suit_plans.specs.BestReplies.{reply_to_plan}
 use Rattle.suit_plans.specs.BestReplies.{worth, worth_at as turn_worth}
 use Rattle.suit_plans.specs.Masses.{count_of, is_defences, mass_from, mass_of, plan_mass}
 use Rattle.suit_plans.specs.Properness.{IsProperPlan, sum_of}
@@ -487,7 +490,8 @@ module _ (question : Question) (support : Support) (point full : Point) (k : ℤ
       (sym (choosing question support full west more history chooses))
       (le_trans (full.at (Held west history)) (next more history move) (k *ℤ worth reply history)
       (subst (λ (n : ℕ). full.at (Held west history)
-      ≤ℤ worth_within question support full n west (history ++ move ∷ [])) (sym (left_next history move more left)) held)
+      ≤ℤ worth_within question support full n west (history ++ move ∷ [])) (sym (left_next history move more left))
+      held)
       (subst (λ (z : ℤ). next more history move ≤ℤ (k *ℤ z)) (reply_worth history fits chooses)
       (below move found live)))
 

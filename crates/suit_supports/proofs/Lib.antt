@@ -5,6 +5,7 @@ pub mod DefenceLaws
 pub mod DistinctLimits
 pub mod Dualities
 pub mod FormedPrograms
+pub mod HeldLayouts
 pub mod KeptWorths
 pub mod LeastMet
 pub mod LinearWorths

@@ -216,7 +216,8 @@ module _ (f : Point → ℤ) (linear : IsLinear f) where
       omega (arith, ints, none)
   told_by_units (column ∷ all) given den =
       let later : ℕ → ℤ = λ index. given (suc index) in
-      let parts : f (point_of (column ∷ all) given den) ≡ given 0 *ℤ f (unit_point column) +ℤ f (point_of all later den) =
+      let parts : f (point_of (column ∷ all) given den)
+      ≡ given 0 *ℤ f (unit_point column) +ℤ f (point_of all later den) =
       linear (given 0) (unit_point column) (point_of all later den) (point_of (column ∷ all) given den)
       (record { at = λ other. refl; one = omega (arith, ints) }) in
       let rest = told_by_units all later den in

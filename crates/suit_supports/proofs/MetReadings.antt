@@ -31,7 +31,8 @@ use Rattle.suit_supports.specs.Programs.{supported_worth}
 use Rattle.suit_supports.specs.ReadingLaws.{IsReadable, SupportedRepliesMeet, SupportsGrow}
 use Rattle.suit_supports.specs.ReadingLaws.{WholeSupportsMeet, defence_read, plan_read}
 use Rattle.suit_supports.specs.Readings.{defence_of, parts_of, plan_at, plan_den, plan_point}
-use Rattle.suit_supports.specs.Supports.{Support, are_new, first_and, legal_moves, names, supported_moves, whole_support}
+use Rattle.suit_supports.specs.Supports.{Support, are_new, first_and, legal_moves, names, supported_moves}
+use Rattle.suit_supports.specs.Supports.{whole_support}
 use Rattle.suit_supports.proofs.DefenceLaws.{read_defences_are_proper, read_defences_hold_the_worth}
 use Rattle.suit_supports.proofs.Dualities.{weak_duality}
 use Rattle.suit_supports.proofs.PlanLaws.{over, read_plans_are_proper, read_plans_keep_the_worth}
@@ -91,7 +92,8 @@ supported_replies_meet question support optimum readable priced none =
         → allowed ≤ℤ worth → (earned *ℤ scale) ≤ℤ (allowed *ℤ den)
         → (worth *ℤ den ≡ earned *ℤ scale) × (allowed ≡ worth)
     meet worth den earned scale allowed some keeps holds weak =
-        let times : (allowed *ℤ den) ≤ℤ (worth *ℤ den) = le-mul_right allowed worth den holds (omega (arith, ints, some)) in
+        let times : (allowed *ℤ den) ≤ℤ (worth *ℤ den) =
+        le-mul_right allowed worth den holds (omega (arith, ints, some)) in
         let same : worth *ℤ den ≡ earned *ℤ scale = omega (arith, ints, keeps, weak, times) in
         let turned : allowed *ℤ den ≡ worth *ℤ den = omega (arith, ints, keeps, weak, times) in
         (same, same_from_mul allowed worth den turned some)

@@ -5,7 +5,8 @@ use Rattle.std.proofs.lemmas.Bool.{or_parts}
 use Rattle.std.proofs.lemmas.Int.{ints}
 use Rattle.std.proofs.lemmas.List.{length-map}
 use Rattle.std.proofs.Math.IntN.{*ℤ_comm}
-use Rattle.suit_num.proofs.IntegerLaws.{int_lt-false, le-mul_right, le_from_mul, mul-add_right, mul_assoc, mul_right_comm}
+use Rattle.suit_num.proofs.IntegerLaws.{int_lt-false, le-mul_right, le_from_mul, mul-add_right, mul_assoc}
+use Rattle.suit_num.proofs.IntegerLaws.{mul_right_comm}
 use Rattle.suit_game.specs.declared.question.Question.{Question}
 use Rattle.suit_plans.specs.BestReplies.{least}
 use Rattle.suit_plans.specs.Properness.{IsProperPlan}

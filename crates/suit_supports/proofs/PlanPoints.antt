@@ -10,7 +10,8 @@ use Rattle.std.proofs.Math.Nat.{dvd-mul_left, dvd-mul_right, dvd-mul_left_of_dvd
 use Rattle.suit_num.specs.declared.fraction.Frac.{Frac}
 use Rattle.suit_num.specs.Divisors.{lcm_of}
 use Rattle.suit_num.proofs.DivisorLaws.{IsLcm-lcm_of, coprime_swap, dvd_of_coprime}
-use Rattle.suit_num.proofs.IntegerLaws.{div-mul, mul-add_left, mul_assoc, mul_left_comm, positive_from_mul, same_from_mul}
+use Rattle.suit_num.proofs.IntegerLaws.{div-mul, mul-add_left, mul_assoc, mul_left_comm, positive_from_mul}
+use Rattle.suit_num.proofs.IntegerLaws.{same_from_mul}
 use Rattle.suit_game.specs.declared.question.Question.{Question}
 use Rattle.suit_classes.specs.declared.class_moves.ClassMove.{ClassMove}
 use Rattle.suit_tableaus.specs.Optima.{IsCommon}

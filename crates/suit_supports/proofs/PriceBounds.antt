@@ -15,7 +15,8 @@ use Rattle.suit_cards.specs.Cards.{Counts}
 use Rattle.suit_num.proofs.IntegerLaws.{int_lt-false, int_lt-true, mul-sub_left, mul_assoc, mul_not_negative}
 use Rattle.suit_game.specs.declared.question.Question.{Question}
 use Rattle.suit_game.specs.Validity.{IsValid}
-use Rattle.suit_game.proofs.EachElement.{Contains-cons_cases, Contains-first, Contains-flat_map, Contains-later, Contains-nil}
+use Rattle.suit_game.proofs.EachElement.{Contains-cons_cases, Contains-first, Contains-flat_map, Contains-later}
+use Rattle.suit_game.proofs.EachElement.{Contains-nil}
 use Rattle.suit_game.proofs.EachElement.{map_same}
 use Rattle.suit_classes.specs.declared.class_moves.ClassMove.{ClassMove}
 use Rattle.suit_classes.specs.AllowedHistories.{is_among}
@@ -33,7 +34,8 @@ use Rattle.suit_plans.proofs.SharedSums.{within_sum}
 use Rattle.suit_plans.proofs.TurnMoves.{HasFirst}
 use Rattle.suit_tableaus.specs.Programs.{IsDualFeasible}
 use Rattle.suit_supports.specs.Points.{Column, Held, IsPositive, Passed, Point, same_column, unit_point}
-use Rattle.suit_supports.specs.Programs.{Shared, columns, columns_at, excess, held_column, limits, program_of, sum_passed}
+use Rattle.suit_supports.specs.Programs.{Shared, columns, columns_at, excess, held_column, limits, program_of}
+use Rattle.suit_supports.specs.Programs.{sum_passed}
 use Rattle.suit_supports.specs.Readings.{Reading, defence_reading, filled, price_of, read_from, read_mass, read_shares}
 use Rattle.suit_supports.specs.Supports.{Support, defence_chooses, goes_supported, is_reached, layouts_of}
 use Rattle.suit_supports.specs.Supports.{reached_histories, reached_layouts, supported_moves}
@@ -42,7 +44,8 @@ use Rattle.suit_supports.proofs.LinearWorths.{masses_linear, nowhere_nothing}
 use Rattle.suit_supports.proofs.PointsWithin.{their_only}
 use Rattle.suit_supports.proofs.PricedPoints.{exceeds, exceeds_by_play, part_of, units_bounded}
 use Rattle.suit_supports.proofs.PricedRows.{price_low}
-use Rattle.suit_supports.proofs.ReachedPairs.{reached_allows, reached_layout, reached_listed, reached_next, reached_none}
+use Rattle.suit_supports.proofs.ReachedPairs.{reached_allows, reached_layout, reached_listed, reached_next}
+use Rattle.suit_supports.proofs.ReachedPairs.{reached_none}
 use Rattle.suit_supports.proofs.ReadMasses.{read_mass-push}
 use Rattle.suit_supports.proofs.SummedOrders.{le_trans, sum_le}
 use Rattle.suit_supports.proofs.TreeSums.{play_sum}
@@ -114,7 +117,8 @@ front_same : (front : List ClassMove) (one other : ClassMove) (rest more : List 
 front_same [] one other rest more same = cc
 front_same (first ∷ front) one other rest more same = front_same front one other rest more (later same)
   where
-    later : first ∷ (front ++ one ∷ rest) ≡ first ∷ (front ++ other ∷ more) → front ++ one ∷ rest ≡ front ++ other ∷ more
+    later : first ∷ (front ++ one ∷ rest) ≡ first ∷ (front ++ other ∷ more)
+        → front ++ one ∷ rest ≡ front ++ other ∷ more
     later is = cc
 
 longer : (front : List ClassMove) (move : ClassMove) (rest : List ClassMove) → (front ++ move ∷ []) ++ rest ≡ front → ⊥
@@ -362,10 +366,12 @@ module _ (question : Question) (support : Support) (valid : IsValid question) (p
       here : part target layout ≤ℤ price_sum
       here =
           subst (λ (b : Bool). (if b then sum_of (map (λ move. price west target move *ℤ (point.at (Held west target)
-          -ℤ worth_at question support point west (target ++ move ∷ []))) (supported_moves question support west target))
+          -ℤ worth_at question support point west (target ++ move ∷ [])))
+          (supported_moves question support west target))
           else pos 0) ≤ℤ price_sum) (sym chooses)
           (subst (λ (v : ℤ). sum_of (map (λ move. price west target move *ℤ (v
-          -ℤ worth_at question support point west (target ++ move ∷ []))) (supported_moves question support west target))
+          -ℤ worth_at question support point west (target ++ move ∷ [])))
+          (supported_moves question support west target))
           ≤ℤ price_sum) (sym (held_one west target))
           (sum_le (λ move. price west target move *ℤ (pos 1 -ℤ worth_at question support point west (target ++ move
           ∷ []))) (price west target) (supported_moves question support west target)

@@ -5,7 +5,8 @@ use Rattle.std.proofs.Common.{Err, map, refl, sym, ap, ◌∙◌, subst, inl, in
 use Rattle.std.specs.Prelude.{Contains, ◌&&◌, ◌||◌, ◌^◌, bytes_eq, filter, find, length, nat_lt, not, option_map}
 use Rattle.std.specs.Prelude.{if◌then◌else◌, ℤ, pos, ◌≤ℤ◌, int_le, int_lt}
 use Rattle.std.specs.List.{AllByRecursion, flat_map, list_any}
-use Rattle.std.proofs.lemmas.Bool.{and_from, and_parts, cases_Bool, false≢true, false_from_ne_true, lt-ltb, or_left, or_right}
+use Rattle.std.proofs.lemmas.Bool.{and_from, and_parts, cases_Bool, false≢true, false_from_ne_true, lt-ltb, or_left}
+use Rattle.std.proofs.lemmas.Bool.{or_right}
 use Rattle.std.proofs.lemmas.Int.{ints}
 use Rattle.std.proofs.lemmas.List.{map-append}
 use Rattle.std.proofs.lemmas.List.Elements.{Contains-append_right, recursion_from_All}
@@ -14,7 +15,8 @@ use Rattle.suit_cards.specs.Cards.{Counts}
 use Rattle.suit_num.proofs.IntegerLaws.{mul_not_negative}
 use Rattle.suit_game.specs.declared.question.Question.{Question}
 use Rattle.suit_game.specs.Validity.{IsValid}
-use Rattle.suit_game.proofs.EachElement.{Contains-cons_cases, Contains-filter, Contains-first, Contains-later, Contains-nil, each_append}
+use Rattle.suit_game.proofs.EachElement.{Contains-cons_cases, Contains-filter, Contains-first, Contains-later}
+use Rattle.suit_game.proofs.EachElement.{Contains-nil, each_append}
 use Rattle.suit_game.proofs.EachElement.{each_at, each_gives, each_map, each_of}
 use Rattle.suit_classes.specs.declared.class_moves.ClassMove.{ClassMove}
 use Rattle.suit_classes.specs.AllowedHistories.{allows}
@@ -27,7 +29,8 @@ use Rattle.suit_classes.proofs.SameMoves.{same_move_is}
 use Rattle.suit_plans.specs.declared.faults.PlanKind.{PlanKind}
 use Rattle.suit_plans.specs.declared.faults.PlanKind.TheVariants.{Den, Layout}
 use Rattle.suit_plans.specs.declared.defence.DefenceRow.{DefenceRow}
-use Rattle.suit_plans.specs.Masses.{Shares, Side, count_of, defence_mass, defence_shares_at, defenders, is_defences, is_first, mass_from}
+use Rattle.suit_plans.specs.Masses.{Shares, Side, count_of, defence_mass, defence_shares_at, defenders, is_defences}
+use Rattle.suit_plans.specs.Masses.{is_first, mass_from}
 use Rattle.suit_plans.specs.Masses.{mass_of, share, weight_of}
 use Rattle.suit_plans.specs.Orders.{counts_before, defence_row_before, history_before, key_before, same_class_history}
 use Rattle.suit_plans.specs.Properness.{IsProperDefence, defence_row_fault, defence_verdict, first_fault, last_passes}
@@ -41,7 +44,8 @@ use Rattle.suit_tableaus.specs.Programs.{IsDualFeasible}
 use Rattle.suit_supports.specs.Programs.{limits, program_of}
 use Rattle.suit_supports.specs.Readings.{Reading, all_on_first, defence_of, defence_reading, has_row}
 use Rattle.suit_supports.specs.Readings.{price_of, read_from, read_mass, read_shares, row_counts}
-use Rattle.suit_supports.specs.Supports.{Support, defence_chooses, first_and, is_reached, layouts_of, legal_moves, names, reached_histories}
+use Rattle.suit_supports.specs.Supports.{Support, defence_chooses, first_and, is_reached, layouts_of, legal_moves}
+use Rattle.suit_supports.specs.Supports.{names, reached_histories}
 use Rattle.suit_supports.specs.Supports.{supported_moves}
 use Rattle.suit_supports.proofs.ChoicePlaces.{their_place}
 use Rattle.suit_supports.proofs.DistinctLimits.{IsLayoutBefore, counts-never, layouts_chained}
@@ -53,7 +57,8 @@ use Rattle.suit_supports.proofs.ReadMasses.{read_mass-push}
 use Rattle.suit_supports.proofs.ReadPlans.{any_before, any_found, chain_before, first_same, found_any, only_first}
 use Rattle.suit_supports.proofs.ReadPlans.{reached_undecided, supported_rise}
 use Rattle.suit_supports.proofs.RowFacts.{faultless_ok, fits_counts, last_of_all, row_fits}
-use Rattle.suit_supports.proofs.SharedCounts.{AreLow, ShareOut, filled_moves, filled_out, kept_counts, low_mapped, moves_mapped}
+use Rattle.suit_supports.proofs.SharedCounts.{AreLow, ShareOut, filled_moves, filled_out, kept_counts, low_mapped}
+use Rattle.suit_supports.proofs.SharedCounts.{moves_mapped}
 use Rattle.suit_supports.proofs.SharedCounts.{no_row_of, some_shares, sum_mapped, wants_row}
 use Rattle.suit_supports.proofs.SupportedTurns.{supported_class_move, supported_going, supported_once}
 
@@ -113,7 +118,8 @@ flat_append {X} {Y} piece (x ∷ xs) ys =
     ∙ sym (append_assoc (piece x) (flat_map piece xs) (flat_map piece ys))
 
 -- all of a chain stand before what comes after them
-front_before : {X : Type 0} (R : X → X → Type 0) (front : List X) (x : X) (back : List X) → Chained R (front ++ x ∷ back)
+front_before : {X : Type 0} (R : X → X → Type 0) (front : List X) (x : X) (back : List X)
+    → Chained R (front ++ x ∷ back)
     → AllByRecursion (λ y. R y x) front
 unfolding Chained
 front_before R [] x back chain = tt

@@ -2,7 +2,8 @@
 -- (`plan_masses`, `plan_proper`).
 use Rattle.std.proofs.Common.{◌≡◌, ℕ, suc, Bool, true, false, cond, List, [], ◌∷◌, ◌++◌, Option, Some, None, Err}
 use Rattle.std.proofs.Common.{map, refl, sym, ap, ◌∙◌, subst, inl, inr, arith, append_assoc}
-use Rattle.std.specs.Prelude.{Contains, ◌&&◌, ◌||◌, ◌^◌, filter, find, length, nat_lt, not, option_map, if◌then◌else◌, ℤ}
+use Rattle.std.specs.Prelude.{Contains, ◌&&◌, ◌||◌, ◌^◌, filter, find, length, nat_lt, not, option_map, if◌then◌else◌}
+use Rattle.std.specs.Prelude.{ℤ}
 use Rattle.std.specs.Prelude.{pos, ◌≤ℤ◌, int_le, int_lt}
 use Rattle.std.specs.List.{AllByRecursion, list_any}
 use Rattle.std.proofs.lemmas.Bool.{and_parts, cases_Bool, false≢true, false_from_ne_true, lt-ltb}
@@ -25,29 +26,34 @@ use Rattle.suit_plans.specs.declared.plan.Row.{Row}
 use Rattle.suit_plans.specs.Masses.{Shares, Side, count_of, declarer, is_declarers, is_first, mass_from, mass_of}
 use Rattle.suit_plans.specs.Masses.{plan_shares_at, share}
 use Rattle.suit_plans.specs.Orders.{history_before, plan_row_before, same_class_history}
-use Rattle.suit_plans.specs.Properness.{IsProperPlan, first_fault, goes_undecided, last_passes, moves_of, plan_row_fault}
+use Rattle.suit_plans.specs.Properness.{IsProperPlan, first_fault, goes_undecided, last_passes, moves_of}
+use Rattle.suit_plans.specs.Properness.{plan_row_fault}
 use Rattle.suit_plans.specs.Properness.{plan_verdict, some_allows}
 use Rattle.suit_plans.proofs.ChoiceOrder.{pairs_chained}
 use Rattle.suit_plans.proofs.FirstFaults.{IsFaultless}
-use Rattle.suit_plans.proofs.HistoryOrder.{IsStrict-moves, earlier-start, same_class_history-itself, same_class_history_is}
+use Rattle.suit_plans.proofs.HistoryOrder.{IsStrict-moves, earlier-start, same_class_history-itself}
+use Rattle.suit_plans.proofs.HistoryOrder.{same_class_history_is}
 use Rattle.suit_plans.proofs.KeyOrder.{history-chain, history-never}
 use Rattle.suit_plans.proofs.MassSteps.{mass_kept, mass_of_same, mass_shared}
 use Rattle.suit_plans.proofs.PublicMoves.{Contains-allowing, allows_some, kept_parts, passing_some, some_passing}
 use Rattle.suit_plans.proofs.TurnMoves.{declarers_moves}
 use Rattle.suit_supports.specs.Points.{IsPositive, Passed, Point}
 use Rattle.suit_supports.specs.Programs.{sum_passed}
-use Rattle.suit_supports.specs.Readings.{Reading, all_on_first, has_row, plan_at, plan_reading, read_from, read_mass, read_shares}
+use Rattle.suit_supports.specs.Readings.{Reading, all_on_first, has_row, plan_at, plan_reading, read_from, read_mass}
+use Rattle.suit_supports.specs.Readings.{read_shares}
 use Rattle.suit_supports.specs.Readings.{row_counts}
 use Rattle.suit_supports.specs.Supports.{Support, declarer_chooses, is_reached, layouts_of, legal_moves, names}
 use Rattle.suit_supports.specs.Supports.{reached_histories, supported_moves}
 use Rattle.suit_supports.specs.Worths.{mass_at, passed}
 use Rattle.suit_supports.proofs.ChoicePlaces.{IsChoice, own_place}
-use Rattle.suit_supports.proofs.ReachedPairs.{IsSomewhere, listed_somewhere, reached_allows, reached_fits, reached_listed}
+use Rattle.suit_supports.proofs.ReachedPairs.{IsSomewhere, listed_somewhere, reached_allows, reached_fits}
+use Rattle.suit_supports.proofs.ReachedPairs.{reached_listed}
 use Rattle.suit_supports.proofs.ReachedPairs.{reached_next, reached_none}
 use Rattle.suit_supports.proofs.ReadMasses.{masses_are_read, not_own, read_mass-push}
 use Rattle.suit_supports.proofs.ReachedOrder.{kept_chained}
 use Rattle.suit_supports.proofs.RowFacts.{faultless_ok, fits_counts, last_of_all, row_fits, undecided-push}
-use Rattle.suit_supports.proofs.SharedCounts.{ShareOut, kept_counts, moves_mapped, no_row_of, some_shares, topped_moves, topped_of_moves, wants_row}
+use Rattle.suit_supports.proofs.SharedCounts.{ShareOut, kept_counts, moves_mapped, no_row_of, some_shares, topped_moves}
+use Rattle.suit_supports.proofs.SharedCounts.{topped_of_moves, wants_row}
 use Rattle.suit_supports.proofs.SummedOrders.{le_trans}
 use Rattle.suit_supports.proofs.SupportedTurns.{supported_class_move, supported_going, supported_once}
 use Rattle.suit_supports.proofs.WorthBounds.{masses_low}
@@ -64,7 +70,8 @@ rows_of counts histories = map (λ history. record { history = history; counts =
 shares_case : (b : Bool) (history other : List ClassMove) (counts : List ClassMove → Shares) (later : Option Row)
     (rest : Bool) → same_class_history history other ≡ b
     → option_map (λ (row : Row). row.counts) later ≡ cond rest (Some (counts other)) None
-    → option_map (λ (row : Row). row.counts) (cond b (Some (record { history = history; counts = counts history })) later)
+    → option_map (λ (row : Row). row.counts)
+    (cond b (Some (record { history = history; counts = counts history })) later)
     ≡ cond (b || rest) (Some (counts other)) None
 shares_case true history other counts later rest same is = ap (λ (h : List ClassMove). Some (counts h))
     (same_class_history_is history other same)
@@ -183,7 +190,8 @@ none_same (history ∷ histories) begun later =
     ap (λ (b : Bool). b || list_any (λ other. same_class_history other begun) histories)
     (false_from_ne_true (same_class_history history begun)
     (λ same. false≢true (sym (history-never begun)
-    ∙ subst (λ (h : List ClassMove). history_before begun h ≡ true) (same_class_history_is history begun same) later.0)))
+    ∙ subst (λ (h : List ClassMove). history_before begun h ≡ true) (same_class_history_is history begun same)
+    later.0)))
     ∙ none_same histories begun later.1
 
 chain_after : (done : List (List ClassMove)) (history : List ClassMove) (rest : List (List ClassMove))

@@ -19,7 +19,8 @@ use Rattle.suit_classes.proofs.SameMoves.{among_contained}
 use Rattle.suit_plans.specs.declared.faults.PlanKind.{PlanKind}
 use Rattle.suit_plans.specs.declared.faults.PlanKind.TheVariants.{History, Order, Illegal, Negative, Sum}
 use Rattle.suit_plans.specs.Masses.{Shares, Side, mass_of}
-use Rattle.suit_plans.specs.Properness.{are_rising, at_row, first_fault, goes_undecided, last_passes, moves_of, row_fault}
+use Rattle.suit_plans.specs.Properness.{are_rising, at_row, first_fault, goes_undecided, last_passes, moves_of}
+use Rattle.suit_plans.specs.Properness.{row_fault}
 use Rattle.suit_plans.specs.Properness.{sum_of}
 use Rattle.suit_plans.proofs.FirstFaults.{FitsTurn, IsFaultless}
 use Rattle.suit_supports.specs.Readings.{sum_counts}

@@ -8,7 +8,8 @@ use Rattle.std.proofs.lemmas.Bool.{and_parts, false≢true}
 use Rattle.suit_cards.specs.Cards.{Counts}
 use Rattle.suit_game.specs.declared.question.Question.{Question}
 use Rattle.suit_game.specs.Validity.{IsValid}
-use Rattle.suit_game.proofs.EachElement.{Contains-cons_cases, Contains-filter, Contains-first, Contains-flat_map, Contains-later}
+use Rattle.suit_game.proofs.EachElement.{Contains-cons_cases, Contains-filter, Contains-first, Contains-flat_map}
+use Rattle.suit_game.proofs.EachElement.{Contains-later}
 use Rattle.suit_game.proofs.EachElement.{Contains-map, Contains-nil, Contains-range}
 use Rattle.suit_classes.specs.declared.class_moves.ClassMove.{ClassMove}
 use Rattle.suit_classes.specs.AllowedHistories.{is_among}
@@ -17,7 +18,8 @@ use Rattle.suit_classes.proofs.DecidedPlays.{class_histories_are_short}
 use Rattle.suit_classes.proofs.SameMoves.{among-Contains}
 use Rattle.suit_plans.specs.declared.moves.DefenceMove.{DefenceMove}
 use Rattle.suit_plans.specs.declared.plan.Plan.{Plan}
-use Rattle.suit_plans.specs.BestReplies.{Reply, choices, follows, has_choice, histories_within, is_reached as reply_reaches}
+use Rattle.suit_plans.specs.BestReplies.{Reply, choices, follows, has_choice, histories_within}
+use Rattle.suit_plans.specs.BestReplies.{is_reached as reply_reaches}
 use Rattle.suit_plans.specs.BestReplies.{least_reply, least_reply_in, reply_move, reply_to_plan}
 use Rattle.suit_plans.specs.Masses.{plan_mass}
 use Rattle.suit_plans.specs.ReplyLaws.{counts_at}

@@ -1,5 +1,6 @@
 -- What a class history is for a support: without moves, with one, or a choice of one of the sides (`turn_at`).
-use Rattle.std.proofs.Common.{◌≡◌, ℕ, suc, Bool, true, false, List, [], ◌∷◌, ◌++◌, length, Option, Some, None, map, refl, sym}
+use Rattle.std.proofs.Common.{◌≡◌, ℕ, suc, Bool, true, false, List, [], ◌∷◌, ◌++◌, length, Option, Some, None, map}
+use Rattle.std.proofs.Common.{refl, sym}
 use Rattle.std.proofs.Common.{ap, ◌∙◌, subst, inl, inr, arith}
 use Rattle.std.specs.Prelude.{Contains, ◌&&◌, filter, nat_lt, if◌then◌else◌, ℤ}
 use Rattle.std.proofs.lemmas.Bool.{and_parts, false≢true, lt-ltb}
@@ -238,7 +239,8 @@ module _ (question : Question) (support : Support) (west : Counts) (history : Li
       (λ point. kept_mass not_own point move)
   turn_in (move ∷ next ∷ moves) is (Over decided turn) = absurd (nothing (over_none (move ∷ next ∷ moves) is decided))
   turn_in (move ∷ next ∷ moves) is (Declarers going own not_theirs) =
-      Own (own_choice (move ∷ next ∷ moves) is going own ∙ several (length moves)) (no_defence not_theirs) (own_supported going own)
+      Own (own_choice (move ∷ next ∷ moves) is going own
+      ∙ several (length moves)) (no_defence not_theirs) (own_supported going own)
       (subst (HasFirst {X = ClassMove}) (own_supported going own) (record {
         first = move;
         more = filter (names question support west history) (next ∷ moves);

@@ -22,15 +22,18 @@ use Rattle.suit_plans.proofs.HistoryOrder.{same_class_history-itself, same_class
 use Rattle.suit_plans.proofs.KeyOrder.{history-never}
 use Rattle.suit_plans.proofs.NumberSums.{sum_nothing}
 use Rattle.suit_supports.specs.Points.{Column, Held, Passed, Point, given_to, point_of, same_column}
-use Rattle.suit_supports.specs.Programs.{Answered, Limit, Shared, columns, columns_at, excess, held_column, limits, sum_passed}
-use Rattle.suit_supports.specs.Supports.{Support, declarer_chooses, is_reached, layouts_of, reached_histories, reached_layouts}
+use Rattle.suit_supports.specs.Programs.{Answered, Limit, Shared, columns, columns_at, excess, held_column, limits}
+use Rattle.suit_supports.specs.Programs.{sum_passed}
+use Rattle.suit_supports.specs.Supports.{Support, declarer_chooses, is_reached, layouts_of, reached_histories}
+use Rattle.suit_supports.specs.Supports.{reached_layouts}
 use Rattle.suit_supports.specs.Supports.{supported_moves}
 use Rattle.suit_supports.specs.Worths.{mass_at}
 use Rattle.suit_supports.proofs.PointsWithin.{their_only}
 use Rattle.suit_supports.proofs.ReachedPairs.{AtOwn, AtTheirs, IsSomewhere, StandsAt, flat_map_from, limits_reached}
 use Rattle.suit_supports.proofs.ReachedPairs.{reached_fits, reached_listed, reached_next, reached_none}
 use Rattle.suit_supports.proofs.ReachedOrder.{reached_chained}
-use Rattle.suit_supports.proofs.SupportedTurns.{Ended, Forced, Own, Theirs, TurnAt, mass_passed, supported_once, turn_at}
+use Rattle.suit_supports.proofs.SupportedTurns.{Ended, Forced, Own, Theirs, TurnAt, mass_passed, supported_once}
+use Rattle.suit_supports.proofs.SupportedTurns.{turn_at}
 
 abbrev ones : ℕ → ℤ
 ones index = pos 1
@@ -177,7 +180,8 @@ module _ (question : Question) (support : Support) (valid : IsValid question) (t
   unfolding same_column
   apart_case other true history move apart = (
     ap (λ (b : Bool). b && same_class_move (taken other) move)
-        (false_from_ne_true (same_class_history other history) (λ same. apart (same_class_history_is other history same))),
+        (false_from_ne_true (same_class_history other history)
+        (λ same. apart (same_class_history_is other history same))),
     tt,
   )
   apart_case other false history move apart = tt
@@ -238,7 +242,8 @@ module _ (question : Question) (support : Support) (valid : IsValid question) (t
   one_case history move false = refl
 
   -- at a choice of declarer's that is reached
-  pub taken_passed : (history : List ClassMove) (move : ClassMove) → Contains (reached_histories question support) history
+  pub taken_passed : (history : List ClassMove) (move : ClassMove)
+      → Contains (reached_histories question support) history
       → declarer_chooses question history ≡ true
       → taken_point.at (Passed history move) ≡ number (chosen history && same_class_move (taken history) move)
   taken_passed history move found chooses =
@@ -358,14 +363,17 @@ module _ (question : Question) (support : Support) (valid : IsValid question) (t
   tight_in : (limit : Limit) → StandsAt question support limit → (history : List ClassMove) → limit ≡ Shared history
       → excess question support taken_point (Shared history) ≡ pos 0
   tight_in limit (AtOwn there chooses somewhere) history is =
-      subst (λ (h : List ClassMove). excess question support taken_point (Shared h) ≡ pos 0) (shared_same there history is)
+      subst (λ (h : List ClassMove). excess question support taken_point (Shared h)
+      ≡ pos 0) (shared_same there history is)
       (tight_at there chooses somewhere)
     where
       shared_same : (one other : List ClassMove) → Shared one ≡ Shared other → one ≡ other
       shared_same one other same = cc
-  tight_in limit (AtTheirs layout there move listed reached chooses found) history is = absurd (apart layout.0 there move is)
+  tight_in limit (AtTheirs layout there move listed reached chooses found) history is =
+      absurd (apart layout.0 there move is)
     where
-      apart : (west : Counts) (there : List ClassMove) (move : ClassMove) → Answered west there move ≡ Shared history → ⊥
+      apart : (west : Counts) (there : List ClassMove) (move : ClassMove) → Answered west there move ≡ Shared history
+          → ⊥
       apart west there move same = cc
 
   -- it keeps declarer's rows exactly

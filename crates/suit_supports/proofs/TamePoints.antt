@@ -21,7 +21,8 @@ use Rattle.suit_supports.proofs.Beginnings.{begins, beginnings_shared, begins_fa
 use Rattle.suit_supports.proofs.LinearWorths.{AreCombined, masses_linear, within_linear}
 use Rattle.suit_supports.proofs.ReachedPairs.{reached_allows, reached_fits, reached_next, reached_none}
 use Rattle.suit_supports.proofs.SummedOrders.{le_trans, sum_le}
-use Rattle.suit_supports.proofs.SupportedTurns.{Ended, Forced, Own, Theirs, TurnAt, mass_passed, supported_once, turn_at}
+use Rattle.suit_supports.proofs.SupportedTurns.{Ended, Forced, Own, Theirs, TurnAt, mass_passed, supported_once}
+use Rattle.suit_supports.proofs.SupportedTurns.{turn_at}
 use Rattle.suit_supports.proofs.WorthBounds.{AreKept, masses_low, within_low, within_paid}
 
 abbrev path_at : List ClassMove → Column → ℤ

@@ -1,116 +1,76 @@
 -- A defence that is read from feasible prices lets declarer earn no more than the game of the support is worth, where
 -- the support has the moves of the best reply to it (`defence_holds`).
-use Rattle.std.proofs.Common.{◌≡◌, ◌⊎◌, ℕ, zero, suc, ◌-◌, ◌≤◌, Bool, true, false, List, [], ◌∷◌, ◌++◌, length}
+use Rattle.std.proofs.Common.{◌≡◌, ◌⊎◌, ℕ, zero, suc, ◌-◌, Bool, true, false, List, [], ◌∷◌, ◌++◌, length}
 use Rattle.std.proofs.Common.{map, refl, sym, ap, ◌∙◌, subst, inl, inr, arith}
-use Rattle.std.specs.Prelude.{Contains, ◌&&◌, filter, nat_lt, not, if◌then◌else◌, ℤ, pos, ◌+ℤ◌, ◌-ℤ◌, ◌*ℤ◌}
+use Rattle.std.specs.Prelude.{Contains, ◌&&◌, filter, nat_lt, if◌then◌else◌, ℤ, pos, ◌+ℤ◌, ◌-ℤ◌, ◌*ℤ◌}
 use Rattle.std.specs.Prelude.{◌≤ℤ◌, int_lt}
 use Rattle.std.specs.List.{list_any}
 use Rattle.std.specs.Ordering.{int_eq}
-use Rattle.std.proofs.lemmas.Bool.{and_parts, cases_Bool, false≢true, false_from_ne_true, lt-ltb, or_parts}
+use Rattle.std.proofs.lemmas.Bool.{cases_Bool, false≢true, false_from_ne_true}
 use Rattle.std.proofs.lemmas.Bool.Decides.{Decides-int_eq}
 use Rattle.std.proofs.lemmas.Int.{ints}
 use Rattle.std.proofs.lemmas.List.{length-append}
-use Rattle.std.proofs.lemmas.List.Elements.{filter_agree, recursion_from_All}
+use Rattle.std.proofs.lemmas.List.Elements.{filter_agree}
 use Rattle.std.proofs.Math.IntN.{*ℤ_comm}
 use Rattle.suit_cards.specs.Cards.{Counts}
-use Rattle.suit_num.proofs.IntegerLaws.{int_lt-false, int_lt-true, le-mul_right, mul-sub_left, mul_assoc, mul_not_negative}
+use Rattle.suit_num.proofs.IntegerLaws.{int_lt-false, int_lt-true, le-mul_right, mul_assoc}
 use Rattle.suit_game.specs.declared.question.Question.{Question}
 use Rattle.suit_game.specs.Validity.{IsValid}
-use Rattle.suit_game.proofs.EachElement.{Contains-cons_cases, Contains-filter, Contains-first, Contains-later, Contains-map}
-use Rattle.suit_game.proofs.EachElement.{Contains-map_from, Contains-nil, map_same}
+use Rattle.suit_game.proofs.EachElement.{Contains-first}
+use Rattle.suit_game.proofs.EachElement.{Contains-map_from, map_same}
 use Rattle.suit_classes.specs.declared.class_moves.ClassMove.{ClassMove}
-use Rattle.suit_classes.specs.AllowedHistories.{allows, every_move, is_among}
+use Rattle.suit_classes.specs.AllowedHistories.{every_move, is_among}
 use Rattle.suit_classes.specs.ClassMoves.{same_class_move}
-use Rattle.suit_classes.specs.ClassPlaces.{class_after, class_decided, class_moves, class_payoff, class_turn}
-use Rattle.suit_classes.proofs.DecidedPlays.{class_histories_are_short}
+use Rattle.suit_classes.specs.ClassPlaces.{class_after, class_decided, class_moves, class_turn}
 use Rattle.suit_classes.proofs.SameMoves.{among-Contains, among_contained, same_move-itself}
 use Rattle.suit_plans.specs.declared.defence.Defence.{Defence}
-use Rattle.suit_plans.specs.declared.moves.DeclarerMove.{DeclarerMove}
-use Rattle.suit_plans.specs.BestReplies.{Reply, allowing_layouts, choices, first_of, follows, has_choice, histories_within}
-use Rattle.suit_plans.specs.BestReplies.{is_reached as reply_reaches, most, most_reply, public_moves, reply_move}
+use Rattle.suit_plans.specs.BestReplies.{Reply, allowing_layouts, first_of, follows}
+use Rattle.suit_plans.specs.BestReplies.{most, most_reply, public_moves, reply_move}
 use Rattle.suit_plans.specs.BestReplies.{reply_to_defence, worth}
-use Rattle.suit_plans.specs.Masses.{count_of, defence_mass, defenders, is_declarers, is_defences, weight_of}
+use Rattle.suit_plans.specs.Masses.{defence_mass, defenders, is_declarers, is_defences, weight_of}
 use Rattle.suit_plans.specs.Properness.{IsProperDefence, some_allows, sum_of}
 use Rattle.suit_plans.proofs.BoundedReplies.{some_allow_none, weight_listed}
-use Rattle.suit_plans.proofs.DefenceWorths.{defences_at_decided, defences_at_declarers, defences_at_defences, mass_positive}
-use Rattle.suit_plans.proofs.DefenceWorths.{no_masses_no_worth, room}
+use Rattle.suit_plans.proofs.DefenceWorths.{defences_at_declarers, defences_at_defences}
+use Rattle.suit_plans.proofs.DefenceWorths.{mass_positive}
+use Rattle.suit_plans.proofs.DefenceWorths.{room}
 use Rattle.suit_plans.proofs.MassBounds.{mass_falls}
 use Rattle.suit_plans.proofs.MassSteps.{mass_kept}
 use Rattle.suit_plans.proofs.NumberSums.{sum_kept, sum_times, sums_exchanged}
 use Rattle.suit_plans.proofs.ProperDefences.{defences_are_realised}
-use Rattle.suit_plans.proofs.PublicMoves.{Contains-allowing, Contains-public, allowing_before, allowing_parts, HasFirst-found, filter_both, kept_parts}
+use Rattle.suit_plans.proofs.PublicMoves.{Contains-allowing, allowing_before, allowing_parts}
+use Rattle.suit_plans.proofs.PublicMoves.{HasFirst-found, filter_both}
 use Rattle.suit_plans.proofs.PublicMoves.{layout_weighs, own_moves_on, passing_some, public_allowed, public_going}
 use Rattle.suit_plans.proofs.PublicMoves.{some_passing, some_public}
 use Rattle.suit_plans.proofs.ReplyChoices.{reply_move_found}
-use Rattle.suit_plans.proofs.SharedSums.{sum_positive, within_sum}
-use Rattle.suit_plans.proofs.TurnMoves.{HasFirst, declarers_moves}
-use Rattle.suit_plans.proofs.WhoseTurns.{Declarers, Defences, Over, WhoseTurn, own_turn, whose_turn}
+use Rattle.suit_plans.proofs.SharedSums.{within_sum}
+use Rattle.suit_plans.proofs.TurnMoves.{declarers_moves}
+use Rattle.suit_plans.proofs.WhoseTurns.{Declarers, Defences, Over, WhoseTurn, whose_turn}
 use Rattle.suit_plans.proofs.WorthsAtTurns.{max_picks}
 use Rattle.suit_tableaus.specs.Points.{dot, number_at}
 use Rattle.suit_tableaus.specs.Programs.{IsDualFeasible}
-use Rattle.suit_supports.specs.Points.{Held, IsPositive, Point}
+use Rattle.suit_supports.specs.Points.{Point}
 use Rattle.suit_supports.specs.Programs.{limits, program_of, supported_worth}
-use Rattle.suit_supports.specs.Readings.{Reading, defence_of, defence_reading, price_of, read_from, read_mass, read_shares}
-use Rattle.suit_supports.specs.Supports.{Support, are_new, declarer_chooses, defence_chooses, first_and, is_reached}
+use Rattle.suit_supports.specs.Readings.{Reading, defence_of, defence_reading, price_of, read_from, read_mass}
+use Rattle.suit_supports.specs.Supports.{Support, are_new, declarer_chooses, defence_chooses, is_reached}
 use Rattle.suit_supports.specs.Supports.{layouts_of, legal_moves, names, reached_layouts, supported_moves}
-use Rattle.suit_supports.specs.Worths.{objective_at, worth_at, worth_within}
-use Rattle.suit_supports.proofs.BoundedPrograms.{given_low}
-use Rattle.suit_supports.proofs.ChoicePlaces.{own_place}
+use Rattle.suit_supports.specs.Worths.{objective_at, worth_within}
 use Rattle.suit_supports.proofs.KeptWorths.{first_passes}
-use Rattle.suit_supports.proofs.PriceBounds.{filled_most, negated, sum_less, sum_none_more}
+use Rattle.suit_supports.proofs.PriceBounds.{sum_less}
 use Rattle.suit_supports.proofs.PricedPoints.{exceeds, exceeds_by_play, filter_all, part_of, points_bounded}
-use Rattle.suit_supports.proofs.PricedRows.{price_low}
-use Rattle.suit_supports.proofs.ReachedPairs.{reached_allows, reached_fits, reached_next, reached_none}
-use Rattle.suit_supports.proofs.ReadDefences.{defence_masses, none_theirs, unsupported_none}
-use Rattle.suit_supports.proofs.ReadMasses.{not_own, read_mass-push}
+use Rattle.suit_supports.proofs.ReachedPairs.{reached_allows, reached_next, reached_none}
+use Rattle.suit_supports.proofs.ReadDefences.{none_theirs, unsupported_none}
+use Rattle.suit_supports.proofs.ReadMasses.{not_own}
 use Rattle.suit_supports.proofs.SummedOrders.{le_trans, sum_le}
-use Rattle.suit_supports.proofs.SupportedReplies.{both_true, follows_next, goes_within, none_fails}
-use Rattle.suit_supports.proofs.SupportedTurns.{Ended, Forced, Own, Theirs, TurnAt, count_found, legal_going, own_legal}
-use Rattle.suit_supports.proofs.SupportedTurns.{own_supported, supported_class_move, supported_going, turn_at}
-use Rattle.suit_supports.proofs.TakenMoves.{chosen, chosen-push, chosen_none, taken_columns, taken_held, taken_listed}
-use Rattle.suit_supports.proofs.TakenMoves.{taken_masses, taken_point, taken_tight}
+use Rattle.suit_supports.proofs.SupportedReplies.{both_true, follows_next}
+use Rattle.suit_supports.proofs.SupportedTurns.{Ended, Forced, Own, Theirs, TurnAt, legal_going}
+use Rattle.suit_supports.proofs.SupportedTurns.{own_supported, turn_at}
+use Rattle.suit_supports.proofs.TakenMoves.{chosen, chosen-push, chosen_none, taken_columns, taken_listed}
+use Rattle.suit_supports.proofs.TakenMoves.{taken_point, taken_tight}
 use Rattle.suit_supports.proofs.TreeSums.{both_second, layouts_next, play_sum, supported_all}
-use Rattle.suit_supports.proofs.WorthBounds.{choosing, going, only_one, some_summed, within_low}
-
--- ---- lists
-
-sum_under_one : {X : Type 0} (f : X → ℤ) (xs : List X) (x : X) → Contains xs x
-    → ((y : X) → Contains xs y → f y ≤ℤ pos 0) → sum_of (map f xs) ≤ℤ f x
-unfolding sum_of
-sum_under_one f [] x found low = absurd (Contains-nil x found)
-sum_under_one {X} f (first ∷ xs) x found low = elim (Contains-cons_cases first xs x found) [
-  | inl here ↦
-      let rest = sum_none_more f xs (λ y there. low y (Contains-later first xs y there)) in
-      subst (λ (y : X). (f first +ℤ sum_of (map f xs)) ≤ℤ f y) here (before (f first) (sum_of (map f xs)) rest)
-  | inr there ↦
-      let rest = sum_under_one f xs x there (λ y later. low y (Contains-later first xs y later)) in
-      after (f first) (sum_of (map f xs)) (f x) (low first (Contains-first first xs)) rest
-]
-  where
-    before : (x y : ℤ) → y ≤ℤ pos 0 → (x +ℤ y) ≤ℤ x
-    before x y p = omega (arith, ints, p)
-
-    after : (x y z : ℤ) → x ≤ℤ pos 0 → y ≤ℤ z → (x +ℤ y) ≤ℤ z
-    after x y z p q = omega (arith, ints, p, q)
-
-few_all : (named : ClassMove → Bool) (moves : List ClassMove) → nat_lt 1 (length moves) ≡ false
-    → first_and named moves ≡ moves
-few_all named [] few = refl
-few_all named (move ∷ []) few = refl
-few_all named (move ∷ next ∷ moves) few = absurd (false≢true (sym few
-    ∙ lt-ltb 1 (suc (suc (length moves))) (omega arith)))
-
-first_found : (moves : List ClassMove) → HasFirst moves → Contains moves (first_of moves)
-first_found [] some = absurd (nothing some.parts)
-  where
-    nothing : [] ≡ some.first ∷ some.more → ⊥
-    nothing is = cc
-first_found (move ∷ moves) some = Contains-first move moves
-
-taken_case : (b : Bool) (moves : List ClassMove) (move : ClassMove) → is_among moves move ≡ b → HasFirst moves
-    → Contains moves (if b then move else first_of moves)
-taken_case true moves move among some = among-Contains moves move among
-taken_case false moves move among some = first_found moves some
+use Rattle.suit_supports.proofs.WorthBounds.{choosing, going, only_one, some_summed}
+use Rattle.suit_supports.proofs.HeldLayouts.{few_all, sum_under_one, bounded, bound_stays, bound_price, worth_low}
+use Rattle.suit_supports.proofs.HeldLayouts.{point_held, part_none, part_choice, play_low, held_low, layout_parts}
+use Rattle.suit_supports.proofs.HeldLayouts.{dead_under, over_under, public_held, own_named, takes}
 
 module _ (question : Question) (support : Support) (valid : IsValid question) (prices : List ℤ) (scale : ℤ)
     (dual : IsDualFeasible (program_of question support) prices scale)
@@ -127,81 +87,12 @@ module _ (question : Question) (support : Support) (valid : IsValid question) (p
   taken history = if is_among (supported_moves question support [] history) (reply_move reply history)
       then reply_move reply history else first_of (supported_moves question support [] history)
 
-  takes : (history : List ClassMove) → declarer_chooses question history ≡ true
-      → Contains (supported_moves question support [] history) (taken history)
-  takes history chooses =
-      let choice = (own_place question support history chooses).1 in
-      taken_case (is_among (supported_moves question support [] history) (reply_move reply history))
-      (supported_moves question support [] history) (reply_move reply history) refl
-      (record { first = choice.first; more = _; parts = choice.supported })
-
   abbrev point : Point
-  point = taken_point question support valid taken takes
+  point = taken_point question support valid taken (takes question support valid prices scale dual proper all)
 
   abbrev is_chosen : List ClassMove → Bool
-  is_chosen history = chosen question support valid taken takes history
-
-  point_positive : IsPositive point
-  point_positive = record {
-    at = λ column. given_low (taken_columns question support valid taken takes) (λ index. pos 1) column
-        (λ index below. omega (arith, ints));
-    one = omega (arith, ints);
-  }
-
-  -- ---- the reply's moves
-
-  named : (entry : DeclarerMove) → Contains (most_reply question read) entry
-      → is_among (supported_moves question support [] entry.history) entry.mv ≡ true
-  unfolding are_new
-  named entry found =
-      none_fails (λ (other : DeclarerMove). is_among (supported_moves question support [] other.history) other.mv)
-      (most_reply question read) entry
-      (or_parts (list_any (λ (other : DeclarerMove). not (is_among (supported_moves question support [] other.history)
-      other.mv)) (most_reply question read)) false all).0 found
-
-  public_held : (layout : Counts × ℕ) → Contains (layouts_of question) layout → (history : List ClassMove)
-      (move : ClassMove) → is_reached question support layout.0 history ≡ true
-      → Contains (supported_moves question support layout.0 history) move
-      → Contains (public_moves question history) move
-  public_held layout listed history move reached found =
-      Contains-public question valid history (supported_going question support layout.0 history move found) layout
-      (Contains-allowing question valid history layout listed
-      (reached_allows question support valid layout listed history reached)) move
-      (supported_class_move question support layout.0 history move found)
-
-  -- at a choice of declarer's that is reached and alive it is in the support
-  own_named : (layout : Counts × ℕ) → Contains (layouts_of question) layout → (history : List ClassMove)
-      → is_reached question support layout.0 history ≡ true → declarer_chooses question history ≡ true
-      → follows reply [] history ≡ true → reply.live history ≡ true
-      → is_among (supported_moves question support [] history) (reply_move reply history) ≡ true
-  unfolding most_reply choices is_reached declarer_chooses
-  own_named layout listed history reached chooses goes live =
-      let view = class_after question history in
-      let own = (and_parts (is_declarers (class_turn view)) (nat_lt 1 (length (legal_moves question [] history)))
-      chooses).0 in
-      let not_over = (own_turn view own).0 in
-      let short : length history ≤ 52 = class_histories_are_short question layout.0 history
-      (reached_allows question support valid layout listed history reached) in
-      let same : public_moves question history ≡ legal_moves question [] history =
-      own_moves_on question valid history not_over layout
-      (Contains-allowing question valid history layout listed
-      (reached_allows question support valid layout listed history reached)) own
-      ∙ sym (legal_going question support layout.0 history layout.0 not_over)
-      ∙ sym (own_legal question support layout.0 history not_over own) in
-      let chosen_there : Contains (choices reply) history =
-      Contains-filter (λ other. has_choice reply other && reply_reaches reply other) (histories_within 52 reply [])
+  is_chosen history = chosen question support valid taken (takes question support valid prices scale dual proper all)
       history
-      (goes_within question support layout.0 reply
-      (λ other move there found. public_held layout listed other move there found) 52 [] history short
-      (reached_none question support layout.0) reached)
-      (both_true (has_choice reply history) (reply_reaches reply history)
-      (ap (λ (l : List ClassMove). is_declarers (class_turn view) && nat_lt 1 (length l)) same ∙ chooses)
-      (both_true (reply.live history) (follows reply [] history) live goes)) in
-      named (record { history = history; mv = reply_move reply history })
-      (Contains-map (λ (other : List ClassMove). record { history = other; mv = reply_move reply other })
-      (choices reply) history chosen_there)
-
-  -- ---- bounds of the masses
 
   abbrev price : Counts → List ClassMove → ClassMove → ℤ
   price west history move = price_of (limits question support) prices west history move
@@ -210,7 +101,8 @@ module _ (question : Question) (support : Support) (valid : IsValid question) (p
   abbrev uncut : Counts → Reading
   uncut west = record {
     chooses = defence_chooses question west;
-    shares = λ history mass. map (λ move. (move, price west history move)) (supported_moves question support west history);
+    shares = λ history mass. map (λ move. (move, price west history move))
+        (supported_moves question support west history);
     whole = pos (weight_of question west) *ℤ scale;
   }
 
@@ -223,76 +115,9 @@ module _ (question : Question) (support : Support) (valid : IsValid question) (p
   abbrev read_in : Counts → List ClassMove → ℤ
   read_in west history = read_mass (defence_reading question support prices scale west) history
 
-  prices_low : (west : Counts) (history : List ClassMove) (move : ClassMove) → pos 0 ≤ℤ price west history move
-  prices_low west history move =
-      price_low (limits question support) prices west history move
-      (recursion_from_All (λ p. pos 0 ≤ℤ p) prices dual.rows)
-
-  bound_stays : (west : Counts) (history : List ClassMove) (move : ClassMove)
-      → defence_chooses question west history ≡ false → bound west (history ++ move ∷ []) ≡ bound west history
-  bound_stays west history move waits =
-      read_mass-push (uncut west) history move
-      ∙ ap (λ (b : Bool). if b then count_of (read_shares (uncut west) history) move else bound west history) waits
-
-  bound_price : (west : Counts) (history : List ClassMove) (move : ClassMove)
-      → defence_chooses question west history ≡ true
-      → Contains (supported_moves question support west history) move
-      → bound west (history ++ move ∷ []) ≡ price west history move
-  bound_price west history move chooses found =
-      read_mass-push (uncut west) history move
-      ∙ ap (λ (b : Bool). if b then count_of (read_shares (uncut west) history) move else bound west history) chooses
-      ∙ count_found (price west history) (supported_moves question support west history) move found
-
   abbrev IsBounded : Counts → List ClassMove → Type 0
   IsBounded west history = (is_reached question support west history ≡ true) × (pos 0 ≤ℤ bound west history)
       × (read_in west history ≤ℤ bound west history)
-
-  next_bounded : (west : Counts) (history : List ClassMove) (move : ClassMove)
-      → pos 0 ≤ℤ bound west history → read_in west history ≤ℤ bound west history
-      → Contains (supported_moves question support west history) move → (b : Bool)
-      → defence_chooses question west history ≡ b
-      → (pos 0 ≤ℤ bound west (history ++ move ∷ []))
-      × (read_in west (history ++ move ∷ []) ≤ℤ bound west (history ++ move ∷ []))
-  next_bounded west history move low le found true chooses =
-      let same = bound_price west history move chooses found in
-      let reading : Reading = defence_reading question support prices scale west in
-      let here = read_mass-push reading history move
-      ∙ ap (λ (b : Bool). if b then count_of (read_shares reading history) move else read_in west history) chooses in (
-        subst (λ (z : ℤ). pos 0 ≤ℤ z) (sym same) (prices_low west history move),
-        subst (λ (z : ℤ). read_in west (history ++ move ∷ []) ≤ℤ z) (sym same)
-            (subst (λ (z : ℤ). z ≤ℤ price west history move) (sym here)
-            (filled_most (price west history) (supported_moves question support west history) (read_in west history)
-            move found)),
-      )
-  next_bounded west history move low le found false waits =
-      let same = bound_stays west history move waits in
-      let reading : Reading = defence_reading question support prices scale west in
-      let here = read_mass-push reading history move
-      ∙ ap (λ (b : Bool). if b then count_of (read_shares reading history) move else read_in west history) waits in (
-        subst (λ (z : ℤ). pos 0 ≤ℤ z) (sym same) low,
-        subst (λ (z : ℤ). read_in west (history ++ move ∷ []) ≤ℤ z) (sym same)
-            (subst (λ (z : ℤ). z ≤ℤ bound west history) (sym here) le),
-      )
-
-  bounded : (west : Counts) (history : List ClassMove) → is_reached question support west history ≡ true
-      → IsBounded west history
-  unfolding read_mass read_from
-  bounded west history reached =
-      let some = dual.over in
-      let whole : ℤ = pos (weight_of question west) *ℤ scale in
-      reached_fits question support west (IsBounded west)
-      (λ before move fits found.
-      let next = next_bounded west before move fits.1 fits.2 found (defence_chooses question west before) refl in
-      (reached_next question support west before move fits.0 found, next.0, next.1)) (
-        reached_none question support west,
-        mul_not_negative (pos (weight_of question west)) scale (omega (arith, ints)) (omega (arith, ints, some)),
-        itself whole,
-      ) history reached
-    where
-      itself : (z : ℤ) → z ≤ℤ z
-      itself z = omega (arith, ints)
-
-  -- ---- what a class layout holds declarer to
 
   abbrev worth_z : ℕ → Counts → List ClassMove → ℤ
   worth_z more west history = worth_within question support point more west history
@@ -306,93 +131,6 @@ module _ (question : Question) (support : Support) (valid : IsValid question) (p
   abbrev held : ℕ → List ClassMove → Counts × ℕ → ℤ
   held more history layout = bound layout.0 history *ℤ worth_z (suc more) layout.0 history -ℤ play more layout history
 
-  worth_low : (more : ℕ) (west : Counts) (history : List ClassMove) → pos 0 ≤ℤ worth_z more west history
-  worth_low more west history = within_low question support point point_positive more west history
-
-  point_held : (west : Counts) (history : List ClassMove) → point.at (Held west history) ≡ pos 0
-  point_held west history = taken_held question support valid taken takes west history
-
-  part_none : (history : List ClassMove) (layout : Counts × ℕ) → defence_chooses question layout.0 history ≡ false
-      → part history layout ≡ pos 0
-  part_none history layout waits =
-      ap (λ (b : Bool). if b then sum_of (map (λ move. price layout.0 history move *ℤ (point.at (Held layout.0 history)
-      -ℤ worth_at question support point layout.0 (history ++ move ∷ [])))
-      (supported_moves question support layout.0 history)) else pos 0) waits
-
-  -- at a choice: what the prices of its moves are worth, turned
-  part_choice : (more : ℕ) (history : List ClassMove) (layout : Counts × ℕ)
-      → defence_chooses question layout.0 history ≡ true
-      → ((move : ClassMove) → 53 - length (history ++ move ∷ []) ≡ more)
-      → part history layout ≡ pos 0 -ℤ sum_of (map (λ move. price layout.0 history move
-      *ℤ worth_z more layout.0 (history ++ move ∷ [])) (supported_moves question support layout.0 history))
-  part_choice more history layout chooses left =
-      let moves : List ClassMove = supported_moves question support layout.0 history in
-      ap (λ (b : Bool). if b then sum_of (map (λ move. price layout.0 history move *ℤ (point.at (Held layout.0 history)
-      -ℤ worth_at question support point layout.0 (history ++ move ∷ []))) moves) else pos 0) chooses
-      ∙ ap sum_of (map_same (λ move. price layout.0 history move *ℤ (point.at (Held layout.0 history)
-      -ℤ worth_at question support point layout.0 (history ++ move ∷ [])))
-      (λ move. price layout.0 history move *ℤ (pos 0 -ℤ worth_z more layout.0 (history ++ move ∷ []))) moves
-      (λ move found. ap (λ (z : ℤ). price layout.0 history move *ℤ (z
-      -ℤ worth_at question support point layout.0 (history ++ move ∷ []))) (point_held layout.0 history)
-      ∙ ap (λ (n : ℕ). price layout.0 history move *ℤ (pos 0 -ℤ worth_z n layout.0 (history ++ move ∷ [])))
-      (left move)))
-      ∙ negated (price layout.0 history) (λ move. worth_z more layout.0 (history ++ move ∷ [])) moves
-
-  part_low : (history : List ClassMove) (layout : Counts × ℕ) → part history layout ≤ℤ pos 0
-  part_low history layout = at (defence_chooses question layout.0 history)
-    where
-      each : (p v w : ℤ) → pos 0 ≤ℤ p → v ≡ pos 0 → pos 0 ≤ℤ w → (p *ℤ (v -ℤ w)) ≤ℤ pos 0
-      each p v w low is some =
-          let product = mul_not_negative p w low some in
-          let parts = mul-sub_left p v w in
-          let none : p *ℤ v ≡ p *ℤ pos 0 = ap (λ (z : ℤ). p *ℤ z) is in
-          omega (arith, ints, product, parts, none)
-
-      at : (b : Bool)
-          → (if b then sum_of (map (λ move. price layout.0 history move *ℤ (point.at (Held layout.0 history)
-          -ℤ worth_at question support point layout.0 (history ++ move ∷ [])))
-          (supported_moves question support layout.0 history)) else pos 0) ≤ℤ pos 0
-      at true = sum_none_more (λ move. price layout.0 history move *ℤ (point.at (Held layout.0 history)
-          -ℤ worth_at question support point layout.0 (history ++ move ∷ [])))
-          (supported_moves question support layout.0 history)
-          (λ move found. each (price layout.0 history move) (point.at (Held layout.0 history))
-          (worth_at question support point layout.0 (history ++ move ∷ [])) (prices_low layout.0 history move)
-          (point_held layout.0 history)
-          (worth_low (53 - length (history ++ move ∷ [])) layout.0 (history ++ move ∷ [])))
-      at false = omega (arith, ints)
-
-  play_low : (more : ℕ) (layout : Counts × ℕ) (history : List ClassMove) → play more layout history ≤ℤ pos 0
-  unfolding play_sum
-  play_low zero layout history = part_low history layout
-  play_low (suc more) layout history =
-      both (part history layout) (sum_of (map (λ move. play more layout (history ++ move ∷ []))
-      (supported_moves question support layout.0 history))) (part_low history layout)
-      (sum_none_more (λ move. play more layout (history ++ move ∷ []))
-      (supported_moves question support layout.0 history)
-      (λ move found. play_low more layout (history ++ move ∷ [])))
-    where
-      both : (x y : ℤ) → x ≤ℤ pos 0 → y ≤ℤ pos 0 → (x +ℤ y) ≤ℤ pos 0
-      both x y p q = omega (arith, ints, p, q)
-
-  held_low : (more : ℕ) (history : List ClassMove) (layout : Counts × ℕ)
-      → is_reached question support layout.0 history ≡ true → pos 0 ≤ℤ held more history layout
-  held_low more history layout reached =
-      finish (bound layout.0 history *ℤ worth_z (suc more) layout.0 history) (play more layout history)
-      (mul_not_negative (bound layout.0 history) (worth_z (suc more) layout.0 history)
-      (bounded layout.0 history reached).1 (worth_low (suc more) layout.0 history)) (play_low more layout history)
-    where
-      finish : (x y : ℤ) → pos 0 ≤ℤ x → y ≤ℤ pos 0 → pos 0 ≤ℤ (x -ℤ y)
-      finish x y p q = omega (arith, ints, p, q)
-
-  -- ---- class histories that the reply goes to
-
-  layout_parts : (history : List ClassMove) (layout : Counts × ℕ)
-      → Contains (reached_layouts question support history) layout
-      → Contains (layouts_of question) layout × (is_reached question support layout.0 history ≡ true)
-  unfolding reached_layouts
-  layout_parts history layout found =
-      kept_parts (λ (other : Counts × ℕ). is_reached question support other.0 history) (layouts_of question) layout found
-
   -- a class history to which the reply and the moves taken go, and in other class layouts than those in which it is
   -- reached nothing comes to it
   abbrev IsTraced : List ClassMove → Type 0
@@ -402,100 +140,8 @@ module _ (question : Question) (support : Support) (valid : IsValid question) (p
   abbrev held_in_all : ℕ → List ClassMove → ℤ
   held_in_all more history = sum_of (map (held more history) (reached_layouts question support history))
 
-  held_all_low : (more : ℕ) (history : List ClassMove) → pos 0 ≤ℤ held_in_all more history
-  held_all_low more history =
-      sum_positive (held more history) (reached_layouts question support history)
-      (λ layout found. held_low more history layout (layout_parts history layout found).1)
-
   abbrev IsUnder : ℕ → List ClassMove → Type 0
   IsUnder more history = worth reply history ≤ℤ held_in_all more history
-
-  -- where nothing comes to it
-  dead_under : (more : ℕ) (history : List ClassMove) → some_allows question history ≡ true
-      → ((layout : Counts × ℕ) → Contains (allowing_layouts question history) layout → mass layout.0 history ≡ pos 0)
-      → IsUnder more history
-  dead_under more history some none =
-      subst (λ (z : ℤ). z ≤ℤ held_in_all more history) (sym (no_masses_no_worth question read history valid proper some none))
-      (held_all_low more history)
-
-  -- ---- where play is over
-
-  over_none : (layout : Counts × ℕ) (history : List ClassMove) → class_decided (class_after question history) ≡ true
-      → supported_moves question support layout.0 history ≡ []
-  unfolding supported_moves
-  over_none layout history decided =
-      ap (λ (b : Bool). first_and (names question support layout.0 history)
-      (if b then [] else class_moves (class_after question history) layout.0)) decided
-
-  over_held : (more : ℕ) (history : List ClassMove) (layout : Counts × ℕ) → Contains (layouts_of question) layout
-      → is_reached question support layout.0 history ≡ true → is_chosen history ≡ true
-      → class_decided (class_after question history) ≡ true
-      → is_defences (class_turn (class_after question history)) ≡ false
-      → (pos (class_payoff (class_after question history)) *ℤ mass layout.0 history) ≤ℤ held more history layout
-  over_held more history layout listed reached goes decided not_theirs =
-      let payoff : ℤ = pos (class_payoff (class_after question history)) in
-      let waits = none_theirs question layout.0 history not_theirs in
-      let worth_is : worth_z (suc more) layout.0 history ≡ payoff *ℤ pos 1 =
-      going question support point layout.0 more history [] waits (over_none layout history decided)
-      ∙ ap (λ (z : ℤ). payoff *ℤ z) (taken_masses question support valid taken takes layout listed history reached
-      ∙ ap (λ (b : Bool). if b then pos 1 else pos 0) goes) in
-      let le = (bounded layout.0 history reached).2 in
-      let same = (defence_masses question support valid prices scale dual layout listed history reached).0 in
-      finish payoff (mass layout.0 history) (read_in layout.0 history) (bound layout.0 history)
-      (worth_z (suc more) layout.0 history) (play more layout history) (omega (arith, ints)) same le worth_is
-      (play_low more layout history)
-    where
-      finish : (payoff m r b w p : ℤ) → pos 0 ≤ℤ payoff → m ≡ r → r ≤ℤ b → w ≡ payoff *ℤ pos 1 → p ≤ℤ pos 0
-          → (payoff *ℤ m) ≤ℤ (b *ℤ w -ℤ p)
-      finish payoff m r b w p low same le is none =
-          let product : b *ℤ w ≡ b *ℤ payoff = ap (λ (z : ℤ). b *ℤ z) (is ∙ single payoff) in
-          let more : (r *ℤ payoff) ≤ℤ (b *ℤ payoff) = le-mul_right r b payoff le low in
-          let turned : payoff *ℤ m ≡ r *ℤ payoff = *ℤ_comm payoff m ∙ ap (λ (z : ℤ). z *ℤ payoff) same in
-          omega (arith, ints, product, more, turned, none)
-        where
-          single : (z : ℤ) → z *ℤ pos 1 ≡ z
-          single z = omega (arith, ints)
-
-  over_under : (more : ℕ) (history : List ClassMove) → is_chosen history ≡ true → IsTraced history
-      → class_decided (class_after question history) ≡ true
-      → is_defences (class_turn (class_after question history)) ≡ false → IsUnder more history
-  unfolding reached_layouts
-  over_under more history goes traced decided not_theirs =
-      let payoff : ℤ = pos (class_payoff (class_after question history)) in
-      let paid : Counts × ℕ → ℤ = λ layout. payoff *ℤ mass layout.0 history in
-      let allowed : Counts × ℕ → Bool = λ layout. allows question layout.0 history in
-      let reached : Counts × ℕ → Bool = λ layout. is_reached question support layout.0 history in
-      let worth_is : worth reply history ≡ sum_of (map (λ layout. if allowed layout then paid layout else pos 0)
-      (layouts_of question)) =
-      defences_at_decided question read history decided
-      ∙ sum_times payoff (λ layout. mass layout.0 history) (allowing_layouts question history)
-      ∙ sum_kept allowed paid (layouts_of question) in
-      subst (λ (z : ℤ). z ≤ℤ held_in_all more history) (sym worth_is)
-      (subst (λ (z : ℤ). sum_of (map (λ layout. if allowed layout then paid layout else pos 0) (layouts_of question))
-      ≤ℤ z) (sym (sum_kept reached (held more history) (layouts_of question)))
-      (sum_le (λ layout. if allowed layout then paid layout else pos 0)
-      (λ layout. if reached layout then held more history layout else pos 0) (layouts_of question)
-      (λ layout listed. one layout listed (allowed layout) refl (reached layout) refl)))
-    where
-      none_left : (payoff m : ℤ) → m ≡ pos 0 → (payoff *ℤ m) ≤ℤ pos 0
-      none_left payoff m is =
-          let product : payoff *ℤ m ≡ payoff *ℤ pos 0 = ap (λ (z : ℤ). payoff *ℤ z) is in
-          omega (arith, ints, product)
-
-      one : (layout : Counts × ℕ) → Contains (layouts_of question) layout → (a : Bool)
-          → allows question layout.0 history ≡ a → (r : Bool) → is_reached question support layout.0 history ≡ r
-          → (if a then pos (class_payoff (class_after question history)) *ℤ mass layout.0 history else pos 0)
-          ≤ℤ (if r then held more history layout else pos 0)
-      one layout listed true allowed true reached = over_held more history layout listed reached goes decided not_theirs
-      one layout listed true allowed false out =
-          none_left (pos (class_payoff (class_after question history))) (mass layout.0 history)
-          (elim (traced layout (Contains-filter (λ (other : Counts × ℕ). allows question other.0 history)
-          (layouts_of question) layout listed allowed)) [
-            | inl reached ↦ absurd (false≢true (sym out ∙ reached))
-            | inr none ↦ none
-          ])
-      one layout listed false out true reached = held_low more history layout reached
-      one layout listed false out false other = omega (arith, ints)
 
   -- ---- fuel
 
@@ -523,12 +169,18 @@ module _ (question : Question) (support : Support) (valid : IsValid question) (p
       let sum : worth_z (suc (suc more)) west history ≡ sum_of (map worths moves) =
       going question support point west (suc more) history moves waits refl
       ∙ some_summed question support point history worths moves (HasFirst-found moves move found) in
-      let most = within_sum worths moves move (λ other there. worth_low (suc more) west (history ++ other ∷ [])) found in
-      let least = sum_under_one plays moves move found (λ other there. play_low more layout (history ++ other ∷ [])) in
+      let most = within_sum worths moves move
+      (λ other there. worth_low question support valid prices scale dual proper all (suc more) west (history
+      ++ other ∷ []))
+      found in
+      let least = sum_under_one plays moves move found
+      (λ other there. play_low question support valid prices scale dual proper all more layout (history ++ other
+      ∷ [])) in
       finish (bound west history) (bound west (history ++ move ∷ [])) (worths move) (sum_of (map worths moves))
       (worth_z (suc (suc more)) west history) (plays move) (sum_of (map plays moves)) (part history layout)
-      (bounded west history reached).1 (bound_stays west history move waits) most sum least
-      (part_none history layout waits)
+      (bounded question support valid prices scale dual proper all west history reached).1
+      (bound_stays question support valid prices scale dual proper all west history move waits) most sum least
+      (part_none question support valid prices scale dual proper all history layout waits)
     where
       finish : (b c w s v p q r : ℤ) → pos 0 ≤ℤ b → c ≡ b → w ≤ℤ s → v ≡ s → q ≤ℤ p → r ≡ pos 0
           → (c *ℤ w -ℤ p) ≤ℤ (b *ℤ v -ℤ (r +ℤ q))
@@ -599,7 +251,8 @@ module _ (question : Question) (support : Support) (valid : IsValid question) (p
       let legal : List ClassMove = legal_moves question [] history in
       let few : nat_lt 1 (length legal) ≡ false = sym (ap (λ (b : Bool). b && nat_lt 1 (length legal)) own) ∙ waits in
       subst (λ (l : List ClassMove). Contains l move)
-      (sym (few_all (names question support [] history) legal few ∙ legal_going question support [] history [] not_over))
+      (sym (few_all (names question support [] history) legal few
+      ∙ legal_going question support [] history [] not_over))
       found
 
   -- so the move of the reply is, where it is alive, and it is the one that is taken
@@ -609,12 +262,14 @@ module _ (question : Question) (support : Support) (valid : IsValid question) (p
       → follows reply [] history ≡ true → reply.live history ≡ true
       → Contains (public_moves question history) (reply_move reply history)
       → Contains (supported_moves question support [] history) (reply_move reply history)
-      × ((if declarer_chooses question history then same_class_move (taken history) (reply_move reply history) else true)
+      × ((if declarer_chooses question history then same_class_move (taken history) (reply_move reply history)
+      else true)
       ≡ true)
   own_move layout listed history reached not_over own some goes live found =
       elim (cases_Bool (declarer_chooses question history)) [
         | inl chooses ↦
-            let among = own_named layout listed history reached chooses goes live in (
+            let among = own_named question support valid prices scale dual proper all layout listed history reached
+            chooses goes live in (
               among-Contains (supported_moves question support [] history) (reply_move reply history) among,
               ap (λ (b : Bool). if b then same_class_move (taken history) (reply_move reply history) else true) chooses
                   ∙ ap (λ (b : Bool). same_class_move (if b then reply_move reply history
@@ -667,7 +322,8 @@ module _ (question : Question) (support : Support) (valid : IsValid question) (p
       let on : IsGoing (history ++ move ∷ []) = (
         public_allowed question valid history move found,
         follows_next reply history move fits.1 (λ theirs. same_move-itself move),
-        chosen-push question support valid taken takes history move
+        chosen-push question support valid taken (takes question support valid prices scale dual proper all) history
+            move
             ∙ both_true (is_chosen history)
             (if declarer_chooses question history then same_class_move (taken history) move else true) fits.2 moved.1,
         λ other there.
@@ -683,7 +339,8 @@ module _ (question : Question) (support : Support) (valid : IsValid question) (p
       (subst (λ (l : List (Counts × ℕ)). sum_of (map (held more (history ++ move ∷ [])) l)
       ≤ℤ held_in_all (suc more) history) (sym (layouts_kept history move not_over own moved.0))
       (sum_le (held more (history ++ move ∷ [])) (held (suc more) history) (reached_layouts question support history)
-      (λ other there. held_falls more history move other (layout_parts history other there).1
+      (λ other there. held_falls more history move other
+      (layout_parts question support valid prices scale dual proper all history other there).1
       (none_theirs question other.0 history not_theirs) (each other)))))
 
   -- ---- a turn of the defence
@@ -695,14 +352,15 @@ module _ (question : Question) (support : Support) (valid : IsValid question) (p
       → filter (is_among (supported_moves question support layout.0 history)) (public_moves question history)
       ≡ supported_moves question support layout.0 history
   public_kept history layout found not_over =
-      let parts = layout_parts history layout found in
+      let parts = layout_parts question support valid prices scale dual proper all history layout found in
       let moves : List ClassMove = supported_moves question support layout.0 history in
       let some : ClassMove → Bool = λ move. some_allows question (history ++ move ∷ []) in
       ap (filter (is_among moves)) (public_going question valid history not_over)
       ∙ filter_both (is_among moves) some every_move
       ∙ filter_agree (λ move. some move && is_among moves move) (is_among moves)
       (λ move. both_second (some move) (is_among moves move)
-      (λ among. public_allowed question valid history move (public_held layout parts.0 history move parts.1
+      (λ among. public_allowed question valid history move
+      (public_held question support valid prices scale dual proper all layout parts.0 history move parts.1
       (among-Contains moves move among)))) every_move
       ∙ sym (supported_all question support layout.0 history)
 
@@ -747,14 +405,16 @@ module _ (question : Question) (support : Support) (valid : IsValid question) (p
       ≡ sum_of (map (λ move. worths move -ℤ plays move) moves) =
       ap sum_of (map_same (λ move. held more (history ++ move ∷ []) layout) (λ move. worths move -ℤ plays move) moves
       (λ move found. ap (λ (z : ℤ). z *ℤ worth_z (suc more) west (history ++ move ∷ []) -ℤ plays move)
-      (bound_price west history move chooses found))) in
+      (bound_price question support valid prices scale dual proper all west history move chooses found))) in
       let parted = sum_less worths plays moves in
       let none : worth_z (suc (suc more)) west history ≡ pos 0 =
-      choosing question support point west (suc more) history chooses ∙ point_held west history in
+      choosing question support point west (suc more) history chooses
+      ∙ point_held question support valid prices scale dual proper all west history in
       finish (sum_of (map (λ move. held more (history ++ move ∷ []) layout) moves))
       (sum_of (map (λ move. worths move -ℤ plays move) moves)) (sum_of (map worths moves)) (sum_of (map plays moves))
       (bound west history) (worth_z (suc (suc more)) west history) (part history layout) each parted none
-      (part_choice (suc more) history layout chooses (λ move. room_left history move more left))
+      (part_choice question support valid prices scale dual proper all (suc more) history layout chooses
+      (λ move. room_left history move more left))
     where
       finish : (x y w p b v r : ℤ) → x ≡ y → y ≡ w -ℤ p → v ≡ pos 0 → r ≡ pos 0 -ℤ w → x ≡ b *ℤ v -ℤ (r +ℤ p)
       finish x y w p b v r each parted none turned =
@@ -770,7 +430,8 @@ module _ (question : Question) (support : Support) (valid : IsValid question) (p
   unfolding sum_of
   turn_held more history layout left reached not_own_turn (Ended over none waits) =
       subst (λ (l : List ClassMove). sum_of (map (λ move. held more (history ++ move ∷ []) layout) l)
-      ≤ℤ held (suc more) history layout) (sym none) (held_low (suc more) history layout reached)
+      ≤ℤ held (suc more) history layout) (sym none)
+      (held_low question support valid prices scale dual proper all (suc more) history layout reached)
   turn_held more history layout left reached not_own_turn (Forced move alone one nobody same) =
       subst (λ (l : List ClassMove). sum_of (map (λ other. held more (history ++ other ∷ []) layout) l)
       ≤ℤ held (suc more) history layout) (sym one)
@@ -820,7 +481,8 @@ module _ (question : Question) (support : Support) (valid : IsValid question) (p
       (λ move found. next move (
         public_allowed question valid history move found,
         follows_next reply history move fits.1 (λ own. absurd (false≢true (sym not_own_turn ∙ own))),
-        chosen-push question support valid taken takes history move
+        chosen-push question support valid taken (takes question support valid prices scale dual proper all) history
+            move
             ∙ both_true (is_chosen history)
             (if declarer_chooses question history then same_class_move (taken history) move else true) fits.2
             (ap (λ (b : Bool). if b then same_class_move (taken history) move else true) waits),
@@ -830,7 +492,8 @@ module _ (question : Question) (support : Support) (valid : IsValid question) (p
       (sum_le (λ (layout : Counts × ℕ). sum_of (map (λ move. held more (history ++ move ∷ []) layout)
       (supported_moves question support layout.0 history))) (held (suc more) history)
       (reached_layouts question support history)
-      (λ layout there. turn_held more history layout left (layout_parts history layout there).1 not_own_turn
+      (λ layout there. turn_held more history layout left
+      (layout_parts question support valid prices scale dual proper all history layout there).1 not_own_turn
       (turn_at question support layout.0 history)))))
 
   -- ---- all turns
@@ -855,7 +518,8 @@ module _ (question : Question) (support : Support) (valid : IsValid question) (p
       → NextUnder more history → reply.live history ≡ true → WhoseTurn (class_after question history)
       → IsUnder (suc more) history
   turn_under more history fits left next live (Over decided turn) =
-      over_under (suc more) history fits.2 fits.3 decided (ap is_defences turn)
+      over_under question support valid prices scale dual proper all (suc more) history fits.2 fits.3 decided
+      (ap is_defences turn)
   turn_under more history fits left next live (Defences not_over not_own_turn theirs) =
       theirs_under more history fits left not_over not_own_turn theirs next
   turn_under more history fits left next live (Declarers not_over own not_theirs) =
@@ -872,7 +536,9 @@ module _ (question : Question) (support : Support) (valid : IsValid question) (p
   -- play with no move left is over
   last_under : (history : List ClassMove) → IsGoing history → 0 ≡ 52 - length history
       → WhoseTurn (class_after question history) → IsUnder 0 history
-  last_under history fits left (Over decided turn) = over_under 0 history fits.2 fits.3 decided (ap is_defences turn)
+  last_under history fits left (Over decided turn) =
+      over_under question support valid prices scale dual proper all 0 history fits.2 fits.3 decided
+      (ap is_defences turn)
   last_under history fits left (Defences not_over not_own_turn theirs) =
       let short = room question read valid history fits.0 not_over in absurd (omega (arith, left, short))
   last_under history fits left (Declarers not_over own not_theirs) =
@@ -882,7 +548,8 @@ module _ (question : Question) (support : Support) (valid : IsValid question) (p
       → IsUnder more history
   all_under zero history fits left = last_under history fits left (whose_turn (class_after question history))
   all_under (suc more) history fits left = elim (cases_Bool (reply.live history)) [
-    | inr dead ↦ dead_under (suc more) history fits.0 (dead_masses history dead)
+    | inr dead ↦ dead_under question support valid prices scale dual proper all (suc more) history fits.0
+        (dead_masses history dead)
     | inl live ↦ turn_under more history fits left
         (λ move on. all_under more (history ++ move ∷ []) on (more_left history move more left)) live
         (whose_turn (class_after question history))
@@ -900,7 +567,7 @@ module _ (question : Question) (support : Support) (valid : IsValid question) (p
       let under = all_under 52 [] (
         some_allow_none question valid,
         refl,
-        chosen_none question support valid taken takes,
+        chosen_none question support valid taken (takes question support valid prices scale dual proper all),
         λ layout there. inl (reached_none question support layout.0),
       ) refl in
       let start : held_in_all 52 [] ≡ sum_of (map (λ layout. scale *ℤ worths layout -ℤ plays layout) layouts) =
@@ -909,15 +576,19 @@ module _ (question : Question) (support : Support) (valid : IsValid question) (p
       (λ layout. reached_none question support layout.0))
       ∙ ap sum_of (map_same (held 52 []) (λ layout. scale *ℤ worths layout -ℤ plays layout) layouts
       (λ layout found. ap (λ (z : ℤ). z -ℤ plays layout)
-      (weighed (weight_of question layout.0) layout.1 (worth_z 53 layout.0 []) (weight_listed question layout found)))) in
+      (weighed (weight_of question layout.0) layout.1 (worth_z 53 layout.0 [])
+      (weight_listed question layout found)))) in
       let parted = sum_less (λ layout. scale *ℤ worths layout) plays layouts in
       let times = sum_times scale worths layouts in
       let exceeded = exceeds_by_play question support prices scale dual point
-      (λ history found. taken_tight question support valid taken takes history found) in
+      (λ history found. taken_tight question support valid taken
+      (takes question support valid prices scale dual proper all) history found) in
       let most_value = points_bounded question support prices scale dual value
-      (taken_columns question support valid taken takes) is
-      (λ column found. taken_listed question support valid taken takes column found) in
-      finish (worth reply []) (held_in_all 52 []) (sum_of (map (λ layout. scale *ℤ worths layout -ℤ plays layout) layouts))
+      (taken_columns question support valid taken (takes question support valid prices scale dual proper all)) is
+      (λ column found. taken_listed question support valid taken
+      (takes question support valid prices scale dual proper all) column found) in
+      finish (worth reply []) (held_in_all 52 [])
+      (sum_of (map (λ layout. scale *ℤ worths layout -ℤ plays layout) layouts))
       (sum_of (map (λ layout. scale *ℤ worths layout) layouts)) (sum_of (map plays layouts))
       (scale *ℤ sum_of (map worths layouts)) (exceeds question support prices scale dual point)
       (supported_worth question support value scale) under start parted times exceeded most_value

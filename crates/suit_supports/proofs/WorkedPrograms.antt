@@ -14,12 +14,18 @@ use Rattle.suit_classes.specs.AllowedHistories.{every_move, is_among}
 use Rattle.suit_plans.specs.Masses.{count_of, mass_from, mass_of}
 use Rattle.suit_plans.specs.Orders.{same_class_history}
 use Rattle.suit_plans.specs.Properness.{sum_of}
-use Rattle.suit_supports.specs.Supports.{supported_moves, declarer_chooses, defence_chooses, goes_supported, is_reached, reached_layouts, next_moves, histories_from, reached_histories, has_declarers, has_defences, with_moves, are_new}
+use Rattle.suit_supports.specs.Supports.{supported_moves, declarer_chooses, defence_chooses, goes_supported, is_reached}
+use Rattle.suit_supports.specs.Supports.{reached_layouts, next_moves, histories_from, reached_histories, has_declarers}
+use Rattle.suit_supports.specs.Supports.{has_defences, with_moves, are_new}
 use Rattle.suit_supports.specs.Points.{given_to, same_column}
 use Rattle.suit_supports.specs.Worths.{worth_within, objective_at}
-use Rattle.suit_supports.specs.Programs.{held_column, answered_limits, columns_at, limits_at, columns, limits, excess, program_of, size_of, supported_worth}
-use Rattle.suit_supports.specs.Readings.{read_from, read_mass, has_row, row_counts, common_den, plan_den, plan_point, plan_at, filled, is_answer, price_of, defence_of}
-use Rattle.suit_supports.specs.Examples.{both_twos, second_support, second_point, second_prices, FirstColumns, FirstProgram, FirstSize, TwosAreNew, SecondProgram, SecondSize, SecondPlan, SecondDefence, SecondWorth}
+use Rattle.suit_supports.specs.Programs.{held_column, answered_limits, columns_at, limits_at, columns, limits, excess}
+use Rattle.suit_supports.specs.Programs.{program_of, size_of, supported_worth}
+use Rattle.suit_supports.specs.Readings.{read_from, read_mass, has_row, row_counts, common_den, plan_den, plan_point}
+use Rattle.suit_supports.specs.Readings.{plan_at, filled, is_answer, price_of, defence_of}
+use Rattle.suit_supports.specs.Examples.{both_twos, second_support, second_point, second_prices, FirstColumns}
+use Rattle.suit_supports.specs.Examples.{FirstProgram, FirstSize, TwosAreNew, SecondProgram, SecondSize, SecondPlan}
+use Rattle.suit_supports.specs.Examples.{SecondDefence, SecondWorth}
 
 pub first_columns : FirstColumns
 unfolding suit next_row binomial_row binomial choices_of layouts plain from_south ten_cards blocks_of class_layouts

@@ -1,6 +1,7 @@
 -- At a point that keeps within the rows a class history is worth between nothing and thirteen tricks of its mass
 -- (`within_paid`).
-use Rattle.std.proofs.Common.{◌≡◌, ℕ, zero, suc, ◌-◌, ◌≤◌, Bool, true, false, List, [], ◌∷◌, ◌++◌, length, Some, None, map}
+use Rattle.std.proofs.Common.{◌≡◌, ℕ, zero, suc, ◌-◌, ◌≤◌, Bool, true, false, List, [], ◌∷◌, ◌++◌, length, Some, None}
+use Rattle.std.proofs.Common.{map}
 use Rattle.std.proofs.Common.{refl, sym, ap, ◌∙◌, subst, arith}
 use Rattle.std.specs.Prelude.{Contains, if◌then◌else◌, ℤ, pos, ◌*ℤ◌, ◌≤ℤ◌}
 use Rattle.std.proofs.lemmas.Int.{ints}
@@ -177,7 +178,8 @@ module _ (question : Question) (support : Support) (point : Point) (west : Count
       (supported_moves question support [] history)))
   own_paid more history fits chooses same paid =
       let moves : List ClassMove = supported_moves question support [] history in
-      let passes : sum_of (map (λ move. mass (history ++ move ∷ [])) moves) ≡ sum_passed question support point history =
+      let passes : sum_of (map (λ move. mass (history ++ move ∷ [])) moves)
+      ≡ sum_passed question support point history =
       ap sum_of (map_same (λ move. mass (history ++ move ∷ [])) (λ move. point.at (Passed history move)) moves
       (λ move found. mass_passed question support point history move chooses found)) in
       paid_more (sum_of (map (λ move. mass (history ++ move ∷ [])) moves)) (mass history)
@@ -197,11 +199,13 @@ module _ (question : Question) (support : Support) (point : Point) (west : Count
       let one : IsPaid (mass history) (next more history move) =
       subst (λ (z : ℤ). IsPaid z (next more history move)) (same point)
       (paid move (subst (λ (l : List ClassMove). Contains l move) (sym only) (Contains-first move []))) in
-      subst (IsPaid (mass history)) (sym (going question support point west more history (move ∷ []) nobody.1 only ∙ only_one (next more history
+      subst (IsPaid (mass history)) (sym (going question support point west more history (move ∷ []) nobody.1 only
+      ∙ only_one (next more history
       move))) one
   turn_paid more history fits left paid (Own chooses not_theirs same some) =
       let moves : List ClassMove = supported_moves question support [] history in
-      subst (IsPaid (mass history)) (sym (going question support point west more history moves not_theirs same ∙ some_summed question support point history
+      subst (IsPaid (mass history)) (sym (going question support point west more history moves not_theirs same
+      ∙ some_summed question support point history
       (next more history) moves some))
       (own_paid more history fits chooses same paid)
   turn_paid more history fits left paid (Theirs chooses some same) =
