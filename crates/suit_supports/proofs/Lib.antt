@@ -2,6 +2,7 @@ pub mod Beginnings
 pub mod BoundedPrograms
 pub mod ChoicePlaces
 pub mod DefenceLaws
+pub mod DistinctColumns
 pub mod DistinctLimits
 pub mod Dualities
 pub mod FormedPrograms

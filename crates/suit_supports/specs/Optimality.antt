@@ -1,11 +1,11 @@
 -- What holds of the program of every support.
-use Rattle.std.specs.Prelude.{◌≡◌, ℕ, ℤ, ◌+ℤ◌, ◌-ℤ◌, ◌*ℤ◌}
+use Rattle.std.specs.Prelude.{◌≡◌, ◌≢◌, ◌<◌, AllPairs, get_or, length, ℕ, ℤ, ◌+ℤ◌, ◌-ℤ◌, ◌*ℤ◌}
 use Rattle.suit_game.specs.declared.question.Question.{Question}
 use Rattle.suit_game.specs.Validity.{IsValid}
 use Rattle.suit_tableaus.specs.Points.{dot}
 use Rattle.suit_tableaus.specs.Programs.{IsBounded, IsWellFormed}
-use Rattle.suit_supports.specs.Points.{no_point, point_of}
-use Rattle.suit_supports.specs.Programs.{Limit, columns, excess, program_of, row_of}
+use Rattle.suit_supports.specs.Points.{Column, given_to, no_point, point_of}
+use Rattle.suit_supports.specs.Programs.{Limit, columns, excess, limits, program_of, row_of}
 use Rattle.suit_supports.specs.Supports.{Support}
 use Rattle.suit_supports.specs.Worths.{objective_at}
 
@@ -32,3 +32,17 @@ ProgramsAreWellFormed = (question : Question) (support : Support) → IsValid qu
 abbrev pub ProgramsAreBounded : Type 0
 ProgramsAreBounded = (question : Question) (support : Support) → IsValid question
     → IsBounded (program_of question support)
+
+-- no column comes twice, and no row, so that each number of theirs is one name
+abbrev pub ColumnsComeOnce : Type 0
+ColumnsComeOnce = (question : Question) (support : Support) → AllPairs (λ one other. one ≢ other)
+    (columns question support)
+
+abbrev pub RowsComeOnce : Type 0
+RowsComeOnce = (question : Question) (support : Support) → AllPairs (λ one other. one ≢ other) (limits question support)
+
+-- so a point gives a column the number that stands in its place
+abbrev pub ColumnsAreGiven : Type 0
+ColumnsAreGiven = (question : Question) (support : Support) (given : ℕ → ℤ) (index : ℕ) (column : Column)
+    → index < length (columns question support)
+    → given_to (columns question support) given (get_or (columns question support) index column) ≡ given index

@@ -1,6 +1,7 @@
 //! Laws of plans, defences and programs: each is the contract of an empty function.
 ghost use Rattle.suit_supports.specs.Duality.{MeetingsLieBetween, WeakDuality};
-ghost use Rattle.suit_supports.specs.Optimality.{CostsTell, ProgramsAreBounded, ProgramsAreWellFormed, RowsTell};
+ghost use Rattle.suit_supports.specs.Optimality.{ColumnsAreGiven, ColumnsComeOnce, CostsTell, ProgramsAreBounded};
+ghost use Rattle.suit_supports.specs.Optimality.{ProgramsAreWellFormed, RowsComeOnce, RowsTell};
 ghost use Rattle.suit_supports.specs.ReadingLaws.{MassesAreRead, ReadDefencesAreProper, ReadDefencesHoldTheWorth};
 ghost use Rattle.suit_supports.specs.ReadingLaws.{ReadPlansAreProper, ReadPlansKeepTheWorth, SupportedRepliesMeet};
 ghost use Rattle.suit_supports.specs.ReadingLaws.{SupportsGrow, WholeSupportsMeet};
@@ -33,6 +34,21 @@ pub fn programs_are_well_formed()
 /// And bounded.
 pub fn programs_are_bounded()
     ensures { ProgramsAreBounded }
+{}
+
+/// No column of a program comes twice.
+pub fn columns_come_once()
+    ensures { ColumnsComeOnce }
+{}
+
+/// Nor does a row.
+pub fn rows_come_once()
+    ensures { RowsComeOnce }
+{}
+
+/// A point gives each column the number that stands in its place.
+pub fn columns_are_given()
+    ensures { ColumnsAreGiven }
 {}
 
 /// The plan that is read from a point lets through at least what the point does.
