@@ -19,12 +19,13 @@ use Rattle.suit_classes.proofs.SameMoves.{same_move-itself, same_move_is}
 use Rattle.suit_plans.specs.Orders.{counts_before, history_before, same_class_history}
 use Rattle.suit_plans.proofs.HistoryOrder.{same_class_history-itself, same_class_history_is}
 use Rattle.suit_plans.proofs.KeyOrder.{history-never}
-use Rattle.suit_supports.specs.Optimality.{ColumnsAreGiven, ColumnsComeOnce, RowsComeOnce}
+use Rattle.suit_supports.specs.Optimality.{ColumnsAreGiven, ColumnsComeOnce, PricesAreNamed, RowsComeOnce}
 use Rattle.suit_supports.specs.Points.{Column, Held, Passed, given_to, same_column}
 use Rattle.suit_supports.specs.Programs.{columns, columns_at, held_column, limits}
 use Rattle.suit_supports.specs.Supports.{Support, declarer_chooses, defence_chooses, is_reached, layouts_of}
 use Rattle.suit_supports.specs.Supports.{reached_histories, reached_layouts, supported_moves}
 use Rattle.suit_supports.proofs.DistinctLimits.{IsLayoutBefore, counts-never, layouts_chained, limits_once, once_pieces}
+use Rattle.suit_supports.proofs.PricedRows.{price_at}
 use Rattle.suit_supports.proofs.ReachedOrder.{reached_chained}
 use Rattle.suit_supports.proofs.ReachedPairs.{flat_map_from}
 use Rattle.suit_supports.proofs.SupportedTurns.{supported_once}
@@ -179,3 +180,7 @@ given_at (first ∷ all) given (suc index) column once below =
 pub columns_are_given : ColumnsAreGiven
 columns_are_given question support given index column below =
     given_at (columns question support) given index column (columns_once question support) below
+
+pub prices_are_named : PricesAreNamed
+prices_are_named question support prices index limit west history move long below is =
+    price_at (limits question support) prices index limit west history move (limits_once question support) long below is

@@ -1,10 +1,12 @@
 -- What the rows come to at their prices, told by names (`priced_by_names`).
+use Rattle.std.proofs.Common.{ℕ, zero, suc, ◌<◌, get_or}
 use Rattle.std.proofs.Common.{◌≡◌, Bool, true, List, [], ◌∷◌, length, map, refl, sym, ap, ◌∙◌, subst}
 use Rattle.std.proofs.Common.{arith}
 use Rattle.std.specs.Prelude.{Contains, ◌&&◌, bytes_eq, if◌then◌else◌, ℤ, pos, ◌+ℤ◌, ◌*ℤ◌, ◌≤ℤ◌}
 use Rattle.std.specs.List.{AllByRecursion}
 use Rattle.std.proofs.lemmas.Bool.{and_from, and_parts, false≢true, false_from_ne_true}
 use Rattle.std.proofs.lemmas.Int.{ints}
+use Rattle.std.proofs.lemmas.List.Elements.{Contains-get_or}
 use Rattle.std.proofs.lemmas.Slice.Eq.{bytes_eq-Decides}
 use Rattle.suit_cards.specs.Cards.{Counts}
 use Rattle.suit_num.proofs.IntegerLaws.{mul-add_left, mul_left_comm}
@@ -132,3 +134,21 @@ price_low (limit ∷ limits) [] west history move low = omega (arith, ints)
 price_low (limit ∷ limits) (price ∷ prices) west history move low =
     count_case (is_answer west history move limit) price (price_of limits prices west history move) low.0
     (price_low limits prices west history move low.1)
+
+-- the price by the name of a row is the one in its place
+pub price_at : (limits : List Limit) (prices : List ℤ) (index : ℕ) (limit : Limit) (west : Counts)
+    (history : List ClassMove) (move : ClassMove) → IsOnce limits → length prices ≡ length limits
+    → index < length limits → get_or limits index limit ≡ Answered west history move
+    → price_of limits prices west history move ≡ number_at prices index
+unfolding price_of IsOnce
+price_at [] prices index limit west history move once long below is = absurd (omega (arith, below))
+price_at (first ∷ limits) [] index limit west history move once long below is = absurd (omega (arith, long))
+price_at (first ∷ limits) (price ∷ prices) zero limit west history move once long below is =
+    ap (λ (b : Bool). if b then price else price_of limits prices west history move)
+    (ap (is_answer west history move) is ∙ answer_itself west history move)
+price_at (first ∷ limits) (price ∷ prices) (suc index) limit west history move once long below is =
+    ap (λ (b : Bool). if b then price else price_of limits prices west history move)
+    (false_from_ne_true (is_answer west history move first)
+    (λ same. each_at (λ later. first ≡ later → ⊥) limits (get_or limits index limit) once.0
+    (Contains-get_or limits index limit (omega (arith, below))) (answer_is west history move first same ∙ sym is)))
+    ∙ price_at limits prices index limit west history move once.1 (omega (arith, long)) (omega (arith, below)) is

@@ -1,11 +1,15 @@
 -- What holds of the program of every support.
-use Rattle.std.specs.Prelude.{◌≡◌, ◌≢◌, ◌<◌, AllPairs, get_or, length, ℕ, ℤ, ◌+ℤ◌, ◌-ℤ◌, ◌*ℤ◌}
+use Rattle.std.specs.Prelude.{◌≡◌, ◌≢◌, ◌<◌, AllPairs, get_or, length, ℕ, List, ℤ, ◌+ℤ◌, ◌-ℤ◌, ◌*ℤ◌}
+use Rattle.suit_cards.specs.Cards.{Counts}
 use Rattle.suit_game.specs.declared.question.Question.{Question}
 use Rattle.suit_game.specs.Validity.{IsValid}
-use Rattle.suit_tableaus.specs.Points.{dot}
+use Rattle.suit_classes.specs.declared.class_moves.ClassMove.{ClassMove}
+use Rattle.suit_classes.specs.ClassMoves.{ClassHistory}
+use Rattle.suit_tableaus.specs.Points.{dot, number_at}
 use Rattle.suit_tableaus.specs.Programs.{IsBounded, IsWellFormed}
 use Rattle.suit_supports.specs.Points.{Column, given_to, no_point, point_of}
-use Rattle.suit_supports.specs.Programs.{Limit, columns, excess, limits, program_of, row_of}
+use Rattle.suit_supports.specs.Programs.{Answered, Limit, columns, excess, limits, program_of, row_of}
+use Rattle.suit_supports.specs.Readings.{price_of}
 use Rattle.suit_supports.specs.Supports.{Support}
 use Rattle.suit_supports.specs.Worths.{objective_at}
 
@@ -46,3 +50,11 @@ abbrev pub ColumnsAreGiven : Type 0
 ColumnsAreGiven = (question : Question) (support : Support) (given : ℕ → ℤ) (index : ℕ) (column : Column)
     → index < length (columns question support)
     → given_to (columns question support) given (get_or (columns question support) index column) ≡ given index
+
+-- and the price of a row of the defence is the one that stands in its place
+abbrev pub PricesAreNamed : Type 0
+PricesAreNamed = (question : Question) (support : Support) (prices : List ℤ) (index : ℕ) (limit : Limit) (west : Counts)
+    (history : ClassHistory) (move : ClassMove) → length prices ≡ length (limits question support)
+    → index < length (limits question support)
+    → get_or (limits question support) index limit ≡ Answered west history move
+    → price_of (limits question support) prices west history move ≡ number_at prices index

@@ -1,7 +1,7 @@
 //! Laws of plans, defences and programs: each is the contract of an empty function.
 ghost use Rattle.suit_supports.specs.Duality.{MeetingsLieBetween, WeakDuality};
 ghost use Rattle.suit_supports.specs.Optimality.{ColumnsAreGiven, ColumnsComeOnce, CostsTell, ProgramsAreBounded};
-ghost use Rattle.suit_supports.specs.Optimality.{ProgramsAreWellFormed, RowsComeOnce, RowsTell};
+ghost use Rattle.suit_supports.specs.Optimality.{PricesAreNamed, ProgramsAreWellFormed, RowsComeOnce, RowsTell};
 ghost use Rattle.suit_supports.specs.ReadingLaws.{MassesAreRead, ReadDefencesAreProper, ReadDefencesHoldTheWorth};
 ghost use Rattle.suit_supports.specs.ReadingLaws.{ReadPlansAreProper, ReadPlansKeepTheWorth, SupportedRepliesMeet};
 ghost use Rattle.suit_supports.specs.ReadingLaws.{SupportsGrow, WholeSupportsMeet};
@@ -49,6 +49,11 @@ pub fn rows_come_once()
 /// A point gives each column the number that stands in its place.
 pub fn columns_are_given()
     ensures { ColumnsAreGiven }
+{}
+
+/// And the price of a row of the defence is the one in its place.
+pub fn prices_are_named()
+    ensures { PricesAreNamed }
 {}
 
 /// The plan that is read from a point lets through at least what the point does.
