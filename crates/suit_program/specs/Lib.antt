@@ -1,0 +1,9 @@
+pub mod Duality
+pub mod Examples
+pub mod Optimality
+pub mod Points
+pub mod Programs
+pub mod ReadingLaws
+pub mod Readings
+pub mod Supports
+pub mod Worths
