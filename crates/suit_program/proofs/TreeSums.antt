@@ -7,6 +7,7 @@ use Rattle.std.proofs.lemmas.Bool.{false_from_ne_true}
 use Rattle.std.proofs.lemmas.Int.{ints}
 use Rattle.std.proofs.lemmas.List.Elements.{filter_agree}
 use Rattle.suit_cards.specs.Cards.{Counts}
+use Rattle.suit_cards.proofs.SuitRuns.{filter-filter}
 use Rattle.suit_game.specs.declared.question.Question.{Question}
 use Rattle.suit_game.proofs.EachElement.{Contains-flat_map, each_gives, map_same}
 use Rattle.suit_classes.specs.declared.class_moves.ClassMove.{ClassMove}
@@ -19,7 +20,6 @@ use Rattle.suit_classes.proofs.EveryMove.{class_moves_listed, filter_alike, filt
 use Rattle.suit_classes.proofs.SameMoves.{among-Contains, among_contained, same_move-itself, same_move_is}
 use Rattle.suit_plans.specs.Properness.{sum_of}
 use Rattle.suit_plans.proofs.NumberSums.{sum_both, sum_kept, sums_exchanged}
-use Rattle.suit_plans.proofs.PublicMoves.{filter_both}
 use Rattle.suit_program.specs.Supports.{Support, first_and, histories_from, is_reached, layouts_of, legal_moves, names}
 use Rattle.suit_program.specs.Supports.{next_moves, reached_histories, reached_layouts, supported_moves}
 use Rattle.suit_program.proofs.ReachedPairs.{reached-push}
@@ -108,7 +108,7 @@ module _ (question : Question) (support : Support) where
       let legal = legal_filter west history (class_decided (class_after question history)) refl in
       let one = one_filter named (legal_moves question west history) (legal_once west history) in
       among_filter (first_and named (legal_moves question west history)) (λ move. legal.0 move && one.0 move)
-      (one.1 ∙ ap (filter one.0) legal.1 ∙ filter_both one.0 legal.0 every_move)
+      (one.1 ∙ ap (filter one.0) legal.1 ∙ filter-filter legal.0 one.0 every_move)
 
   -- of the moves with which a class history goes on those of a class layout in which it is reached are its moves
   next_held : (history : List ClassMove) (layout : Counts × ℕ)
@@ -119,7 +119,7 @@ module _ (question : Question) (support : Support) where
   next_held history layout held =
       let moves : Counts × ℕ → List ClassMove = λ other. supported_moves question support other.0 history in
       let all : List ClassMove = flat_map moves (reached_layouts question support history) in
-      filter_both (is_among (moves layout)) (is_among all) every_move
+      filter-filter (is_among all) (is_among (moves layout)) every_move
       ∙ filter_agree (λ move. is_among all move && is_among (moves layout) move) (is_among (moves layout))
       (λ move. both_second (is_among all move) (is_among (moves layout) move)
       (λ among. among_contained all move (Contains-flat_map moves (reached_layouts question support history) layout move
@@ -134,7 +134,7 @@ module _ (question : Question) (support : Support) where
   layouts_next history move =
       let goes : Counts × ℕ → Bool = λ layout. is_among (supported_moves question support layout.0 history) move in
       let before : Counts × ℕ → Bool = λ layout. is_reached question support layout.0 history in
-      filter_both goes before (layouts_of question)
+      filter-filter before goes (layouts_of question)
       ∙ filter_agree (λ layout. before layout && goes layout)
       (λ layout. is_reached question support layout.0 (history ++ move ∷ []))
       (λ layout. sym (reached-push question support layout.0 history move)) (layouts_of question)

@@ -14,6 +14,7 @@ use Rattle.std.proofs.lemmas.List.Elements.{filter_agree}
 use Rattle.std.proofs.Math.IntN.{*ℤ_comm}
 use Rattle.suit_cards.specs.Cards.{Counts}
 use Rattle.suit_num.proofs.IntegerLaws.{int_lt-false, int_lt-true, le-mul_right, mul_assoc}
+use Rattle.suit_cards.proofs.SuitRuns.{filter-filter}
 use Rattle.suit_game.specs.declared.question.Question.{Question}
 use Rattle.suit_game.specs.Validity.{IsValid}
 use Rattle.suit_game.proofs.EachElement.{Contains-first}
@@ -38,7 +39,7 @@ use Rattle.suit_plans.proofs.MassSteps.{mass_kept}
 use Rattle.suit_plans.proofs.NumberSums.{sum_kept, sum_times, sums_exchanged}
 use Rattle.suit_plans.proofs.ProperDefences.{defences_are_realised}
 use Rattle.suit_plans.proofs.PublicMoves.{Contains-allowing, allowing_before, allowing_parts}
-use Rattle.suit_plans.proofs.PublicMoves.{HasFirst-found, filter_both}
+use Rattle.suit_plans.proofs.PublicMoves.{HasFirst-found}
 use Rattle.suit_plans.proofs.PublicMoves.{layout_weighs, own_moves_on, passing_some, public_allowed, public_going}
 use Rattle.suit_plans.proofs.PublicMoves.{some_passing, some_public}
 use Rattle.suit_plans.proofs.ReplyChoices.{reply_move_found}
@@ -356,7 +357,7 @@ module _ (question : Question) (support : Support) (valid : IsValid question) (p
       let moves : List ClassMove = supported_moves question support layout.0 history in
       let some : ClassMove → Bool = λ move. some_allows question (history ++ move ∷ []) in
       ap (filter (is_among moves)) (public_going question valid history not_over)
-      ∙ filter_both (is_among moves) some every_move
+      ∙ filter-filter some (is_among moves) every_move
       ∙ filter_agree (λ move. some move && is_among moves move) (is_among moves)
       (λ move. both_second (some move) (is_among moves move)
       (λ among. public_allowed question valid history move
