@@ -8,7 +8,8 @@ use Rattle.suit_plans.specs.BestReplies.{least, most}
 use Rattle.suit_plans.specs.Properness.{IsProperDefence, IsProperPlan, defence_verdict, plan_verdict}
 use Rattle.suit_plans.specs.declared.faults.PlanFault.{PlanFault}
 use Rattle.suit_answer.specs.declared.answer.Answer.{Answer}
-use Rattle.suit_check.specs.Verdicts.{Defence, Finding, Least, Most, Parts, Plan, Valid, parts_of, same_parts, unless_fault}
+use Rattle.suit_check.specs.Verdicts.{Defence, Finding, Least, Most, Parts, Plan, Valid, parts_of, same_parts}
+use Rattle.suit_check.specs.Verdicts.{unless_fault}
 use Rattle.suit_check.specs.Verdicts.{unless_other, value_of, verdict_of}
 
 -- what a test says that its opposite passes, or does not

@@ -127,7 +127,8 @@ module _ (question : Question) (answer : Answer) (valid : IsValid question) wher
         defence = all.defence_passed;
         least = value_met question valid (least question answer.plan) answer.plan.den (plan_den all.plan_passed) answer
             all.least_same;
-        most = value_met question valid (most question answer.defence) answer.defence.den (defence_den all.defence_passed)
+        most = value_met question valid (most question answer.defence) answer.defence.den
+            (defence_den all.defence_passed)
             answer all.most_same;
       }
 

@@ -1,4 +1,5 @@
-use Rattle.std.proofs.Common.{rules, ◌≡◌, ◌^◌, ℤ, pos, ◌≤ℤ◌, ◌<ℤ◌, to_z, of_z, FitsSigned, true, false, sym, ap, ◌∙◌, subst}
+use Rattle.std.proofs.Common.{rules, ◌≡◌, ◌^◌, ℤ, pos, ◌≤ℤ◌, ◌<ℤ◌, to_z, of_z, FitsSigned, true, false, sym, ap, ◌∙◌}
+use Rattle.std.proofs.Common.{subst}
 use Rattle.std.specs.Int.{w128}
 use Rattle.std.proofs.lemmas.Int.{to_z-of_z}
 use Rattle.suit_plans.proofs.BoundedReplies.{leasts_bounded, mosts_bounded}
@@ -66,7 +67,8 @@ returns-then-ne-clause-verdict g c =
     ∙ ap (λ (z : ℤ). value_of question (least question answer.plan) z) plan_den in
     let other : same_parts (earned question answer) (parts_of answer.value) ≡ false =
     ap (λ parts. same_parts parts (parts_of answer.value)) (sym found)
-    ∙ denied (same_parts (parts_of c.value_of-found.result) (parts_of answer.value)) (sym c.ne.ensures ∙ c.if-ne.true) in
+    ∙ denied (same_parts (parts_of c.value_of-found.result) (parts_of answer.value)) (sym c.ne.ensures
+    ∙ c.if-ne.true) in
     ap Least found ∙ sym (told_least question answer proper held other)
 
 pub value_of-found-requires-2-clause-number : goal.value_of-found-requires-2-clause-number
@@ -127,10 +129,12 @@ returns-then-ne-2-clause-verdict g c =
     ∙ ap (λ (z : ℤ). value_of question (most question answer.defence) z) defence_den in
     let same : same_parts (earned question answer) (parts_of answer.value) ≡ true =
     ap (λ parts. same_parts parts (parts_of answer.value)) (sym found)
-    ∙ granted (same_parts (parts_of c.value_of-found.result) (parts_of answer.value)) (sym c.ne.ensures ∙ c.if-ne.false) in
+    ∙ granted (same_parts (parts_of c.value_of-found.result) (parts_of answer.value)) (sym c.ne.ensures
+    ∙ c.if-ne.false) in
     let other : same_parts (given_up question answer) (parts_of answer.value) ≡ false =
     ap (λ parts. same_parts parts (parts_of answer.value)) (sym also)
-    ∙ denied (same_parts (parts_of c.value_of-found-2.result) (parts_of answer.value)) (sym c.ne-2.ensures ∙ c.if-ne-2.true) in
+    ∙ denied (same_parts (parts_of c.value_of-found-2.result) (parts_of answer.value)) (sym c.ne-2.ensures
+    ∙ c.if-ne-2.true) in
     ap Most also ∙ sym (told_most question answer proper held same other)
 
 pub returns-clause-verdict : goal.returns-clause-verdict
@@ -166,8 +170,10 @@ returns-clause-verdict g c =
     ∙ ap (λ (z : ℤ). value_of question (most question answer.defence) z) defence_den in
     let same : same_parts (earned question answer) (parts_of answer.value) ≡ true =
     ap (λ parts. same_parts parts (parts_of answer.value)) (sym found)
-    ∙ granted (same_parts (parts_of c.value_of-found.result) (parts_of answer.value)) (sym c.ne.ensures ∙ c.if-ne.false) in
+    ∙ granted (same_parts (parts_of c.value_of-found.result) (parts_of answer.value)) (sym c.ne.ensures
+    ∙ c.if-ne.false) in
     let last : same_parts (given_up question answer) (parts_of answer.value) ≡ true =
     ap (λ parts. same_parts parts (parts_of answer.value)) (sym also)
-    ∙ granted (same_parts (parts_of c.value_of-found-2.result) (parts_of answer.value)) (sym c.ne-2.ensures ∙ c.if-ne-2.false) in
+    ∙ granted (same_parts (parts_of c.value_of-found-2.result) (parts_of answer.value)) (sym c.ne-2.ensures
+    ∙ c.if-ne-2.false) in
     sym (told_valid question answer proper held same last)
