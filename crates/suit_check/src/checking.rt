@@ -17,16 +17,16 @@ use suit_plans::{proper_defence, proper_plan};
 use suit_reply::{least_on, most};
 use suit_tree::grow;
 
-/// Whether an answer is right: the plan and the defence are realisation plans, and their best replies leave both of them
-/// just the value. The best reply to the plan is found on several threads, each of which enters the gate.
+/// Whether an answer is right: the plan and the defence are realisation plans, and their best replies leave both of
+/// them just the value. The best reply to the plan is found on several threads, each of which enters the gate.
 ///
-/// The verdict is what is wrong first: of the plan, of the defence, of what the plan earns, of what the defence gives up.
-/// It takes an arena of its own for the class tree.
+/// The verdict is what is wrong first: of the plan, of the defence, of what the plan earns, of what the defence gives
+/// up. It takes an arena of its own for the class tree.
 ///
 /// # Errors
 ///
-/// `Nodes` exactly where the question has more pairs of a class history and a class layout than its budget, whatever the
-/// answer, but for want of memory, which is `Memory`.
+/// `Nodes` exactly where the question has more pairs of a class history and a class layout than its budget, whatever
+/// the answer, but for want of memory, which is `Memory`.
 pub fn check<R: Threads + Sync, G: Gate + Sync>(
     rt: &R,
     gate: &G,
