@@ -1,9 +1,9 @@
 -- `run_replies`: how a run ends that made a reply.
 use Rattle.std.proofs.Common.{◌≡◌, ℕ, ◌+◌, ◌≤◌, ◌++◌, append-nil, arith, List, [], Result, Ok, Err, Option, None, Some}
 use Rattle.std.proofs.Common.{Bool, true, false, nat_lt, length, refl, sym, ap, ◌∙◌, subst, ◌⊎◌, inl, inr, ◌<◌, IsNone}
-use Rattle.std.specs.Prelude.{if◌then◌else◌, IfSome, IsTrue}
+use Rattle.std.specs.Prelude.{if◌then◌else◌, IfSome, IsTrue, MatchBool}
 use Rattle.std.proofs.lemmas.Bool.{le-ltb, lt-ltb, cases_Bool}
-use Rattle.std.specs.Io.KnownBytes.{Consumes, IsAtEnd}
+use Rattle.std.specs.Io.KnownBytes.{Appends, Consumes, IsAtEnd}
 use Rattle.suit_ports.specs.declared.transfer.ReadEnd.{ReadEnd}
 use Rattle.suit_ports.specs.declared.transfer.ReadEnd.TheVariants as Reading
 use Rattle.suit_ports.specs.Counts.{Rose}
@@ -12,13 +12,15 @@ use Rattle.suit_ports.specs.Room.{KeepsRoom, IsFull}
 use Rattle.suit_game.specs.declared.question.Question.{Question}
 use Rattle.suit_game.specs.OneTrick.{one_trick_value}
 use Rattle.suit_top.specs.declared.commands.Command.{Command}
-use Rattle.suit_top.specs.declared.commands.Command.TheVariants.{Solve, Weigh}
+use Rattle.suit_top.specs.declared.commands.Command.TheVariants.{Check, Solve, Weigh}
 use Rattle.suit_top.specs.declared.reply.Reply.{Reply}
 use Rattle.suit_top.specs.declared.status.Status.{Status}
 use Rattle.suit_top.specs.declared.status.Status.TheVariants.{Done, Usage, WriteFault, Long, NotBuilt}
 use Rattle.suit_cards.specs.Cards.{Text}
-use Rattle.suit_top.specs.Asking.{due_of_read}
-use Rattle.suit_top.specs.Commands.{command_of, reads_input, limit_of, due_about, due_within, Says}
+use Rattle.suit_answer.specs.Reading.{answer_read}
+use Rattle.suit_top.specs.Asking.{answer_part, due_of_read}
+use Rattle.suit_top.specs.Commands.{asking_part, command_of, reads_input, limit_of, due_about, due_within, Says}
+use Rattle.suit_top.specs.Commands.{words_read}
 use Rattle.suit_top.specs.Commands.Solving.{is_one_trick, answer_text}
 use Rattle.suit_top.specs.Dues.{Due, done, silent}
 use Rattle.suit_question.specs.Reading.{question_read}
@@ -26,12 +28,14 @@ use Rattle.suit_question.specs.declared.faults.QuestionFault.{QuestionFault}
 use Rattle.suit_top.specs.Texts.{text_bytes}
 use Rattle.suit_top.specs.Owing.{due_for, Owes}
 use Rattle.suit_top.specs.Replies.{IsReply, Delivered, Stopped}
-use Rattle.suit_top.specs.Runs.{Ports, Runs}
+use Rattle.suit_top.specs.Runs.{IsInput, Ports, Runs}
+use Rattle.suit_top.proofs.Checked.{answer_tells}
 use Rattle.suit_top.proofs.Inputs.{is_input, long_input}
 
 -- no command owes Usage about a question
-about_tells : (command : Command) (question : Question) → (due_about command question).status ≡ Usage → ⊥
-about_tells Solve question usage = elim (cases_Bool (is_one_trick question)) [
+about_tells : (command : Command) (input : Text) (question : Question)
+    → (due_about command input question).status ≡ Usage → ⊥
+about_tells Solve input question usage = elim (cases_Bool (is_one_trick question)) [
   | inl one ↦ let told : Done ≡ Usage =
       ap (λ (b : Bool). (if b then done (answer_text (one_trick_value question) 1) else silent NotBuilt).status)
       (sym one) ∙ usage in cc
@@ -39,13 +43,15 @@ about_tells Solve question usage = elim (cases_Bool (is_one_trick question)) [
       ap (λ (b : Bool). (if b then done (answer_text (one_trick_value question) 1) else silent NotBuilt).status)
       (sym more) ∙ usage in cc
 ]
-about_tells Weigh question usage = cc
+about_tells Check input question usage =
+    answer_tells question (answer_read question (answer_part input)) usage
+about_tells Weigh input question usage = cc
 
 -- nor about a text that was read
-read_tells : (command : Command) (found : Result Question QuestionFault)
-    → (due_of_read (due_about command) found).status ≡ Usage → ⊥
-read_tells command (Err fault) usage = cc
-read_tells command (Ok question) usage = about_tells command question usage
+read_tells : (command : Command) (input : Text) (found : Result Question QuestionFault)
+    → (due_of_read (due_about command input) found).status ≡ Usage → ⊥
+read_tells command input (Err fault) usage = cc
+read_tells command input (Ok question) usage = about_tells command input question usage
 
 long_tells : (long : Bool) (due : Due) → (due.status ≡ Usage → ⊥) → (if long then silent Long else due).status ≡ Usage
     → ⊥
@@ -56,7 +62,7 @@ long_tells false due tells usage = tells usage
 pub never_usage : (command : Command) (input : Text) → (due_for (Some command) input).status ≡ Usage → ⊥
 never_usage command input usage =
     long_tells (nat_lt (limit_of command) (length input)) (due_within command input)
-    (read_tells command (question_read input)) usage
+    (read_tells command input (question_read (asking_part command input))) usage
 
 long_is_not_done : (s : Status) → s ≡ Long → s ≡ Done → ⊥
 long_is_not_done s long done = cc
@@ -138,7 +144,8 @@ none_left (Some bytes) (Some rest) taken consumed at_end = ap Some at_end
 
 -- a reading to the end, within the limit, makes the reply to what was read
 pub short_replies : (command : Command) (before after : Option Text) (reply : Reply) (input taken : Text)
-    → IsTrue (reads_input command) → input ≡ taken → length taken ≤ limit_of command → Consumes before after taken → IsAtEnd after
+    → IsTrue (reads_input command) → input ≡ taken → length taken ≤ limit_of command → Consumes before after taken
+    → IsAtEnd after
     → reply.status ≡ (due_within command input).status → text_bytes reply.text ≡ (due_within command input).text
     → (reply.status ≡ Done → Says (Some command) input (text_bytes reply.text)) → IsReply command before after reply
 short_replies command before after reply input taken reads is_taken fits consumed at_end status text says =
@@ -160,7 +167,8 @@ short_replies command before after reply input taken reads is_taken fits consume
 -- a reading that took one byte more than the limit makes the reply Long
 pub long_replies : (A : Type 0) (command : Command) (before after : Option Text) (reply : Reply) (end : ReadEnd)
     (limit : ℕ) (taken : Text)
-    → IsTrue (reads_input command) → end ≡ Reading.Long → limit ≡ limit_of command → reply.status ≡ Long → (text_bytes reply.text) ≡ []
+    → IsTrue (reads_input command) → end ≡ Reading.Long → limit ≡ limit_of command → reply.status ≡ Long
+    → (text_bytes reply.text) ≡ []
     → Took {A = A} limit (Err end) taken → Consumes before after taken → IsReply command before after reply
 long_replies A command before after reply end limit taken reads is_long is_limit status text took consumed =
     let one_more : length taken ≡ limit_of command + 1 =
@@ -177,3 +185,38 @@ long_replies A command before after reply end limit taken reads is_long is_limit
       says = λ done. absurd (long_is_not_done reply.status status done);
       all_read = λ done. absurd (long_is_not_done reply.status status done);
     }
+
+nothing_more : (written : Option Text) → Appends written written []
+nothing_more None = tt
+nothing_more (Some bytes) = sym (append-nil bytes)
+
+same_room : (room : Option ℕ) → KeepsRoom room room
+same_room None = tt
+same_room (Some size) = refl
+
+no_input : (words : List Text) (ports : Ports) → command_of words ≡ None → IsInput words ports []
+no_input words ports none =
+    let nothing : ◌≡◌ {A = Text} [] [] = refl in
+    subst (λ (c : Option Command). MatchBool (words_read c)
+    (IfSome ports.left (λ (bytes : Text). ◌≡◌ {A = Text} [] bytes))
+    (◌≡◌ {A = Text} [] [])) (sym none) nothing
+
+-- words that form no command end the run with Usage, and nothing is changed
+pub run_none : (words : List Text) (ports : Ports) → command_of words ≡ None → Runs words ports ports Usage
+run_none words ports none = record {
+  ending = inl (record {
+    input = [];
+    text = [];
+    is_input = no_input words ports none;
+    owed = record {
+      status_due = sym (ap (λ (c : Option Command). (due_for c []).status) none);
+      text_due = sym (ap (λ (c : Option Command). (due_for c []).text) none);
+    };
+    written = nothing_more ports.written;
+    says = λ done. absurd (cc);
+    all_read = λ done reads. absurd (cc);
+  });
+  usage = (λ found. refl, λ usage. subst IsNone (sym none) refl);
+  room_kept = same_room ports.room;
+  empty_puts = λ more. absurd (omega arith);
+}

@@ -1,22 +1,29 @@
 -- Commands whose input asks a question: it is read first, and its first fault is told.
-use Rattle.std.specs.Prelude.{◌≡◌, Result, Ok, Err}
+use Rattle.std.specs.Prelude.{◌≡◌, Result, Ok, Err, drop, take}
 use Rattle.suit_cards.specs.Cards.{Text}
 use Rattle.suit_game.specs.declared.question.Question.{Question}
 use Rattle.suit_game.specs.Validity.{IsValid}
 use Rattle.suit_question.specs.declared.faults.QuestionFault.{QuestionFault}
-use Rattle.suit_question.specs.Reading.{question_read}
+use Rattle.suit_question.specs.Reading.{end_index, question_read}
 use Rattle.suit_top.specs.declared.status.Status.TheVariants.{Malformed}
 use Rattle.suit_top.specs.Dues.{Due}
 use Rattle.suit_top.specs.Refusals.{malformed_line}
+
+-- the part of an input that asks the question, and what follows it
+abbrev pub question_part : Text → Text
+question_part input = take (end_index input) input
+
+abbrev pub answer_part : Text → Text
+answer_part input = drop (end_index input) input
 
 -- what is due about a question that was read, or the line of its text's first fault
 abbrev pub due_of_read : (Question → Due) → Result Question QuestionFault → Due
 due_of_read about (Err fault) = record { status = Malformed; text = malformed_line fault }
 due_of_read about (Ok question) = about question
 
--- a text says this about the question that an input asks, which is valid
-pub record SaysOfAsked (Says : Question → Text → Type 0) (input text : Text) : Type 0 where
+-- a text says this about the question that a text asks, which is valid
+pub record SaysOfAsked (Says : Question → Text → Type 0) (asking text : Text) : Type 0 where
   pub question : Question
-  pub asked : question_read input ≡ Ok question
+  pub asked : question_read asking ≡ Ok question
   pub valid : IsValid question
   pub says : Says question text

@@ -1,7 +1,9 @@
 -- The one line that a refusal writes.
 use Rattle.std.specs.Prelude.{ℕ, ◌++◌, codes, decimal, unsigned_abs}
 use Rattle.suit_cards.specs.Cards.{Text}
-use Rattle.suit_num.specs.declared.fraction.Frac.{Frac}
+use Rattle.suit_answer.specs.declared.faults.AnswerFault.{AnswerFault}
+use Rattle.suit_answer.specs.declared.faults.AnswerFault.TheVariants as answers
+use Rattle.suit_check.specs.Verdicts.{Parts}
 use Rattle.suit_plans.specs.declared.faults.PlanFault.{PlanFault}
 use Rattle.suit_plans.specs.declared.faults.PlanKind.{PlanKind}
 use Rattle.suit_plans.specs.declared.faults.PlanKind.TheVariants as plans
@@ -43,6 +45,32 @@ fault_line what number place at = what ++ decimal number ++ place ++ decimal at 
 abbrev pub malformed_line : QuestionFault → Text
 malformed_line fault = fault_line (codes "malformed ") (fault_number fault.kind) (codes " at line ") fault.line
 
+-- the number of a fault of an answer text, and its line; no text has the fault that memory ran out
+abbrev pub answer_fault_number : AnswerFault → ℕ
+answer_fault_number (answers.Version line) = 1
+answer_fault_number (answers.Line line) = 2
+answer_fault_number (answers.Number line) = 3
+answer_fault_number (answers.Move line) = 4
+answer_fault_number (answers.Count line) = 5
+answer_fault_number (answers.Truncated line) = 6
+answer_fault_number (answers.Tail line) = 7
+answer_fault_number answers.Memory = 0
+
+abbrev pub answer_fault_place : AnswerFault → ℕ
+answer_fault_place (answers.Version line) = line
+answer_fault_place (answers.Line line) = line
+answer_fault_place (answers.Number line) = line
+answer_fault_place (answers.Move line) = line
+answer_fault_place (answers.Count line) = line
+answer_fault_place (answers.Truncated line) = line
+answer_fault_place (answers.Tail line) = line
+answer_fault_place answers.Memory = 0
+
+-- the line that is written of an answer text with a fault
+abbrev pub answer_line : AnswerFault → Text
+answer_line fault =
+    fault_line (codes "not valid: answer ") (answer_fault_number fault) (codes " at line ") (answer_fault_place fault)
+
 -- the line that is written of an answer whose plan is not proper
 abbrev pub plan_line : PlanFault → Text
 plan_line fault =
@@ -54,16 +82,16 @@ defence_line fault =
     fault_line (codes "not valid: defence ") (plan_fault_number fault.kind) (codes " at row ") fault.row
 
 -- the line of a fraction that is not negative
-abbrev pub fraction_line : Text → Frac → Text
+abbrev pub fraction_line : Text → Parts → Text
 fraction_line what found =
-    what ++ decimal (unsigned_abs found.num) ++ codes "/" ++ decimal (unsigned_abs found.den) ++ codes "\n"
+    what ++ decimal (unsigned_abs found.0) ++ codes "/" ++ decimal (unsigned_abs found.1) ++ codes "\n"
 
 -- the lines that are written of an answer whose plan earns another least than its value, or whose defence lets declarer
 -- earn another most
-abbrev pub least_line : Frac → Text
+abbrev pub least_line : Parts → Text
 least_line found = fraction_line (codes "not valid: least ") found
 
-abbrev pub most_line : Frac → Text
+abbrev pub most_line : Parts → Text
 most_line found = fraction_line (codes "not valid: most ") found
 
 -- the line that is written where a tree has more nodes than the question's budget

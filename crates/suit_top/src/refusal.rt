@@ -1,10 +1,13 @@
 //! The line that a refusal writes, which takes no memory.
 ghost use Rattle.std.specs.Prelude.{◌≡◌, ◌+◌, ◌≤◌, length};
+ghost use Rattle.suit_check.specs.Verdicts.{parts_of};
+ghost use Rattle.suit_top.specs.Refusals.{answer_fault_number, answer_fault_place, answer_line};
 ghost use Rattle.suit_top.specs.Refusals.{defence_line, fault_line, fault_number, fraction_line, least_line};
 ghost use Rattle.suit_top.specs.Refusals.{malformed_line, most_line, nodes_line, plan_fault_number, plan_line};
 
 use arrayvec::ArrayString;
 use itoa::Buffer;
+use suit_answer::AnswerFault;
 use suit_num::Frac;
 use suit_plans::{PlanFault, PlanKind};
 use suit_question::{QuestionFault, QuestionKind};
@@ -17,6 +20,14 @@ pub fn malformed(fault: QuestionFault) -> Refusal
     ensures { result.bytes ≡ malformed_line fault }
 {
     line_of_fault("malformed ", number_of(fault.kind), " at line ", fault.line)
+}
+
+/// The line that is written of an answer text with a fault.
+pub fn wrong_answer(fault: AnswerFault) -> Refusal
+    ensures { result.bytes ≡ answer_line fault }
+{
+    let (number, line) = numbers_of(fault);
+    line_of_fault("not valid: answer ", number, " at line ", line)
 }
 
 /// The line that is written of an answer whose plan is not proper.
@@ -45,14 +56,14 @@ pub fn wrong_defence(fault: PlanFault) -> Refusal
 
 /// The line that is written of an answer whose plan earns this fraction, which is not its value.
 pub fn other_least(found: Frac) -> Refusal
-    ensures { result.bytes ≡ least_line found }
+    ensures { result.bytes ≡ least_line (parts_of found) }
 {
     line_of_fraction("not valid: least ", found)
 }
 
 /// The line that is written of an answer whose defence lets declarer earn this fraction, which is not its value.
 pub fn other_most(found: Frac) -> Refusal
-    ensures { result.bytes ≡ most_line found }
+    ensures { result.bytes ≡ most_line (parts_of found) }
 {
     line_of_fraction("not valid: most ", found)
 }
@@ -85,7 +96,7 @@ fn line_of_fault(what: &str, number: u8, place: &str, at: u32) -> Refusal
 // The line of a fraction that is not negative.
 fn line_of_fraction(what: &str, found: Frac) -> Refusal
     requires { length what.now ≤ 17 }
-    ensures { result.bytes ≡ fraction_line what.now found }
+    ensures { result.bytes ≡ fraction_line what.now (parts_of found) }
 {
     let mut text = Refusal::new();
     text.push_str(what);
@@ -113,6 +124,23 @@ fn number_of(kind: QuestionKind) -> u8
         QuestionKind::Vacant => 10,
         QuestionKind::NoLayout => 11,
         QuestionKind::Tail => 12,
+    }
+}
+
+// The number of a fault of an answer text, and its line.
+fn numbers_of(fault: AnswerFault) -> (u8, u32)
+    ensures number { result.0 ≡ answer_fault_number fault }
+    ensures line { result.1 ≡ answer_fault_place fault }
+{
+    match fault {
+        AnswerFault::Version { line } => (1, line),
+        AnswerFault::Line { line } => (2, line),
+        AnswerFault::Number { line } => (3, line),
+        AnswerFault::Move { line } => (4, line),
+        AnswerFault::Count { line } => (5, line),
+        AnswerFault::Truncated { line } => (6, line),
+        AnswerFault::Tail { line } => (7, line),
+        AnswerFault::Memory => (0, 0),
     }
 }
 

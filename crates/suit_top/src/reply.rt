@@ -20,7 +20,7 @@ use suit_question::QuestionFault;
 pub enum ReplyText {
     /// A text of any length, made in memory.
     Made(String),
-    /// The line of a refusal.
+    /// One line, which took no memory.
     Line(Refusal),
     /// No byte.
     Nothing,
@@ -66,6 +66,17 @@ impl Reply {
         Reply {
             status: Status::Malformed,
             text: ReplyText::Line(malformed(fault)),
+        }
+    }
+
+    /// A status with the line that tells it.
+    pub fn told(status: Status, line: Refusal) -> Reply
+        ensures status { result.status ≡ status }
+        ensures text { text_bytes result.text ≡ line.bytes }
+    {
+        Reply {
+            status,
+            text: ReplyText::Line(line),
         }
     }
 

@@ -5,8 +5,8 @@ use Rattle.suit_top.proofs.reply.reply_to.Goals as goal
 pub returns-in-Err-Long-clause-reply : goal.returns-in-Err-Long-clause-reply
 returns-in-Err-Long-clause-reply g c =
     let taken = c.in-Err-Long.ensures.taken in
-    long_replies Global c.args.command _ _ c.silent.result _ _ taken.0 c.requires.reads c.in-Err-Long.field-0-is c.limit.ensures
-    c.silent.ensures.status c.silent.ensures.text taken.1
+    long_replies Global c.args.command _ _ c.silent.result _ _ taken.0 c.requires.reads c.in-Err-Long.field-0-is
+    c.limit.ensures c.silent.ensures.status c.silent.ensures.text taken.1
     taken.2
 
 pub returns-in_ok-reply-in-Ok-clause-reply : goal.returns-in_ok-reply-in-Ok-clause-reply

@@ -1,5 +1,5 @@
 use Rattle.std.proofs.Common.{sym, ◌∙◌}
-use Rattle.suit_top.proofs.Endings.{run_replies}
+use Rattle.suit_top.proofs.Endings.{run_none, run_replies}
 use Rattle.suit_top.proofs.Inputs.{reads_all}
 use Rattle.suit_top.proofs.top.run.Goals as goal
 
@@ -11,3 +11,6 @@ returns-in-Ok-clause-clause g c =
 
 pub reply_to-requires-clause-reads : goal.reply_to-requires-clause-reads
 reply_to-requires-clause-reads g c = λ lifetimes outlive. reads_all c.in-Some.command
+
+pub returns-in_default-clause-clause : goal.returns-in_default-clause-clause
+returns-in_default-clause-clause g c = run_none _ _ (sym c.of.ensures ∙ c.in_default.is)
