@@ -106,7 +106,8 @@ pub fn least_replies_are_followed()
     ensures { LeastRepliesAreFollowed }
 {}
 
-/// Some mass of a proper defence comes, in some class layout, to each beginning of a class history where an entry of its
+/// Some mass of a proper defence comes, in some class layout, to each beginning of a class history where an entry of
+/// its
 /// best reply stands.
 pub fn most_replies_are_reached()
     ensures { MostRepliesAreReached }
