@@ -2,6 +2,7 @@ pub mod BasicRows
 pub mod BoundedExamples
 pub mod DenseRows
 pub mod DenseRuns
+pub mod FastAnswers
 pub mod FirstNumbers
 pub mod LeavingRows
 pub mod PivotSteps

@@ -14,6 +14,7 @@ use super::reading::read_optimum;
 use super::row::TooWide;
 use super::{Optimum, Program, SimplexEnd};
 use std::alloc::Global;
+use suit_pivots::fast;
 
 // How far one step takes the run.
 pub(crate) enum Progress {
@@ -44,6 +45,9 @@ fn advance(dense: &mut Dense) -> Result<Progress, TooWide>
 /// objective enters, and among the rows of least ratio that of the lowest-numbered basic column
 /// leaves. All numbers are whole, exact, and of at most 127 bits and a sign.
 ///
+/// Where numbers stay small the run is made without a tableau; else it is made again from the first
+/// one, with every number.
+///
 /// The error `Pivots` comes exactly where a column would still enter after `pivots` pivots, and
 /// `Wide` exactly at the first pivot that makes a number past 127 bits and a sign. `Memory` may come
 /// in place of any answer.
@@ -54,6 +58,9 @@ pub fn optimum(alloc: Global, program: &Program, pivots: u32) -> Result<Optimum,
     ensures primal { IfOk result (IsPrimalOptimum program.now) }
     ensures dual { IfOk result (IsDualOptimum program.now) }
 {
+    if let Some(end) = fast(alloc, program, pivots)? {
+        return end;
+    }
     let mut tableau = first_dense(alloc, program)?;
     for made in 0..pivots {
         match advance(&mut tableau) {

@@ -98,7 +98,7 @@ ray_elsewhere : (rows : List TableauRow) (column : ℕ) (step : ℤ) (index : �
     → ray rows column step index ≡ pos 0
 ray_elsewhere rows column step index h = cond-false (index == column) _ _ (ne_eqb index column h)
 
-corner_first : (xs : List ℤ) (rows : List TableauRow) (column : ℕ) (step : ℤ)
+pub corner_first : (xs : List ℤ) (rows : List TableauRow) (column : ℕ) (step : ℤ)
     → dot xs (corner rows column step)
     ≡ number_at xs 0 *ℤ neg_ℤ (whole rows)
     +ℤ (dot (drop 1 xs) (part rows column step) +ℤ dot (drop 1 xs) (ray rows column step))
@@ -108,7 +108,7 @@ corner_first xs rows column step =
     ∙ ap (λ (z : ℤ). number_at xs 0 *ℤ neg_ℤ (whole rows) +ℤ z)
     (dot-add (drop 1 xs) (part rows column step) (ray rows column step))
 
-dot_ray : (xs : List ℤ) (rows : List TableauRow) (column : ℕ) (step : ℤ)
+pub dot_ray : (xs : List ℤ) (rows : List TableauRow) (column : ℕ) (step : ℤ)
     → dot (drop 1 xs) (ray rows column step) ≡ number_at xs (suc column) *ℤ (step *ℤ whole rows)
 dot_ray xs rows column step =
     dot_one (drop 1 xs) (ray rows column step) column
@@ -141,7 +141,7 @@ module _ (program : Program) (tableau : Tableau) (sound : IsSound program tablea
             ∙ All-contains (λ (r : TableauRow). number_at xs r.basic ≡ pos 0) tableau.rows some.0 h found.0)
       ])
 
-  row_part : (row : TableauRow) → Contains tableau.rows row
+  pub row_part : (row : TableauRow) → Contains tableau.rows row
       → part tableau.rows column step row.basic ≡ rest column step row *ℤ cofactor tableau.rows row
   row_part row inside = ap (basic_part tableau.rows column step) (row_found program tableau row sound inside)
 

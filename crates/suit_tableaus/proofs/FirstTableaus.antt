@@ -22,17 +22,17 @@ use Rattle.suit_tableaus.proofs.Signs.{zero_times}
 
 -- ---- the numbers of a slack column
 
-length-unit : (count index : ℕ) → length (unit_numbers count index) ≡ count
+pub length-unit : (count index : ℕ) → length (unit_numbers count index) ≡ count
 unfolding unit_numbers
 length-unit count index = length-map-range_with_len _ 0 count
 
-unit_here : (count index : ℕ) → index < count → number_at (unit_numbers count index) index ≡ pos 1
+pub unit_here : (count index : ℕ) → index < count → number_at (unit_numbers count index) index ≡ pos 1
 unfolding unit_numbers
 unit_here count index h =
     get_or-map-range_with_len _ 0 count index index (pos 0) h (omega arith)
     ∙ cond-true (index == index) (pos 1) (pos 0) (eq-eqb index index refl)
 
-unit_elsewhere : (count index other : ℕ) → other ≢ index → number_at (unit_numbers count index) other ≡ pos 0
+pub unit_elsewhere : (count index other : ℕ) → other ≢ index → number_at (unit_numbers count index) other ≡ pos 0
 unfolding unit_numbers
 unit_elsewhere count index other h =
     elim (cases_lt other count) [

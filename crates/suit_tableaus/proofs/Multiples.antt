@@ -18,7 +18,7 @@ use Rattle.suit_tableaus.proofs.ClearedRows.{IsCleared}
 -- ---- products of four
 
 -- the factors within are exchanged
-cross : (p q r s : ℤ) → (p *ℤ q) *ℤ (r *ℤ s) ≡ (p *ℤ r) *ℤ (q *ℤ s)
+pub cross : (p q r s : ℤ) → (p *ℤ q) *ℤ (r *ℤ s) ≡ (p *ℤ r) *ℤ (q *ℤ s)
 cross p q r s = mul_assoc p q (r *ℤ s) ∙ ap (λ (z : ℤ). p *ℤ z) (mul_left_comm q r s) ∙ sym (mul_assoc p r (q *ℤ s))
 
 -- the outer factors are exchanged

@@ -99,28 +99,28 @@ opposite l t b p not_low none low some =
     omega (arith, ints)
 
 -- the leaving row has the column as its basic one
-abbrev moved : ℕ → TableauRow → TableauRow
+abbrev pub moved : ℕ → TableauRow → TableauRow
 moved column leaver = record { basic = column; numbers = leaver.numbers }
 
 -- a row after the pivot is the leaving row with its new basic column, or a cleared row with its old one
-abbrev PivotCase : ℕ → TableauRow → TableauRow → TableauRow → Type 0
+abbrev pub PivotCase : ℕ → TableauRow → TableauRow → TableauRow → Type 0
 PivotCase column leaver row after =
     ((row ≡ leaver) × (after ≡ moved column leaver))
     ⊎ ((row.basic ≢ leaver.basic) × (after.basic ≡ row.basic)
     × IsCleared (entry leaver column) (entry row column) row.numbers leaver.numbers after.numbers)
 
-pivoted_leaver : (column : ℕ) (leaver row : TableauRow) → row.basic ≡ leaver.basic
+pub pivoted_leaver : (column : ℕ) (leaver row : TableauRow) → row.basic ≡ leaver.basic
     → pivoted_row column leaver row ≡ record row { basic = column }
 unfolding pivoted_row
 pivoted_leaver column leaver row h = cond-true (row.basic == leaver.basic) _ _ (eq-eqb row.basic leaver.basic h)
 
-pivoted_kept : (column : ℕ) (leaver row : TableauRow) → row.basic ≢ leaver.basic
+pub pivoted_kept : (column : ℕ) (leaver row : TableauRow) → row.basic ≢ leaver.basic
     → int_eq (entry row column) (pos 0) ≡ true → pivoted_row column leaver row ≡ row
 unfolding pivoted_row
 pivoted_kept column leaver row h k = cond-false (row.basic == leaver.basic) _ _ (ne_eqb row.basic leaver.basic h)
     ∙ cond-true (int_eq (entry row column) (pos 0)) _ _ k
 
-pivoted_cleared : (column : ℕ) (leaver row : TableauRow) → row.basic ≢ leaver.basic
+pub pivoted_cleared : (column : ℕ) (leaver row : TableauRow) → row.basic ≢ leaver.basic
     → int_eq (entry row column) (pos 0) ≡ false
     → pivoted_row column leaver row
     ≡ record row { numbers = cleared (entry leaver column) (entry row column) row.numbers leaver.numbers }
@@ -133,7 +133,7 @@ module _ (program : Program) (tableau : Tableau) (column : ℕ) (leaver : Tablea
   chosen : IsChosen column tableau.rows leaver
   chosen = leaving_is_chosen tableau column leaver leaves
 
-  pivot_case : (row : TableauRow) → Contains tableau.rows row
+  pub pivot_case : (row : TableauRow) → Contains tableau.rows row
       → PivotCase column leaver row (pivoted_row column leaver row)
   pivot_case row inside =
       elim (cases_eq row.basic leaver.basic) [
@@ -186,7 +186,7 @@ module _ (program : Program) (tableau : Tableau) (column : ℕ) (leaver : Tablea
         | inr (differs, basic, clear) ↦ others row (pivoted_row column leaver row) inside differs basic clear
       ]))
 
-  objective_cleared : IsCleared (entry leaver column) (reduced_cost tableau column) tableau.objective (pos 0
+  pub objective_cleared : IsCleared (entry leaver column) (reduced_cost tableau column) tableau.objective (pos 0
       ∷ leaver.numbers) (cleared (entry leaver column) (reduced_cost tableau column) tableau.objective (pos 0
       ∷ leaver.numbers))
   objective_cleared =

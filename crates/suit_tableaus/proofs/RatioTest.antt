@@ -51,22 +51,22 @@ through column row best other some_row some_best some_other h k =
     fraction_le_trans (bound row) (entry row column) (bound best) (entry best column) (bound other) (entry other column)
     some_row some_best some_other h k
 
-kept_row : (column : ℕ) (best row : TableauRow)
+pub kept_row : (column : ℕ) (best row : TableauRow)
     → (int_lt (pos 0) (entry row column) && is_better column best row) ≡ true → kept column (Some best) row ≡ Some row
 unfolding kept
 kept_row column best row h = cond-true _ (Some row) (Some best) h
 
-kept_best : (column : ℕ) (best row : TableauRow)
+pub kept_best : (column : ℕ) (best row : TableauRow)
     → (int_lt (pos 0) (entry row column) && is_better column best row) ≡ false → kept column (Some best) row ≡ Some best
 unfolding kept
 kept_best column best row h = cond-false _ (Some row) (Some best) h
 
-kept_first : (column : ℕ) (row : TableauRow) → int_lt (pos 0) (entry row column) ≡ true
+pub kept_first : (column : ℕ) (row : TableauRow) → int_lt (pos 0) (entry row column) ≡ true
     → kept column None row ≡ Some row
 unfolding kept
 kept_first column row h = cond-true _ (Some row) None h
 
-kept_none : (column : ℕ) (row : TableauRow) → int_lt (pos 0) (entry row column) ≡ false → kept column None row ≡ None
+pub kept_none : (column : ℕ) (row : TableauRow) → int_lt (pos 0) (entry row column) ≡ false → kept column None row ≡ None
 unfolding kept
 kept_none column row h = cond-false _ (Some row) None h
 

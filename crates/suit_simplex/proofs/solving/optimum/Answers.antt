@@ -8,7 +8,22 @@ use Rattle.suit_tableaus.proofs.FirstTableaus.{first_is_sound}
 use Rattle.suit_simplex.proofs.DenseRuns.{first_kept_run, next_kept, sound_advances}
 use Rattle.suit_tableaus.proofs.RunSteps.{ends_last, ends_wide, ends_budget, ends_done, last_enters_none}
 use Rattle.suit_tableaus.proofs.RunSteps.{none_from_test, tells_read, proves_primal, proves_dual}
+use Rattle.suit_tableaus.specs.Runs.{run_end}
+use Rattle.suit_tableaus.specs.Ends.{Tells}
+use Rattle.suit_simplex.proofs.FastAnswers.{told_primal, told_dual}
 use Rattle.suit_simplex.proofs.solving.optimum.Goals as goal
+
+pub returns-in-Some-clause-primal : goal.returns-in-Some-clause-primal
+returns-in-Some-clause-primal c =
+    let told : Tells c.args.program.now (run_end c.args.program.now c.args.pivots) c.in-Some.end =
+    rw c.in-Some.is at c.in_ok-end.ensures in
+    told_primal c.args.program.now c.args.pivots c.requires.formed c.in-Some.end told
+
+pub returns-in-Some-clause-dual : goal.returns-in-Some-clause-dual
+returns-in-Some-clause-dual c =
+    let told : Tells c.args.program.now (run_end c.args.program.now c.args.pivots) c.in-Some.end =
+    rw c.in-Some.is at c.in_ok-end.ensures in
+    told_dual c.args.program.now c.args.pivots c.requires.formed c.in-Some.end told
 
 pub loop-made-init : goal.loop-made-init
 loop-made-init c = first_kept_run c.args.program.now c.args.pivots c.in_ok-tableau.tableau

@@ -1,0 +1,13 @@
+pub mod Advancing
+pub mod CellSums
+pub mod ClaimSums
+pub mod ColumnClaims
+pub mod LeavingLines
+pub mod LineSteps
+pub mod ObjectiveSteps
+pub mod PrimitiveRows
+pub mod Readings
+pub mod RowClaims
+pub mod FastRuns
+pub mod SparsePrograms
+pub mod States

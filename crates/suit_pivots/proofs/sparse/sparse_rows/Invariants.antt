@@ -1,0 +1,5 @@
+use Rattle.suit_pivots.proofs.SparsePrograms.{AreRowsBelow}
+use Rattle.suit_pivots.proofs.sparse.sparse_rows.Given as goal
+
+abbrev pub invariant-loop-index : goal.invariant-loop-index
+invariant-loop-index l = AreRowsBelow l.program l.index l.rows.items
