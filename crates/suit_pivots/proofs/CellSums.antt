@@ -1,5 +1,6 @@
 -- Sums of lists and multiples of cells (`added_more`).
-use Rattle.std.proofs.Common.{◌≡◌, inl, inr, ℕ, zero, suc, ◌+◌, ◌<◌, ◌≤◌, List, [], ◌∷◌, length, take, get_or, refl, sym, ap}
+use Rattle.std.proofs.Common.{◌≡◌, inl, inr, ℕ, zero, suc, ◌+◌, ◌<◌, ◌≤◌, List, [], ◌∷◌, length, take, get_or, refl}
+use Rattle.std.proofs.Common.{sym, ap}
 use Rattle.std.proofs.Common.{◌∙◌, arith}
 use Rattle.std.specs.Prelude.{ℤ, pos, ◌+ℤ◌, ◌*ℤ◌, set, ◌==◌, FitsSigned}
 use Rattle.std.specs.Int.{w64, cast_unsigned, cast_signed}
@@ -15,7 +16,8 @@ use Rattle.suit_pivots.specs.Cells.{number_of, number_in}
 -- the multiples of so many cells are added
 pub record IsAdded (before : List ℤ) (cells : List Cell) (factor : ℤ) (count : ℕ) (after : List ℤ) : Type 0 where
   pub same : length after ≡ length before
-  pub numbers : (index : ℕ) → number_at after index ≡ number_at before index +ℤ factor *ℤ number_in (take count cells) index
+  pub numbers : (index : ℕ) → number_at after index
+      ≡ number_at before index +ℤ factor *ℤ number_in (take count cells) index
 
 nothing_added : (a b : ℤ) → a ≡ a +ℤ b *ℤ pos 0
 nothing_added a b = let none = times_zero b (pos 0) refl in omega (arith, ints)
@@ -53,29 +55,30 @@ pub added_more : (before : List ℤ) (cells : List Cell) (factor : ℤ) (count :
     → count < length cells → (get_or cells count other).index < length now → IsAdded before cells factor count now
     → sum ≡ number_at now (get_or cells count other).index +ℤ factor *ℤ (get_or cells count other).number
     → IsAdded before cells factor (count + 1) (set now (get_or cells count other).index sum)
-added_more before cells factor count now other sum less inside h e = let cell : Cell = get_or cells count other in record {
-  same = length-set now cell.index sum ∙ h.same;
-  numbers = λ index.
-      elim (cases_eq index (get_or cells count other).index) [
-        | inl here ↦
-            ap (λ (n : ℕ). number_at (set now cell.index sum) n) here
-            ∙ get_or-set_same now cell.index sum (pos 0) inside
-            ∙ step_here (number_at now cell.index) (number_at before cell.index) factor cell.number
-            (number_in (take count cells) cell.index) sum (h.numbers cell.index) e
-            ∙ ap (λ (n : ℕ). number_at before n +ℤ factor *ℤ (cell.number +ℤ number_in (take count cells) n)) (sym here)
-            ∙ ap (λ (z : ℤ). number_at before index +ℤ factor *ℤ z)
-            (ap (λ (z : ℤ). z +ℤ number_in (take count cells) index)
-            (sym (cond-true (index == cell.index) cell.number (pos 0) (eq-eqb index cell.index here)))
-            ∙ sym (number_in_more cells count other index less))
-        | inr differs ↦
-            get_or-set_other now cell.index index sum (pos 0) differs
-            ∙ step_elsewhere (number_at now index) (number_at before index) factor (number_of cell index)
-            (number_in (take count cells) index) (h.numbers index)
-            (cond-false (index == cell.index) cell.number (pos 0) (ne_eqb index cell.index differs))
-            ∙ ap (λ (z : ℤ). number_at before index +ℤ factor *ℤ z)
-            (sym (number_in_more cells count other index less))
-      ];
-}
+added_more before cells factor count now other sum less inside h e = let cell : Cell = get_or cells count other in
+    record {
+      same = length-set now cell.index sum ∙ h.same;
+      numbers = λ index.
+          elim (cases_eq index (get_or cells count other).index) [
+            | inl here ↦
+                ap (λ (n : ℕ). number_at (set now cell.index sum) n) here
+                ∙ get_or-set_same now cell.index sum (pos 0) inside
+                ∙ step_here (number_at now cell.index) (number_at before cell.index) factor cell.number
+                (number_in (take count cells) cell.index) sum (h.numbers cell.index) e
+                ∙ ap (λ (n : ℕ). number_at before n +ℤ factor *ℤ (cell.number +ℤ number_in (take count cells) n)) (sym here)
+                ∙ ap (λ (z : ℤ). number_at before index +ℤ factor *ℤ z)
+                (ap (λ (z : ℤ). z +ℤ number_in (take count cells) index)
+                (sym (cond-true (index == cell.index) cell.number (pos 0) (eq-eqb index cell.index here)))
+                ∙ sym (number_in_more cells count other index less))
+            | inr differs ↦
+                get_or-set_other now cell.index index sum (pos 0) differs
+                ∙ step_elsewhere (number_at now index) (number_at before index) factor (number_of cell index)
+                (number_in (take count cells) index) (h.numbers index)
+                (cond-false (index == cell.index) cell.number (pos 0) (ne_eqb index cell.index differs))
+                ∙ ap (λ (z : ℤ). number_at before index +ℤ factor *ℤ z)
+                (sym (number_in_more cells count other index less))
+          ];
+    }
 
 pub all_added : (before : List ℤ) (cells : List Cell) (factor : ℤ) (count : ℕ) (after : List ℤ) → length cells ≤ count
     → IsAdded before cells factor count after → (index : ℕ)

@@ -1,5 +1,6 @@
 -- What the tests of a column and of a row come to (`column_claimed`, `rows_summed`).
-use Rattle.std.proofs.Common.{◌≡◌, ◌≢◌, inl, inr, ℕ, zero, suc, ◌+◌, ◌<◌, ◌≤◌, List, [], ◌∷◌, length, take, drop, get_or}
+use Rattle.std.proofs.Common.{◌≡◌, ◌≢◌, inl, inr, ℕ, zero, suc, ◌+◌, ◌<◌, ◌≤◌, List, [], ◌∷◌, length, take, drop}
+use Rattle.std.proofs.Common.{get_or}
 use Rattle.std.proofs.Common.{Some, refl, sym, ap, ap₂, ◌∙◌, subst, arith}
 use Rattle.std.specs.Prelude.{ℤ, pos, ◌+ℤ◌, ◌-ℤ◌, ◌*ℤ◌, ◌<ℤ◌, set, slice_get, neg_ℤ, unsigned_abs, max}
 use Rattle.std.proofs.lemmas.Int.{ints}
@@ -88,7 +89,8 @@ one_shared lines entries scale count shares share other less h is = record {
             ap (λ (n : ℕ). number_at (set shares count share) n *ℤ line.own) here
             ∙ ap (λ (z : ℤ). z *ℤ line.own) (get_or-set_same shares count share (pos 0) (omega arith))
             ∙ ap (λ (l : Line). share *ℤ l.own)
-            (sym (get_or_from_slice_get lines count line other (subst (λ (n : ℕ). slice_get lines n ≡ Some line) here at)))
+            (sym (get_or_from_slice_get lines count line other
+            (subst (λ (n : ℕ). slice_get lines n ≡ Some line) here at)))
             ∙ is ∙ ap (λ (n : ℕ). number_at entries n *ℤ scale) (sym here)
         | inr differs ↦ ap (λ (z : ℤ). z *ℤ line.own) (get_or-set_other shares count index share (pos 0) differs)
             ∙ h.balance index line (omega arith) at
@@ -183,7 +185,8 @@ all_summed sparse lines shares count sums past over h program is index row at =
     (take_all count shares over)
 
 -- where the sums less the scale's share of a column are 0, the shares make up the column
-pub column_claimed : (program : Program) (lines : List Line) (column : ℕ) (entries shares sums ends : List ℤ) (scale : ℤ)
+pub column_claimed : (program : Program) (lines : List Line) (column : ℕ) (entries shares sums ends : List ℤ)
+    (scale : ℤ)
     → IsShared lines entries scale shares
     → ((index : ℕ) (row : TableauRow) → slice_get (first_tableau program).rows index ≡ Some row
     → number_at sums index ≡ shared lines shares (λ c. entry row c))
@@ -214,7 +217,8 @@ column_claimed program lines column entries shares sums ends scale is h adds non
 -- ---- sums of rows
 
 -- the row at an index of the first tableau
-pub row_added : (program : Program) (sparse : Sparse) (index : ℕ) (cells : List Cell) (weight : ℤ) (before after : List ℤ)
+pub row_added : (program : Program) (sparse : Sparse) (index : ℕ) (cells : List Cell) (weight : ℤ)
+    (before after : List ℤ)
     → index < length program.rows
     → ((row : TableauRow) → slice_get (first_tableau program).rows index ≡ Some row → HoldRow row cells)
     → ((place : ℕ) → number_at after place ≡ number_at before place +ℤ weight *ℤ number_in cells place)
@@ -331,7 +335,8 @@ other_apart lines leaving numbers count other h away none = record {
   own = λ line less at. h.own line (omega arith) at;
   others = λ index line less differs at.
       elim (cases_eq index count) [
-        | inl here ↦ ap (λ (l : Line). number_at numbers (suc l.basic)) (sym (same_at lines count other line index here at))
+        | inl here ↦ ap (λ (l : Line). number_at numbers (suc l.basic))
+            (sym (same_at lines count other line index here at))
             ∙ none
         | inr elsewhere ↦ h.others index line (omega arith) differs at
       ];
@@ -341,7 +346,8 @@ pub all_apart : (lines : List Line) (leaving : ℕ) (numbers : List ℤ) (count 
     → IsApartBelow lines leaving numbers count → IsApart lines leaving numbers
 all_apart lines leaving numbers count past h = record {
   own = λ line at. h.own line (inside leaving (slice_get_within lines leaving line at)) at;
-  others = λ index line differs at. h.others index line (inside index (slice_get_within lines index line at)) differs at;
+  others = λ index line differs at. h.others index line (inside index (slice_get_within lines index line at)) differs
+      at;
 }
   where
     inside : (index : ℕ) → index < length lines → index < count

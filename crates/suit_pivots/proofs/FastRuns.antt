@@ -1,11 +1,14 @@
 -- What is kept at the start of a run, and what its end tells (`first_state`).
-use Rattle.std.proofs.Common.{◌≡◌, inl, inr, ℕ, zero, suc, ◌+◌, ◌<◌, ◌≤◌, ◌^◌, List, [], ◌∷◌, ◌++◌, length, take, map, All}
-use Rattle.std.proofs.Common.{Vec, Global, replicate, get_or, Option, Some, None, is_some, refl, sym, ap, ◌∙◌, subst, arith}
+use Rattle.std.proofs.Common.{◌≡◌, inl, inr, ℕ, zero, suc, ◌+◌, ◌<◌, ◌≤◌, ◌^◌, List, [], ◌∷◌, ◌++◌, length, take, map}
+use Rattle.std.proofs.Common.{All}
+use Rattle.std.proofs.Common.{Vec, Global, replicate, get_or, Option, Some, None, is_some, refl, sym, ap, ◌∙◌, subst}
+use Rattle.std.proofs.Common.{arith}
 use Rattle.std.specs.Prelude.{ℤ, pos, neg_ℤ, ◌+ℤ◌, ◌==◌, max, unsigned_abs, slice_get, Result, Ok, Err, IfOk, IfSome}
 use Rattle.std.specs.Prelude.{position, int_lt, drop}
 use Rattle.std.proofs.lemmas.Int.{ints}
 use Rattle.std.proofs.lemmas.Bool.{cases_eq, cases_lt, cond-true, cond-false, eq-eqb, ne_eqb}
-use Rattle.std.proofs.lemmas.List.{get_or_past, length-append, append_assoc, append-nil, map_more, replicate_more, take_all}
+use Rattle.std.proofs.lemmas.List.{get_or_past, length-append, append_assoc, append-nil, map_more, replicate_more}
+use Rattle.std.proofs.lemmas.List.{take_all}
 use Rattle.std.proofs.lemmas.List.Elements.{All-nil, All-cons, All-append}
 use Rattle.std.proofs.lemmas.Option.{get_or_from_slice_get}
 use Rattle.suit_tableaus.specs.declared.program.Program.{Program}
@@ -134,7 +137,8 @@ pub no_size : (numbers : List ℤ) → IsSizeBelow numbers 0 1
 no_size numbers = record { below = λ index less. absurd (omega arith); some = omega arith; small = omega arith }
 
 pub more_size : (numbers : List ℤ) (count size : ℕ) (number : ℤ) → IsSizeBelow numbers count size
-    → number ≡ number_at numbers count → IsSmall number → IsSizeBelow numbers (count + 1) (max size (unsigned_abs number))
+    → number ≡ number_at numbers count → IsSmall number
+    → IsSizeBelow numbers (count + 1) (max size (unsigned_abs number))
 more_size numbers count size number h e small = record {
   below = λ index less.
       elim (cases_eq index count) [
@@ -215,7 +219,8 @@ more_lines program count lines line row h read is = record {
 
 pub all_lines : (program : Program) (count : ℕ) (lines : List Line) → length program.rows ≤ count
     → count ≤ length program.rows → AreFirstBelow program count lines → AreFirstLines program lines
-all_lines program count lines past low h = record { count = h.same ∙ same count (length program.rows) past low; each = h.each }
+all_lines program count lines past low h =
+    record { count = h.same ∙ same count (length program.rows) past low; each = h.each }
   where
     same : (a b : ℕ) → b ≤ a → a ≤ b → a ≡ b
     same a b h k = omega arith
@@ -228,7 +233,8 @@ pub first_two : (now : List ℤ) → now ≡ pos 1 ∷ pos 0 ∷ [] → IsObject
 first_two now e = record {
   is = e;
   small = subst (All IsSmall) (sym e)
-      (All-cons IsSmall (pos 1) (pos 0 ∷ []) (omega arith) (All-cons IsSmall (pos 0) [] (omega arith) (All-nil IsSmall)));
+      (All-cons IsSmall (pos 1) (pos 0
+      ∷ []) (omega arith) (All-cons IsSmall (pos 0) [] (omega arith) (All-nil IsSmall)));
 }
 
 pushed_small : (xs : List ℤ) (y : ℤ) → All IsSmall xs → IsSmall y → All IsSmall (xs ++ y ∷ [])
@@ -298,7 +304,8 @@ by_end : (program : Program) (a b : RunEnd) (end : Result Optimum SimplexEnd) �
     → Tells program b end
 by_end program a b end e is = subst (λ (r : RunEnd). Tells program r end) (sym e) is
 
-pub read_tells : {E : Type 0} (program : Program) (lines : List Line) (objective : List ℤ) (tableau : Tableau) (whole : RunEnd)
+pub read_tells : {E : Type 0} (program : Program) (lines : List Line) (objective : List ℤ) (tableau : Tableau)
+    (whole : RunEnd)
     (answer : Result (Option (Result Optimum SimplexEnd)) E) → IsStateOf program lines objective tableau
     → whole ≡ AtOptimum tableau
     → IfOk answer (λ found. IfSome found (λ end. (t : Tableau) → IsStateOf program lines objective t
@@ -309,7 +316,8 @@ read_tells program lines objective tableau whole (Ok (Some end)) state e h =
     by_end program (AtOptimum tableau) whole end e (h tableau state)
 read_tells program lines objective tableau whole (Err x) state e h = tt
 
-pub enters_test : (program : Program) (lines : List Line) (objective seen : List ℤ) (tableau : Tableau) (found : Option ℕ)
+pub enters_test : (program : Program) (lines : List Line) (objective seen : List ℤ) (tableau : Tableau)
+    (found : Option ℕ)
     → IsStateOf program lines objective tableau → seen ≡ objective
     → found ≡ position (λ cost. int_lt cost (pos 0)) (drop 2 seen) → is_some (entering tableau) ≡ is_some found
 enters_test program lines objective seen tableau found state same e =

@@ -1,5 +1,6 @@
 -- The rows of a run have no common divisor (`pivoted_primitive`).
-use Rattle.std.proofs.Common.{◌≡◌, inl, inr, ℕ, zero, suc, ◌+◌, ◌<◌, List, [], ◌∷◌, ◌++◌, length, map, All, Contains, Some}
+use Rattle.std.proofs.Common.{◌≡◌, inl, inr, ℕ, zero, suc, ◌+◌, ◌<◌, List, [], ◌∷◌, ◌++◌, length, map, All, Contains}
+use Rattle.std.proofs.Common.{Some}
 use Rattle.std.proofs.Common.{refl, ap, ◌∙◌, subst}
 use Rattle.std.specs.Prelude.{ℤ, pos, unsigned_abs}
 use Rattle.std.specs.Int.{◌∣◌}
@@ -12,7 +13,8 @@ use Rattle.std.proofs.lemmas.List.{get_or-append-add}
 use Rattle.suit_tableaus.specs.declared.program.Program.{Program}
 use Rattle.suit_tableaus.specs.declared.program.ProgramRow.{ProgramRow}
 use Rattle.suit_tableaus.specs.Points.{number_at}
-use Rattle.suit_tableaus.specs.Tableaus.{TableauRow, Tableau, entry, reduced_cost, first_row, first_tableau, unit_numbers}
+use Rattle.suit_tableaus.specs.Tableaus.{TableauRow, Tableau, entry, reduced_cost, first_row, first_tableau}
+use Rattle.suit_tableaus.specs.Tableaus.{unit_numbers}
 use Rattle.suit_tableaus.specs.Pivots.{content, combined, share, leaving, pivoted, pivoted_row}
 use Rattle.suit_tableaus.proofs.SoundTableaus.{IsSound}
 use Rattle.suit_pivots.specs.States.{IsPrimitive}

@@ -1,5 +1,6 @@
 -- The optimum that is read is that of the last tableau (`optimum_read`).
-use Rattle.std.proofs.Common.{◌≡◌, ◌≢◌, inl, inr, ℕ, suc, ◌+◌, ◌<◌, ◌≤◌, ◌^◌, List, [], ◌∷◌, ◌++◌, length, drop, All, get_or}
+use Rattle.std.proofs.Common.{◌≡◌, ◌≢◌, inl, inr, ℕ, suc, ◌+◌, ◌<◌, ◌≤◌, ◌^◌, List, [], ◌∷◌, ◌++◌, length, drop, All}
+use Rattle.std.proofs.Common.{get_or}
 use Rattle.std.proofs.Common.{Option, Some, refl, sym, ap, ◌∙◌, subst, arith}
 use Rattle.std.specs.Prelude.{ℤ, pos, ◌*ℤ◌, ◌<ℤ◌, slice_get, find, ◌==◌, unsigned_abs}
 use Rattle.std.proofs.lemmas.Int.{ints}
@@ -118,7 +119,8 @@ module _ (program : Program) (lines : List Line) (objective : List ℤ) (tableau
       ∙ row_found program tableau row is.sound (contains_at tableau.rows index row from.1) in
       subst (λ (o : Option TableauRow). IsBasicValue column o part) (sym found)
       (subst (λ (n : ℕ). part.num *ℤ entry row n ≡ bound row *ℤ part.den) here
-      (same_value line_is.numbers.left line_is.numbers.right part.num line.own (entry row row.basic) line.bound (bound row)
+      (same_value line_is.numbers.left line_is.numbers.right part.num line.own (entry row row.basic) line.bound
+      (bound row)
       part.den line_is.numbers.right_positive
       (ap (λ (z : ℤ). line_is.numbers.left *ℤ z) (sym line_is.own) ∙ line_is.numbers.numbers (suc row.basic))
       (ap (λ (z : ℤ). line_is.numbers.left *ℤ z) (sym line_is.bound) ∙ line_is.numbers.numbers 0) e))

@@ -5,14 +5,16 @@ use Rattle.std.specs.Prelude.{ℤ, pos, ◌+ℤ◌, ◌-ℤ◌, ◌*ℤ◌, ◌<
 use Rattle.std.proofs.lemmas.Int.{ints}
 use Rattle.std.proofs.lemmas.List.Elements.{All-contains}
 use Rattle.std.proofs.Math.IntN.{*ℤ_comm, zero-*ℤ}
-use Rattle.suit_num.proofs.IntegerLaws.{mul_assoc, mul_left_comm, mul-neg_right, mul-sub_left, mul-sub_right, same_from_mul}
+use Rattle.suit_num.proofs.IntegerLaws.{mul_assoc, mul_left_comm, mul-neg_right, mul-sub_left, mul-sub_right}
+use Rattle.suit_num.proofs.IntegerLaws.{same_from_mul}
 use Rattle.suit_tableaus.specs.declared.program.Program.{Program}
 use Rattle.suit_tableaus.specs.Points.{number_at, dot}
 use Rattle.suit_tableaus.specs.Tableaus.{TableauRow, Tableau, bound, entry, first_tableau}
 use Rattle.suit_tableaus.specs.Multiples.{AreMultiples}
 use Rattle.suit_tableaus.proofs.SoundTableaus.{IsSound, Solves}
 use Rattle.suit_tableaus.proofs.SoundRows.{found_row, cases_option}
-use Rattle.suit_tableaus.proofs.Corners.{whole, whole_positive, cofactor, cofactor_is, rest, basic_part, part, ray, corner}
+use Rattle.suit_tableaus.proofs.Corners.{whole, whole_positive, cofactor, cofactor_is, rest, basic_part, part, ray}
+use Rattle.suit_tableaus.proofs.Corners.{corner}
 use Rattle.suit_tableaus.proofs.Corners.{corner_solves, corner_first, dot_ray, row_part}
 use Rattle.suit_tableaus.proofs.DotProducts.{dot_one, number_at-drop}
 use Rattle.suit_tableaus.proofs.Signs.{times_zero, zero_times}

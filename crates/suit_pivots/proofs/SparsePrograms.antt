@@ -1,11 +1,14 @@
 -- Cells of a program's rows and columns hold those of the first tableau (`sparse_is`).
-use Rattle.std.proofs.Common.{◌≡◌, ◌≢◌, inl, inr, ℕ, zero, suc, ◌+◌, ◌-◌, ◌<◌, ◌≤◌, List, [], ◌∷◌, ◌++◌, length, take, get_or}
-use Rattle.std.proofs.Common.{◌⊎◌, Option, Some, None, refl, sym, ap, ◌∙◌, subst, cond, arith, Vec, Global, nat_lt, Bool}
+use Rattle.std.proofs.Common.{◌≡◌, ◌≢◌, inl, inr, ℕ, zero, suc, ◌+◌, ◌-◌, ◌<◌, ◌≤◌, List, [], ◌∷◌, ◌++◌, length, take}
+use Rattle.std.proofs.Common.{get_or}
+use Rattle.std.proofs.Common.{◌⊎◌, Option, Some, None, refl, sym, ap, ◌∙◌, subst, cond, arith, Vec, Global, nat_lt}
+use Rattle.std.proofs.Common.{Bool}
 use Rattle.std.specs.Prelude.{ℤ, pos, ◌+ℤ◌, slice_get, ◌==◌, true, false}
 use Rattle.std.specs.Option.{MatchOption}
 use Rattle.std.proofs.lemmas.Int.{ints}
 use Rattle.std.proofs.lemmas.Bool.{cases_eq, cases_lt, cond-true, cond-false, eq-eqb, ne_eqb}
-use Rattle.std.proofs.lemmas.List.{get_or_past, get_or-map, length-map, take_all, get_or-append-add, get_or_append_left, length-append}
+use Rattle.std.proofs.lemmas.List.{get_or_past, get_or-map, length-map, take_all, get_or-append-add, get_or_append_left}
+use Rattle.std.proofs.lemmas.List.{length-append}
 use Rattle.std.proofs.lemmas.Option.{slice_get_cases, slice_get_within, get_or_from_slice_get}
 use Rattle.suit_tableaus.specs.declared.program.Program.{Program}
 use Rattle.suit_tableaus.specs.declared.program.ProgramRow.{ProgramRow}
@@ -17,7 +20,8 @@ use Rattle.suit_pivots.specs.declared.cells.Cell.{Cell}
 use Rattle.suit_pivots.specs.declared.sparse.Sparse.{Sparse}
 use Rattle.suit_pivots.specs.Cells.{number_of, number_in}
 use Rattle.suit_pivots.specs.Lines.{unit}
-use Rattle.suit_pivots.specs.Sparse.{IsSparse, HoldRow, HoldColumn, HoldProgramRow, HoldProgramColumn, AreRows, AreColumns}
+use Rattle.suit_pivots.specs.Sparse.{IsSparse, HoldRow, HoldColumn, HoldProgramRow, HoldProgramColumn, AreRows}
+use Rattle.suit_pivots.specs.Sparse.{AreColumns}
 
 -- ---- one more cell
 
@@ -77,7 +81,8 @@ number_at_more (x ∷ xs) (suc count) (suc index) less =
     same a b =
         elim (cases_eq a b) [
           | inl here ↦ eq-eqb a b here ∙ sym (eq-eqb (suc a) (suc b) (ap suc here))
-          | inr differs ↦ ne_eqb a b differs ∙ sym (ne_eqb (suc a) (suc b) (λ (e : suc a ≡ suc b). differs (omega arith)))
+          | inr differs ↦ ne_eqb a b differs
+              ∙ sym (ne_eqb (suc a) (suc b) (λ (e : suc a ≡ suc b). differs (omega arith)))
         ]
 
 -- ---- lists that grow
@@ -133,7 +138,8 @@ split_row columns rows index row place width less =
         (ne_eqb place (suc (columns + index)) (λ (same : place ≡ suc (columns + index)). differs (omega arith))))
 
 -- a row of the first tableau and its row of the program
-pub first_at : (program : Program) (index : ℕ) (row : TableauRow) → slice_get (first_tableau program).rows index ≡ Some row
+pub first_at : (program : Program) (index : ℕ) (row : TableauRow)
+    → slice_get (first_tableau program).rows index ≡ Some row
     → (other : ProgramRow) × (slice_get program.rows index ≡ Some other) × (index < length program.rows)
     × (row ≡ first_row (length program.costs) (length program.rows) (index, other))
 first_at program index row at =
@@ -148,7 +154,8 @@ first_at program index row at =
             ∙ ap (λ (r : ProgramRow). first_row (length program.costs) (length program.rows) (index, r)) read,
       )
       | inr (past, none) ↦
-          let low : index < length (first_tableau program).rows = slice_get_within (first_tableau program).rows index row
+          let low : index < length (first_tableau program).rows =
+          slice_get_within (first_tableau program).rows index row
           at in
           let same = length-first program in
           absurd (omega arith)
@@ -262,7 +269,8 @@ no_numbers = record { each = λ index. refl }
 
 pub numbers_more : (before after : List Cell) (numbers : List ℤ) (count : ℕ) → count < length numbers
     → HoldNumbers before (take count numbers)
-    → ((other : ℕ) → number_in after other ≡ number_in before other +ℤ cond (other == count) (number_at numbers count) (pos 0))
+    → ((other : ℕ) → number_in after other
+    ≡ number_in before other +ℤ cond (other == count) (number_at numbers count) (pos 0))
     → HoldNumbers after (take (count + 1) numbers)
 numbers_more before after numbers count less h pushed = record {
   each = λ index. pushed index
@@ -276,7 +284,8 @@ pub column_more : (before after : List Cell) (rows : List ProgramRow) (column co
     +ℤ cond (place == count) (number_at (get_or rows count other).entries column) (pos 0))
     → HoldNumbers after (take (count + 1) (column_entries rows column))
 column_more before after rows column count other less h pushed =
-    let inside : count < length (column_entries rows column) = omega (arith, length-map rows (λ (r : ProgramRow). number_at r.entries column)) in
+    let inside : count < length (column_entries rows column) =
+    omega (arith, length-map rows (λ (r : ProgramRow). number_at r.entries column)) in
     numbers_more before after (column_entries rows column) count inside h
     (λ place. pushed place ∙ ap (λ (z : ℤ). number_in before place +ℤ cond (place == count) z (pos 0))
     (sym (get_or-map (λ (r : ProgramRow). number_at r.entries column) rows count other (pos 0) less)))
@@ -296,7 +305,8 @@ row_more before after bound entries count less h pushed =
     let f : suc count + 1 ≡ suc (count + 1) = omega arith in
     let more : HoldNumbers after (take (suc count + 1) (bound ∷ entries)) =
     numbers_more before after (bound ∷ entries) (suc count) (omega arith) h
-    (λ other. pushed other ∙ ap (λ (n : ℕ). number_in before other +ℤ cond (other == n) (number_at entries count) (pos 0))
+    (λ other. pushed other ∙ ap (λ (n : ℕ). number_in before other
+    +ℤ cond (other == n) (number_at entries count) (pos 0))
     e) in
     subst (λ (n : ℕ). HoldNumbers after (take n (bound ∷ entries))) f more
 
@@ -347,7 +357,8 @@ row_pushed program count rows cells row slack h less read e holds = record {
         let is : other ≡ row = sym (get_or_from_slice_get program.rows count other row at) ∙ sym read in
         holds place
         ∙ ap (λ (n : ℕ). number_at (row.bound ∷ row.entries) place +ℤ unit n place) e
-        ∙ ap (λ (r : ProgramRow). number_at (r.bound ∷ r.entries) place +ℤ unit (suc (length program.costs + count)) place)
+        ∙ ap (λ (r : ProgramRow). number_at (r.bound ∷ r.entries) place
+        +ℤ unit (suc (length program.costs + count)) place)
         (sym is)
 
 pub all_rows : (program : Program) (count : ℕ) (rows : List (Vec Cell Global)) → length program.rows ≤ count

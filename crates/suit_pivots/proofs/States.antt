@@ -1,5 +1,6 @@
 -- What is kept of a tableau tells of the next one after a pivot (`next_state`), which is made (`state_small`).
-use Rattle.std.proofs.Common.{◌≡◌, ◌≢◌, inl, inr, ℕ, zero, suc, ◌+◌, ◌*◌, ◌<◌, ◌≤◌, ◌^◌, List, [], ◌∷◌, length, drop, All}
+use Rattle.std.proofs.Common.{◌≡◌, ◌≢◌, inl, inr, ℕ, zero, suc, ◌+◌, ◌*◌, ◌<◌, ◌≤◌, ◌^◌, List, [], ◌∷◌, length, drop}
+use Rattle.std.proofs.Common.{All}
 use Rattle.std.proofs.Common.{Contains, Some, None, Bool, refl, sym, ap, ap₂, ◌∙◌, cond, subst, arith}
 use Rattle.std.specs.Prelude.{ℤ, pos, ◌-ℤ◌, ◌*ℤ◌, ◌<ℤ◌, int_lt, unsigned_abs, slice_get, position, nat_lt, not}
 use Rattle.std.specs.List.{position_or_len}
@@ -98,7 +99,8 @@ position_same p [] [] e h = refl
 position_same p [] (y ∷ ys) e h = absurd (omega arith)
 position_same p (x ∷ xs) [] e h = absurd (omega arith)
 position_same p (x ∷ xs) (y ∷ ys) e h =
-    ap₂ (λ (b : Bool) (n : ℕ). cond (not b) (1 + n) 0) (h 0) (position_same p xs ys (omega arith) (λ index. h (suc index)))
+    ap₂ (λ (b : Bool) (n : ℕ). cond (not b) (1 + n) 0) (h 0)
+    (position_same p xs ys (omega arith) (λ index. h (suc index)))
 
 pub entering_same : (objective : List ℤ) (tableau : Tableau) → length objective ≡ length tableau.objective
     → AreMultiples (number_at objective) (number_at tableau.objective)

@@ -1,6 +1,8 @@
 -- Rows of a tableau by what is kept of them.
-use Rattle.std.specs.Prelude.{◌≡◌, ◌≢◌, ◌⊎◌, ℕ, suc, ◌+◌, ◌*◌, ◌≤◌, ℤ, pos, ◌*ℤ◌, ◌-ℤ◌, ◌+ℤ◌, ◌<ℤ◌, ◌^◌, unsigned_abs, List, [], ◌∷◌}
-use Rattle.std.specs.Prelude.{length, slice_get, Option, Some, None, All, ◌==◌, if◌then◌else◌, Bool, ◌&&◌, ◌||◌, int_lt, nat_lt}
+use Rattle.std.specs.Prelude.{◌≡◌, ◌≢◌, ◌⊎◌, ℕ, suc, ◌+◌, ◌*◌, ◌≤◌, ℤ, pos, ◌*ℤ◌, ◌-ℤ◌, ◌+ℤ◌, ◌<ℤ◌, ◌^◌, unsigned_abs}
+use Rattle.std.specs.Prelude.{List, [], ◌∷◌}
+use Rattle.std.specs.Prelude.{length, slice_get, Option, Some, None, All, ◌==◌, if◌then◌else◌, Bool, ◌&&◌, ◌||◌, int_lt}
+use Rattle.std.specs.Prelude.{nat_lt}
 use Rattle.std.specs.Ordering.{int_eq}
 use Rattle.suit_num.specs.declared.fraction.Frac.{Frac}
 use Rattle.suit_pivots.specs.declared.lines.Line.{Line}

@@ -1,5 +1,6 @@
 -- A program without its zeros.
-use Rattle.std.specs.Prelude.{◌≡◌, ℕ, suc, ◌+◌, ◌-◌, nat_lt, ℤ, ◌+ℤ◌, ◌*ℤ◌, List, ◌∷◌, length, slice_get, Some, Vec, if◌then◌else◌}
+use Rattle.std.specs.Prelude.{◌≡◌, ℕ, suc, ◌+◌, ◌-◌, nat_lt, ℤ, ◌+ℤ◌, ◌*ℤ◌, List, ◌∷◌, length, slice_get, Some, Vec}
+use Rattle.std.specs.Prelude.{if◌then◌else◌}
 use Rattle.std.specs.Global.{Global}
 use Rattle.std.specs.Option.{MatchOption}
 use Rattle.suit_tableaus.specs.declared.program.Program.{Program}
@@ -45,7 +46,8 @@ AddsRow program index weight before after = (row : TableauRow)
 -- cells hold the bound and the entries of a program's row, and 1 in its slack column
 abbrev pub HoldProgramRow : Program → ℕ → List Cell → Type 0
 HoldProgramRow program index cells = (row : ProgramRow) → slice_get program.rows index ≡ Some row → (place : ℕ)
-    → number_in cells place ≡ number_at (row.bound ∷ row.entries) place +ℤ unit (suc (length program.costs + index)) place
+    → number_in cells place ≡ number_at (row.bound ∷ row.entries) place
+    +ℤ unit (suc (length program.costs + index)) place
 
 -- cells hold a column of a program, or behind these the slack column of a row
 abbrev pub HoldProgramColumn : Program → ℕ → List Cell → Type 0

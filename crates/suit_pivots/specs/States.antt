@@ -1,5 +1,6 @@
 -- What is kept of a tableau, and how a pivot changes it.
-use Rattle.std.specs.Prelude.{◌≡◌, ◌≢◌, ℕ, suc, ◌+◌, ◌≤◌, ◌^◌, ℤ, pos, ◌*ℤ◌, ◌-ℤ◌, ◌<ℤ◌, unsigned_abs, List, ◌∷◌, length, All}
+use Rattle.std.specs.Prelude.{◌≡◌, ◌≢◌, ℕ, suc, ◌+◌, ◌≤◌, ◌^◌, ℤ, pos, ◌*ℤ◌, ◌-ℤ◌, ◌<ℤ◌, unsigned_abs, List, ◌∷◌}
+use Rattle.std.specs.Prelude.{length, All}
 use Rattle.std.specs.Prelude.{slice_get, Some, None}
 use Rattle.suit_tableaus.specs.declared.program.Program.{Program}
 use Rattle.suit_tableaus.specs.declared.program.ProgramRow.{ProgramRow}
@@ -55,7 +56,8 @@ pub record IsTop (column : ℕ) (numbers : List ℤ) (top : Line) : Type 0 where
   pub small : top.size ≤ 2 ^ 62
 
 -- the lines after a pivot
-pub record AreChanged (lines : List Line) (entries : List ℤ) (leaving : ℕ) (top : Line) (nexts : List Line) : Type 0 where
+pub record AreChanged (lines : List Line) (entries : List ℤ) (leaving : ℕ) (top : Line) (nexts : List Line) : Type
+    0 where
   pub count : length nexts ≡ length lines
   pub leaver : slice_get nexts leaving ≡ Some top
   pub others : (index : ℕ) (line next : Line) → index ≢ leaving → slice_get lines index ≡ Some line

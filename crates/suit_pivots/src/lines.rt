@@ -1,6 +1,7 @@
 //! What is kept of a tableau's rows: of each, by some positive multiple, its entry in its basic
 //! column, its bound, and a size that no number of it is above.
-ghost use Rattle.std.specs.Prelude.{◌≡◌, ℕ, ◌+◌, ◌*◌, ◌<◌, ◌≤◌, ◌^◌, ℤ, pos, ◌*ℤ◌, ◌-ℤ◌, ◌<ℤ◌, unsigned_abs, List, length};
+ghost use Rattle.std.specs.Prelude.{◌≡◌, ℕ, ◌+◌, ◌*◌, ◌<◌, ◌≤◌, ◌^◌, ℤ, pos, ◌*ℤ◌, ◌-ℤ◌, ◌<ℤ◌, unsigned_abs, List};
+ghost use Rattle.std.specs.Prelude.{length};
 ghost use Rattle.std.specs.Prelude.{fold, None, Some, slice_get, IsTrue, IfSome};
 ghost use Rattle.std.specs.Prelude.{int_lt, ◌||◌, ◌&&◌};
 ghost use Rattle.std.specs.Ordering.{int_eq};

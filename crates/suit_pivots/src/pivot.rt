@@ -1,5 +1,6 @@
 //! One pivot.
-ghost use Rattle.std.specs.Prelude.{◌≡◌, ℕ, suc, ◌+◌, ◌<◌, ℤ, pos, List, length, drop, position, int_lt, slice_get, Some, None, All};
+ghost use Rattle.std.specs.Prelude.{◌≡◌, ℕ, suc, ◌+◌, ◌<◌, ℤ, pos, List, length, drop, position, int_lt, slice_get};
+ghost use Rattle.std.specs.Prelude.{Some, None, All};
 ghost use Rattle.std.specs.Prelude.{IsTrue, IfOk, IfSome};
 ghost use Rattle.suit_tableaus.specs.declared.program.Program.{Program};
 ghost use Rattle.suit_tableaus.specs.Points.{number_at};

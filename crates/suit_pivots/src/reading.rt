@@ -1,5 +1,6 @@
 //! What is read from the last tableau.
-ghost use Rattle.std.specs.Prelude.{◌≡◌, ℕ, ◌<◌, ◌≤◌, ℤ, pos, ◌*ℤ◌, drop, length, All, slice_get, Some, IfOk, IfSome, OnOk};
+ghost use Rattle.std.specs.Prelude.{◌≡◌, ℕ, ◌<◌, ◌≤◌, ℤ, pos, ◌*ℤ◌, drop, length, All, slice_get, Some, IfOk, IfSome};
+ghost use Rattle.std.specs.Prelude.{OnOk};
 ghost use Rattle.suit_num.specs.declared.fraction.Frac.{Frac};
 ghost use Rattle.suit_tableaus.specs.Points.{number_at};
 ghost use Rattle.suit_tableaus.specs.Multiples.{IsSmall};

@@ -1,5 +1,6 @@
 //! The run from the first tableau to its end.
-ghost use Rattle.std.specs.Prelude.{◌≡◌, ℕ, suc, ◌+◌, ◌≤◌, ℤ, pos, neg_ℤ, ◌^◌, ◌∷◌, ◌++◌, map, replicate, unsigned_abs, length, All, IfOk, IfSome};
+ghost use Rattle.std.specs.Prelude.{◌≡◌, ℕ, suc, ◌+◌, ◌≤◌, ℤ, pos, neg_ℤ, ◌^◌, ◌∷◌, ◌++◌, map, replicate, unsigned_abs};
+ghost use Rattle.std.specs.Prelude.{length, All, IfOk, IfSome};
 ghost use Rattle.suit_tableaus.specs.Programs.{IsWellFormed};
 ghost use Rattle.suit_tableaus.specs.Runs.{run_end, AtOptimum};
 ghost use Rattle.suit_tableaus.specs.Multiples.{IsSmall};

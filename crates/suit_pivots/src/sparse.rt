@@ -1,5 +1,6 @@
 //! A program's first rows and its columns without their zeros.
-ghost use Rattle.std.specs.Prelude.{◌≡◌, ℕ, suc, ◌+◌, ℤ, pos, ◌+ℤ◌, ◌∷◌, length, slice_get, Some, All, IfOk, IfSome, IsTrue};
+ghost use Rattle.std.specs.Prelude.{◌≡◌, ℕ, suc, ◌+◌, ℤ, pos, ◌+ℤ◌, ◌∷◌, length, slice_get, Some, All, IfOk, IfSome};
+ghost use Rattle.std.specs.Prelude.{IsTrue};
 ghost use Rattle.std.specs.Prelude.{◌==◌, if◌then◌else◌, OnOk};
 ghost use Rattle.suit_tableaus.specs.Points.{number_at};
 ghost use Rattle.suit_tableaus.specs.Programs.{IsWellFormed, column_entries};

@@ -7,7 +7,8 @@ use Rattle.suit_tableaus.specs.declared.ends.SimplexEnd.{SimplexEnd}
 use Rattle.suit_tableaus.specs.Programs.{IsWellFormed}
 use Rattle.suit_tableaus.specs.Tableaus.{Tableau, first_tableau}
 use Rattle.suit_tableaus.specs.Pivots.{entering}
-use Rattle.suit_tableaus.specs.Runs.{Next, Last, Ray, Wide, To, next, RunEnd, AtOptimum, AtBudget, AtWide, AtRay, run_on}
+use Rattle.suit_tableaus.specs.Runs.{Next, Last, Ray, Wide, To, next, RunEnd, AtOptimum, AtBudget, AtWide, AtRay}
+use Rattle.suit_tableaus.specs.Runs.{run_on}
 use Rattle.suit_tableaus.specs.Runs.{run_within, run_end}
 use Rattle.suit_tableaus.specs.Ends.{Tells, IsOptimumOf}
 use Rattle.suit_tableaus.specs.Optima.{IsPrimalOptimum, IsDualOptimum}

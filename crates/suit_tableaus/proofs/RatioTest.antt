@@ -66,7 +66,8 @@ pub kept_first : (column : ℕ) (row : TableauRow) → int_lt (pos 0) (entry row
 unfolding kept
 kept_first column row h = cond-true _ (Some row) None h
 
-pub kept_none : (column : ℕ) (row : TableauRow) → int_lt (pos 0) (entry row column) ≡ false → kept column None row ≡ None
+pub kept_none : (column : ℕ) (row : TableauRow) → int_lt (pos 0) (entry row column) ≡ false
+    → kept column None row ≡ None
 unfolding kept
 kept_none column row h = cond-false _ (Some row) None h
 

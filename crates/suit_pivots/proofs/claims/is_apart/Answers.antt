@@ -7,7 +7,8 @@ use Rattle.suit_tableaus.specs.Points.{number_at}
 use Rattle.suit_pivots.specs.declared.lines.Line.{Line}
 use Rattle.suit_pivots.proofs.ClaimSums.{none_apart, own_apart, other_apart, all_apart}
 use Rattle.suit_pivots.proofs.claims.is_apart.Goals as goal
-use Rattle.suit_pivots.proofs.claims.is_apart.Goals.{then-index-leaving+else-not-is_positive, else-index-leaving+else-not-is_same_short}
+use Rattle.suit_pivots.proofs.claims.is_apart.Goals.{then-index-leaving+else-not-is_positive}
+use Rattle.suit_pivots.proofs.claims.is_apart.Goals.{else-index-leaving+else-not-is_same_short}
 
 pub loop-index-init : goal.loop-index-init
 loop-index-init c = none_apart _ _ _

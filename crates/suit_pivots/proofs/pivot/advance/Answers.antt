@@ -11,7 +11,8 @@ use Rattle.suit_pivots.proofs.Advancing.{advanced, ended}
 use Rattle.suit_pivots.proofs.pivot.advance.Goals as goal
 
 pub returns-in_default-clause-value : goal.returns-in_default-clause-value
-returns-in_default-clause-value c = λ program tableau is state. ended program c.args.lines.now c.args.objective.now tableau
+returns-in_default-clause-value c =
+    λ program tableau is state. ended program c.args.lines.now c.args.objective.now tableau
     state c.in_default.ensures
 
 pub returns-clause-value : goal.returns-clause-value
@@ -32,7 +33,8 @@ returns-clause-value c = λ program tableau is state.
     let leaves : (column : ℕ) (rows : List TableauRow) → AreShown column c.args.lines.now c.deref.result.now rows
     → chosen rows (Some c.in-Some-leaving.row) ≡ fold (kept column) None rows =
     rw e2 at (rw c.in-Some-leaving.is at c.leaving.ensures.value) in
-    let solved : AreSolved program c.sum_rows.new.numbers = c.sum_rows.ensures.value c.if-not-sum_rows.false program is in
+    let solved : AreSolved program c.sum_rows.new.numbers =
+    c.sum_rows.ensures.value c.if-not-sum_rows.false program is in
     let width : length c.args.objective.now ≡ suc (length c.sum_rows.new.numbers) =
     omega (arith, long, c.if-objective-len.false, c.requires.width) in
     let leaver_facts = rw c.in-Some-leaver_of.is at c.leaver_of.ensures in

@@ -11,7 +11,8 @@ pub loop-made-init : goal.loop-made-init
 loop-made-init c =
     let facts = rw c.in-Some-3.is at c.in_ok-objective.ensures in
     let sparse : IsSparse c.args.program.now c.in-Some.sparse = rw c.in-Some.is at c.in_ok-sparse.ensures in
-    let rows : c.len-rows.result ≡ length c.args.program.now.rows = c.len-rows.ensures ∙ omega (arith, c.in-Some.sparse.rows.ok.0, sparse.row_count) in
+    let rows : c.len-rows.result ≡ length c.args.program.now.rows = c.len-rows.ensures
+    ∙ omega (arith, c.in-Some.sparse.rows.ok.0, sparse.row_count) in
     first_run c.args.program.now c.args.pivots c.in-Some-2.lines.items c.in-Some-3.objective.items c.requires
     (first_state c.args.program.now c.in-Some-2.lines.items c.in-Some-3.objective.items c.requires
     (rw c.in-Some-2.is at c.in_ok-lines.ensures) (rw (c.items.ensures, rows) at facts.value) facts.small)

@@ -7,7 +7,8 @@ use Rattle.suit_pivots.proofs.FastRuns.{first_two, cost_more, costs_done, zero_m
 use Rattle.suit_pivots.proofs.running.first_objective.Goals as goal
 
 pub loop-cost-init : goal.loop-cost-init
-loop-cost-init c = first_two _ (rw c.new-objective.ensures.items at (rw c.in_ok-push.ensures.items at c.in_ok-push-2.ensures.items))
+loop-cost-init c = first_two _
+    (rw c.new-objective.ensures.items at (rw c.in_ok-push.ensures.items at c.in_ok-push-2.ensures.items))
 
 pub loop-cost-preserved : goal.loop-cost-preserved
 loop-cost-preserved c =
@@ -27,7 +28,8 @@ loop-row-init c = costs_done c.args.costs.now c.loop-cost.objective.items c.loop
     c.loop-cost.invariant
 
 pub loop-row-preserved : goal.loop-row-preserved
-loop-row-preserved c = rw c.in_ok-push-4.ensures.items (zero_more c.args.costs.now c.loop-row.objective.items c.loop-row.row c.loop-row.invariant)
+loop-row-preserved c = rw c.in_ok-push-4.ensures.items
+    (zero_more c.args.costs.now c.loop-row.objective.items c.loop-row.row c.loop-row.invariant)
 
 pub returns-clause-value : goal.returns-clause-value
 returns-clause-value c =

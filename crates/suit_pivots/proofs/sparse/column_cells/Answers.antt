@@ -17,7 +17,8 @@ loop-index-preserved c =
     let entry_fits : FitsSigned w128 c.entry.result = search rules in
     column_more c.loop-index.cells.items c.push_cell.new.cells.items c.args.rows.now c.args.column c.loop-index.index
     c.index-rows-index.result c.loop-index-test.true c.loop-index.invariant
-    (rw (← c.index-rows-index.is) (rw c.entry.ensures at (simp to_z-of_z at (c.in_ok-push_cell.ensures c.if-not-branch.false))))
+    (rw (← c.index-rows-index.is)
+    (rw c.entry.ensures at (simp to_z-of_z at (c.in_ok-push_cell.ensures c.if-not-branch.false))))
 
 pub returns : goal.returns
 returns c = all_numbers c.loop-index.cells.items (column_entries c.args.rows.now c.args.column) c.loop-index.index
