@@ -17,12 +17,11 @@ use Rattle.suit_answer.specs.Reading.{answer_read}
 use Rattle.suit_check.specs.Verdicts.{Finding, Valid, Plan, Defence, Least, Most, verdict_of}
 use Rattle.suit_check.specs.VerdictLaws.{IsMet}
 use Rattle.suit_check.proofs.VerdictsMet.{valid_is_met}
-use Rattle.suit_lift.specs.Certified.{IsCertified}
 use Rattle.suit_lift.proofs.DefenceGains.{defences_hold}
 use Rattle.suit_lift.proofs.OneValue.{met_is_certified}
 use Rattle.suit_lift.proofs.PlanGains.{plans_earn}
 use Rattle.suit_top.specs.declared.reply.Reply.{Reply}
-use Rattle.suit_top.specs.declared.status.Status.TheVariants.{Done, NotValid, Nodes, Usage}
+use Rattle.suit_top.specs.declared.status.Status.TheVariants.{Done, Nodes, Usage}
 use Rattle.suit_top.specs.Commands.Checking.{Checks, due_found, due_of_answer, due_of_answer_read, valid_text}
 use Rattle.suit_top.specs.Dues.{Due}
 use Rattle.suit_top.specs.Refusals.{nodes_line}

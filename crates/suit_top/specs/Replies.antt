@@ -1,7 +1,7 @@
 -- What a command makes of its input, and what becomes of it.
 use Rattle.std.specs.Prelude.{◌≡◌, ◌<◌, ◌≤◌, ℕ, Option, Some, [], IfSome, IsTrue, length, take}
 use Rattle.std.specs.Io.KnownBytes.{Appends, Consumes}
-use Rattle.suit_cards.specs.Cards.{Text}
+use Rattle.suit_ports.specs.Bytes.{Bytes}
 use Rattle.suit_top.specs.declared.commands.Command.{Command}
 use Rattle.suit_top.specs.declared.reply.Reply.{Reply}
 use Rattle.suit_top.specs.declared.status.Status.{Status}
@@ -11,9 +11,9 @@ use Rattle.suit_top.specs.Owing.{due_for}
 use Rattle.suit_top.specs.Texts.{text_bytes}
 
 -- a reply to a command that reads its input, from what its source had left, where it tells that, to what it has left
-pub record IsReply (command : Command) (before after : Option Text) (reply : Reply) : Type 0 where
+pub record IsReply (command : Command) (before after : Option Bytes) (reply : Reply) : Type 0 where
   pub reads : IsTrue (reads_input command)
-  pub input : Text
+  pub input : Bytes
   pub is_input : IfSome before (λ bytes. input ≡ bytes)
   pub status_due : reply.status ≡ (due_for (Some command) input).status
   pub text_due : text_bytes reply.text ≡ (due_for (Some command) input).text
@@ -22,19 +22,19 @@ pub record IsReply (command : Command) (before after : Option Text) (reply : Rep
   pub all_read : reply.status ≡ Done → IfSome before (λ _. after ≡ Some [])
 
 -- a source failed before it had given more than the command takes
-pub record Failed (command : Command) (before after : Option Text) : Type 0 where
+pub record Failed (command : Command) (before after : Option Bytes) : Type 0 where
   pub reads : IsTrue (reads_input command)
-  pub taken : Text
+  pub taken : Bytes
   pub took : Consumes before after taken
   pub within : length taken ≤ limit_of command
 
 -- the whole text was written, and the run ends with its status
-pub record Delivered (reply : Reply) (before after : Option Text) (status : Status) : Type 0 where
+pub record Delivered (reply : Reply) (before after : Option Bytes) (status : Status) : Type 0 where
   pub is_status : status ≡ reply.status
   pub whole : Appends before after (text_bytes reply.text)
 
 -- the sink stopped before it had the whole text
-pub record Stopped (reply : Reply) (before after : Option Text) (status : Status) : Type 0 where
+pub record Stopped (reply : Reply) (before after : Option Bytes) (status : Status) : Type 0 where
   pub is_write_fault : status ≡ WriteFault
   pub sent : ℕ
   pub not_whole : sent < length (text_bytes reply.text)

@@ -3,6 +3,7 @@ use Rattle.std.specs.Prelude.{◌≡◌, ℕ, ◌<◌, ◌≤◌, ◌⊎◌, ◌
 use Rattle.std.specs.Prelude.{length, take, Option, Some, IsTrue, IfSome, IsSome, IsNone, MatchBool}
 use Rattle.std.specs.Io.KnownBytes.{Keeps, Appends, Consumes}
 use Rattle.suit_cards.specs.Cards.{Text}
+use Rattle.suit_ports.specs.Bytes.{Bytes}
 use Rattle.suit_ports.specs.Counts.{Rose}
 use Rattle.suit_ports.specs.Room.{KeepsRoom, IsFull}
 use Rattle.suit_top.specs.declared.status.Status.{Status}
@@ -14,23 +15,23 @@ use Rattle.suit_top.specs.Owing.{Owes}
 -- what both ports tell at one moment
 pub record Ports : Type 0 where
   -- the bytes that the source has left, where it tells them
-  pub left : Option Text
+  pub left : Option Bytes
   pub source_faults : ℕ
   -- the bytes that the sink holds, where it tells them
-  pub written : Option Text
+  pub written : Option Bytes
   -- the whole room of the sink, where it tells that
   pub room : Option ℕ
   pub sink_faults : ℕ
   pub empty_puts : ℕ
 
 -- the input of a run: all that the source had left, where it tells that; none for words that read none
-abbrev pub IsInput : List Text → Ports → Text → Type 0
+abbrev pub IsInput : List Text → Ports → Bytes → Type 0
 IsInput words before input =
     MatchBool (words_read (command_of words)) (IfSome before.left (λ bytes. input ≡ bytes)) (input ≡ [])
 
 -- the run ended as it owes: its whole text was written, and nothing else
 pub record Ended (words : List Text) (before after : Ports) (status : Status) : Type 0 where
-  pub input : Text
+  pub input : Bytes
   pub text : Text
   pub is_input : IsInput words before input
   pub owed : Owes words input status text
@@ -47,7 +48,7 @@ pub record SourceFailed (words : List Text) (before after : Ports) (status : Sta
   pub named : command_of words ≡ Some command
   pub reads : IsTrue (reads_input command)
   pub rose : Rose before.source_faults after.source_faults
-  pub taken : Text
+  pub taken : Bytes
   pub took : Consumes before.left after.left taken
   pub within : length taken ≤ limit_of command
   pub nothing_written : Keeps before.written after.written
@@ -56,7 +57,7 @@ pub record SourceFailed (words : List Text) (before after : Ports) (status : Sta
 pub record SinkFailed (words : List Text) (before after : Ports) (status : Status) : Type 0 where
   pub is_write_fault : status ≡ WriteFault
   pub rose : Rose before.sink_faults after.sink_faults ⊎ Rose before.empty_puts after.empty_puts
-  pub input : Text
+  pub input : Bytes
   pub text : Text
   pub owed_status : Status
   pub sent : ℕ
