@@ -11,7 +11,7 @@ pub const MOST_MOVES: u8 = 52;
 pub const MOST_TOTAL: u64 = 10_400_600;
 
 /// The most nodes that a question may allow.
-pub const MOST_NODES: u32 = 400_000;
+pub const MOST_NODES: u32 = 4_000_000;
 
 /// The most pivots that a question may allow.
 pub const MOST_PIVOTS: u32 = 1_000_000;

@@ -78,7 +78,7 @@ fn writes_what_it_reads(rt: HostRuntime) -> Result<(), Fail> {
     let plain =
         "north A\nsouth 2\nstart either\nregain either\nentries free free\nvacant 13 13\nwest 0 13\ngoal 1\nnodes 200000\npivots 100000\nend\n";
     let full =
-        "north T\nsouth -\nstart N\nregain S\nentries 0 13\nvacant 12 7\nwest 2 9\ngoal tricks\nnodes 400000\npivots 0\nend\n";
+        "north T\nsouth -\nstart N\nregain S\nentries 0 13\nvacant 12 7\nwest 2 9\ngoal tricks\nnodes 4000000\npivots 0\nend\n";
     for (text, want) in [
         ("north A\nsouth 2\ngoal 1\nend\n", plain),
         (
@@ -86,7 +86,7 @@ fn writes_what_it_reads(rt: HostRuntime) -> Result<(), Fail> {
             plain,
         ),
         (
-            "pivots 0\nnodes 000400000\nGoal Tricks\nwest 02 9\nvacant 12 7\nentries 0 13\nregain s\nstart n\nsouth -\nnorth 10\nend\n\n# more\n",
+            "pivots 0\nnodes 004000000\nGoal Tricks\nwest 02 9\nvacant 12 7\nentries 0 13\nregain s\nstart n\nsouth -\nnorth 10\nend\n\n# more\n",
             full,
         ),
     ] {
