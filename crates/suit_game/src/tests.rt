@@ -104,7 +104,7 @@ fn invalid_questions(rt: HostRuntime) -> Result<(), Fail> {
         },
         Question { nodes: 0, ..tenace },
         Question {
-            nodes: 400_001,
+            nodes: 4_000_001,
             ..tenace
         },
         Question {
