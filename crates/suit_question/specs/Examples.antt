@@ -24,7 +24,7 @@ pub record LineFaults : Type 0 where
   pub left_first : HasFault (codes "entries 14 x\n") Range 1
   pub returns : HasFault (codes "goal 2\r\r\nend\n") Number 1
   pub last_return : HasFault (codes "end\r") Word 1
-  pub skipped : HasFault (codes "# a\r\n\n \t\r\nnodes 400001\n") Range 4
+  pub skipped : HasFault (codes "# a\r\n\n \t\r\nnodes 4000001\n") Range 4
 
 -- faults of the whole
 pub record WholeFaults : Type 0 where

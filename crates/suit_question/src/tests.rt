@@ -54,7 +54,7 @@ fn tells_the_first_fault(rt: HostRuntime) {
         ("entries 14 x\n", QuestionKind::Range, 1),
         ("entries x 14\n", QuestionKind::Number, 1),
         ("goal 0000000001\n", QuestionKind::Number, 1),
-        ("# a\n\n \t\nnodes 400001\n", QuestionKind::Range, 4),
+        ("# a\n\n \t\nnodes 4000001\n", QuestionKind::Range, 4),
         ("nodes 0\n", QuestionKind::Range, 1),
         ("north 2\x0b\n", QuestionKind::Rank, 1),
         ("\nnorth A\nsouth 2\nend", QuestionKind::NoLine, 4),

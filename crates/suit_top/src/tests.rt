@@ -138,7 +138,7 @@ fn weights_and_refusals(rt: HostRuntime) -> Result<(), Fail> {
         ),
         (
             "solve",
-            "north A\nsouth 2\ngoal 1\nnodes 400001\nend\n",
+            "north A\nsouth 2\ngoal 1\nnodes 4000001\nend\n",
             3,
             "malformed 9 at line 4\n",
         ),
