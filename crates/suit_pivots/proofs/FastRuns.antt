@@ -2,7 +2,7 @@
 use Rattle.std.proofs.Common.{◌≡◌, inl, inr, ℕ, zero, suc, ◌+◌, ◌<◌, ◌≤◌, ◌^◌, List, [], ◌∷◌, ◌++◌, length, take, map}
 use Rattle.std.proofs.Common.{All}
 use Rattle.std.proofs.Common.{Vec, Global, replicate, get_or, Option, Some, None, is_some, refl, sym, ap, ◌∙◌, subst}
-use Rattle.std.proofs.Common.{arith}
+use Rattle.std.proofs.Common.{arith, Bool, true, false, cond}
 use Rattle.std.specs.Prelude.{ℤ, pos, neg_ℤ, ◌+ℤ◌, ◌==◌, max, unsigned_abs, slice_get, Result, Ok, Err, IfOk, IfSome}
 use Rattle.std.specs.Prelude.{position, int_lt, drop}
 use Rattle.std.proofs.lemmas.Int.{ints}
@@ -13,6 +13,9 @@ use Rattle.std.proofs.lemmas.List.Elements.{All-nil, All-cons, All-append}
 use Rattle.std.proofs.lemmas.Option.{get_or_from_slice_get}
 use Rattle.suit_tableaus.specs.declared.program.Program.{Program}
 use Rattle.suit_tableaus.specs.declared.program.ProgramRow.{ProgramRow}
+use Rattle.suit_tableaus.specs.declared.sparse.Entry.{Entry}
+use Rattle.suit_tableaus.specs.Sparse.{part_of, sum_in}
+use Rattle.suit_tableaus.proofs.SparseSums.{sum_in_more}
 use Rattle.suit_tableaus.specs.declared.ends.Optimum.{Optimum}
 use Rattle.suit_tableaus.specs.declared.ends.SimplexEnd.{SimplexEnd}
 use Rattle.suit_tableaus.specs.Points.{number_at}
@@ -128,48 +131,43 @@ first_state program lines objective well first is small = record {
 
 -- ---- the loops
 
-pub record IsSizeBelow (numbers : List ℤ) (count size : ℕ) : Type 0 where
-  pub below : (index : ℕ) → index < count → unsigned_abs (number_at numbers index) ≤ size
+-- a size that no column's sum of so many entries is above
+pub record IsSizeBelow (entries : List Entry) (count size : ℕ) : Type 0 where
+  pub below : (column : ℕ) → unsigned_abs (sum_in (take count entries) column) ≤ size
   pub some : 1 ≤ size
   pub small : size ≤ 2 ^ 62
 
-pub no_size : (numbers : List ℤ) → IsSizeBelow numbers 0 1
-no_size numbers = record { below = λ index less. absurd (omega arith); some = omega arith; small = omega arith }
+pub no_size : (entries : List Entry) → IsSizeBelow entries 0 1
+unfolding sum_in
+no_size entries = record { below = λ column. omega (arith, ints); some = omega arith; small = omega arith }
 
-pub more_size : (numbers : List ℤ) (count size : ℕ) (number : ℤ) → IsSizeBelow numbers count size
-    → number ≡ number_at numbers count → IsSmall number
-    → IsSizeBelow numbers (count + 1) (max size (unsigned_abs number))
-more_size numbers count size number h e small = record {
-  below = λ index less.
-      elim (cases_eq index count) [
-        | inl here ↦ first (unsigned_abs (number_at numbers index)) (unsigned_abs number) size
-            (ap (λ (n : ℕ). unsigned_abs (number_at numbers n)) here ∙ ap unsigned_abs (sym e))
-        | inr differs ↦ second (unsigned_abs (number_at numbers index)) size (unsigned_abs number)
-            (h.below index (omega arith))
-      ];
-  some = second 1 size (unsigned_abs number) h.some;
-  small = both size (unsigned_abs number) h.small small;
+part_size : (entry : Entry) (column : ℕ) → unsigned_abs (part_of entry column) ≤ unsigned_abs entry.number
+part_size entry column = by_test (column == entry.column)
+  where
+    by_test : (b : Bool) → unsigned_abs (cond b entry.number (pos 0)) ≤ unsigned_abs entry.number
+    by_test true = omega arith
+    by_test false = omega (arith, ints)
+
+pub more_size : (entries : List Entry) (count size : ℕ) (other : Entry) (sum : ℕ) → count < length entries
+    → IsSizeBelow entries count size → sum ≡ size + unsigned_abs (get_or entries count other).number → sum ≤ 2 ^ 62
+    → IsSizeBelow entries (count + 1) sum
+more_size entries count size other sum less h e small = record {
+  below = λ column. rw (sum_in_more entries count other column less)
+      (both (part_of (get_or entries count other) column) (sum_in (take count entries) column) size
+      (unsigned_abs (get_or entries count other).number) sum (part_size (get_or entries count other) column)
+      (h.below column) e);
+  some = let low = h.some in omega arith;
+  small = small;
 }
   where
-    first : (a b c : ℕ) → a ≡ b → a ≤ max c b
-    first a b c e = omega arith
+    both : (p s : ℤ) (size number sum : ℕ) → unsigned_abs p ≤ number → unsigned_abs s ≤ size → sum ≡ size + number
+        → unsigned_abs (p +ℤ s) ≤ sum
+    both p s size number sum h k e = omega (arith, ints)
 
-    second : (a b c : ℕ) → a ≤ b → a ≤ max b c
-    second a b c l = omega arith
-
-    both : (a b : ℕ) → a ≤ 2 ^ 62 → b ≤ 2 ^ 62 → max a b ≤ 2 ^ 62
-    both a b h k = omega arith
-
-pub all_size : (numbers : List ℤ) (count size : ℕ) → length numbers ≤ count → IsSizeBelow numbers count size
-    → (index : ℕ) → unsigned_abs (number_at numbers index) ≤ size
-all_size numbers count size past h index =
-    elim (cases_lt index (length numbers)) [
-      | inl less ↦ h.below index (omega arith)
-      | inr over ↦ subst (λ (z : ℤ). unsigned_abs z ≤ size) (sym (get_or_past numbers index (pos 0) over)) (low size)
-    ]
-  where
-    low : (size : ℕ) → unsigned_abs (pos 0) ≤ size
-    low size = omega (arith, ints)
+pub all_size : (entries : List Entry) (count size : ℕ) → length entries ≤ count → IsSizeBelow entries count size
+    → (column : ℕ) → unsigned_abs (sum_in entries column) ≤ size
+all_size entries count size past h column =
+    subst (λ (xs : List Entry). unsigned_abs (sum_in xs column) ≤ size) (take_all count entries past) (h.below column)
 
 pub first_line_made : (columns index : ℕ) (row : ProgramRow) (line : Line) (size : ℕ) (bound : ℤ)
     → line.basic ≡ columns + index → line.own ≡ pos 1 → line.bound ≡ bound → line.size ≡ max size (unsigned_abs bound)

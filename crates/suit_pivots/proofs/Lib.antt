@@ -9,5 +9,7 @@ pub mod PrimitiveRows
 pub mod Readings
 pub mod RowClaims
 pub mod FastRuns
+pub mod SparseColumns
 pub mod SparsePrograms
+pub mod SparseRows
 pub mod States

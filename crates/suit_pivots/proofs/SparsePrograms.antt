@@ -258,71 +258,7 @@ sparse_is program sparse well rows columns = record {
     by_found None P h = tt
     by_found (Some cells) P h = h cells refl
 
--- ---- cells of so many numbers
-
-pub record HoldNumbers (cells : List Cell) (numbers : List ℤ) : Type 0 where
-  pub each : (index : ℕ) → number_in cells index ≡ number_at numbers index
-
-pub no_numbers : HoldNumbers [] []
-unfolding number_in
-no_numbers = record { each = λ index. refl }
-
-pub numbers_more : (before after : List Cell) (numbers : List ℤ) (count : ℕ) → count < length numbers
-    → HoldNumbers before (take count numbers)
-    → ((other : ℕ) → number_in after other
-    ≡ number_in before other +ℤ cond (other == count) (number_at numbers count) (pos 0))
-    → HoldNumbers after (take (count + 1) numbers)
-numbers_more before after numbers count less h pushed = record {
-  each = λ index. pushed index
-      ∙ ap (λ (z : ℤ). z +ℤ cond (index == count) (number_at numbers count) (pos 0)) (h.each index)
-      ∙ sym (number_at_more numbers count index less);
-}
-
-pub column_more : (before after : List Cell) (rows : List ProgramRow) (column count : ℕ) (other : ProgramRow)
-    → count < length rows → HoldNumbers before (take count (column_entries rows column))
-    → ((place : ℕ) → number_in after place ≡ number_in before place
-    +ℤ cond (place == count) (number_at (get_or rows count other).entries column) (pos 0))
-    → HoldNumbers after (take (count + 1) (column_entries rows column))
-column_more before after rows column count other less h pushed =
-    let inside : count < length (column_entries rows column) =
-    omega (arith, length-map rows (λ (r : ProgramRow). number_at r.entries column)) in
-    numbers_more before after (column_entries rows column) count inside h
-    (λ place. pushed place ∙ ap (λ (z : ℤ). number_in before place +ℤ cond (place == count) z (pos 0))
-    (sym (get_or-map (λ (r : ProgramRow). number_at r.entries column) rows count other (pos 0) less)))
-
-pub all_numbers : (cells : List Cell) (numbers : List ℤ) (count : ℕ) → length numbers ≤ count
-    → HoldNumbers cells (take count numbers) → (index : ℕ) → number_in cells index ≡ number_at numbers index
-all_numbers cells numbers count past h index = h.each index
-    ∙ ap (λ (xs : List ℤ). number_at xs index) (take_all count numbers past)
-
-pub row_more : (before after : List Cell) (bound : ℤ) (entries : List ℤ) (count : ℕ) → count < length entries
-    → HoldNumbers before (bound ∷ take count entries)
-    → ((other : ℕ) → number_in after other ≡ number_in before other
-    +ℤ cond (other == count + 1) (number_at entries count) (pos 0))
-    → HoldNumbers after (bound ∷ take (count + 1) entries)
-row_more before after bound entries count less h pushed =
-    let e : count + 1 ≡ suc count = omega arith in
-    let f : suc count + 1 ≡ suc (count + 1) = omega arith in
-    let more : HoldNumbers after (take (suc count + 1) (bound ∷ entries)) =
-    numbers_more before after (bound ∷ entries) (suc count) (omega arith) h
-    (λ other. pushed other ∙ ap (λ (n : ℕ). number_in before other
-    +ℤ cond (other == n) (number_at entries count) (pos 0))
-    e) in
-    subst (λ (n : ℕ). HoldNumbers after (take n (bound ∷ entries))) f more
-
-pub first_number : (after : List Cell) (bound : ℤ)
-    → ((other : ℕ) → number_in after other ≡ number_in [] other +ℤ cond (other == 0) bound (pos 0))
-    → HoldNumbers after (bound ∷ [])
-unfolding number_in
-first_number after bound h = record { each = λ index. h index ∙ by_index index }
-  where
-    alone : (a : ℤ) → pos 0 +ℤ a ≡ a
-    alone a = omega (arith, ints)
-
-    by_index : (index : ℕ) → pos 0 +ℤ cond (index == 0) bound (pos 0) ≡ number_at (bound ∷ []) index
-    by_index zero = alone bound
-    by_index (suc index) = ap (λ (z : ℤ). pos 0 +ℤ z)
-        (cond-false (suc index == 0) bound (pos 0) (ne_eqb (suc index) 0 (λ (e : suc index ≡ 0). absurd (omega arith))))
+-- ---- a slack column's cell
 
 pub one_cell : (cell : Cell) (index : ℕ) → number_in (cell ∷ []) index ≡ number_of cell index
 unfolding number_in
@@ -376,9 +312,6 @@ pub record AreColumnsBelow (program : Program) (count : ℕ) (columns : List (Ve
   pub each : (column : ℕ) (cells : Vec Cell Global) → slice_get columns column ≡ Some cells
       → HoldProgramColumn program column cells.items
 
-pub no_columns : (program : Program) → AreColumnsBelow program 0 []
-no_columns program = record { same = refl; each = λ column cells at. absurd (cc) }
-
 less_test : (a b : ℕ) → a < b → nat_lt a b ≡ true
 less_test a b h = grind arith
 
@@ -393,15 +326,6 @@ one_column program count columns cells h here = record {
   each = pushed_each (λ n (c : Vec Cell Global). HoldProgramColumn program n c.items) columns cells h.each
       (subst (λ (n : ℕ). HoldProgramColumn program n cells.items) (sym h.same) here);
 }
-
-pub column_pushed : (program : Program) (count : ℕ) (columns : List (Vec Cell Global)) (cells : Vec Cell Global)
-    → AreColumnsBelow program count columns → count < length program.costs
-    → ((index : ℕ) → number_in cells.items index ≡ number_at (column_entries program.rows count) index)
-    → AreColumnsBelow program (count + 1) (columns ++ cells ∷ [])
-column_pushed program count columns cells h less holds =
-    one_column program count columns cells h
-    (λ index. holds index ∙ sym (cond-true (nat_lt count (length program.costs)) _ _
-    (less_test count (length program.costs) less)))
 
 pub slack_pushed : (program : Program) (count : ℕ) (columns : List (Vec Cell Global)) (cells : Vec Cell Global)
     → AreColumnsBelow program (length program.costs + count) columns
@@ -423,11 +347,6 @@ slack_pushed program count columns cells h holds =
     over : (a b : ℕ) → a ≤ a + b
     over a b = omega arith
 
-pub first_slack : (program : Program) (count : ℕ) (columns : List (Vec Cell Global)) → length program.costs ≤ count
-    → count ≤ length program.costs → AreColumnsBelow program count columns
-    → AreColumnsBelow program (length program.costs + 0) columns
-first_slack program count columns past low h = subst (λ (n : ℕ). AreColumnsBelow program n columns) (omega arith) h
-
 pub all_columns : (program : Program) (count : ℕ) (columns : List (Vec Cell Global)) → length program.rows ≤ count
     → count ≤ length program.rows → AreColumnsBelow program (length program.costs + count) columns
     → AreColumns program columns
@@ -438,11 +357,3 @@ all_columns program count columns past low h = record {
   where
     same : (a b : ℕ) → b ≤ a → a ≤ b → a ≡ b
     same a b h k = omega arith
-
-pub slack_added : (before after : List Cell) (bound : ℤ) (entries : List ℤ) (count slack : ℕ) → length entries ≤ count
-    → HoldNumbers before (bound ∷ take count entries)
-    → ((other : ℕ) → number_in after other ≡ number_in before other +ℤ unit slack other)
-    → (index : ℕ) → number_in after index ≡ number_at (bound ∷ entries) index +ℤ unit slack index
-slack_added before after bound entries count slack past h pushed index =
-    pushed index ∙ ap (λ (z : ℤ). z +ℤ unit slack index)
-    (h.each index ∙ ap (λ (xs : List ℤ). number_at (bound ∷ xs) index) (take_all count entries past))

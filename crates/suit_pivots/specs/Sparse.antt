@@ -1,6 +1,6 @@
 -- A program without its zeros.
 use Rattle.std.specs.Prelude.{◌≡◌, ℕ, suc, ◌+◌, ◌-◌, nat_lt, ℤ, ◌+ℤ◌, ◌*ℤ◌, List, ◌∷◌, length, slice_get, Some, Vec}
-use Rattle.std.specs.Prelude.{if◌then◌else◌}
+use Rattle.std.specs.Prelude.{if◌then◌else◌, zero, ◌<◌, ◌==◌, pos, [], map, slice_index_or}
 use Rattle.std.specs.Global.{Global}
 use Rattle.std.specs.Option.{MatchOption}
 use Rattle.suit_tableaus.specs.declared.program.Program.{Program}
@@ -12,6 +12,8 @@ use Rattle.suit_pivots.specs.Cells.{number_in}
 use Rattle.suit_pivots.specs.Lines.{unit}
 use Rattle.suit_tableaus.specs.declared.program.ProgramRow.{ProgramRow}
 use Rattle.suit_tableaus.specs.Programs.{column_entries}
+use Rattle.suit_tableaus.specs.declared.sparse.Entry.{Entry}
+use Rattle.suit_tableaus.specs.Sparse.{part_of, sum_in}
 
 -- cells hold the entries of a column in the first rows
 abbrev pub HoldColumn : Program → ℕ → List Cell → Type 0
@@ -66,3 +68,24 @@ pub record AreColumns (program : Program) (columns : List (Vec Cell Global)) : T
   pub count : length columns ≡ length program.costs + length program.rows
   pub each : (column : ℕ) (cells : Vec Cell Global) → slice_get columns column ≡ Some cells
       → HoldProgramColumn program column cells.items
+
+-- what an entry adds to a row whose columns, so many, stand behind the bound
+abbrev pub entry_part : ℕ → Entry → ℕ → ℤ
+entry_part columns entry zero = pos 0
+entry_part columns entry (suc column) = if nat_lt column columns then part_of entry column else pos 0
+
+-- the cells of lists of them
+abbrev pub cells_of : List (Vec Cell Global) → List (List Cell)
+cells_of lists = map (λ cells. cells.items) lists
+
+-- the entries of the row at an index are added to the cells of the columns
+pub record AddsEntries (index : ℕ) (entries : List Entry) (before after : List (List Cell)) : Type 0 where
+  pub same : length after ≡ length before
+  pub numbers : (column place : ℕ) → column < length before → number_in (slice_index_or after column []) place
+      ≡ number_in (slice_index_or before column []) place +ℤ (if place == index then sum_in entries column else pos 0)
+
+-- so many lists of cells hold the columns of rows
+pub record AreProgramColumns (rows : List ProgramRow) (columns : ℕ) (lists : List (Vec Cell Global)) : Type 0 where
+  pub count : length lists ≡ columns
+  pub each : (column : ℕ) (cells : Vec Cell Global) → slice_get lists column ≡ Some cells → (index : ℕ)
+      → number_in cells.items index ≡ number_at (column_entries rows column) index

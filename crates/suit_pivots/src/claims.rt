@@ -56,7 +56,7 @@ fn common_scale(lines: &[Line], entries: &[i64]) -> Option<i64> {
 }
 
 fn wider(scale: i64, own: i64, entry: i64) -> Option<i64> {
-    if own == 1 {
+    if own == 1 || scale.checked_rem(own)? == 0 {
         return Some(scale);
     }
     let part = own.checked_div(divisor_of(own, entry)?)?;
@@ -94,10 +94,22 @@ fn share_out(lines: &[Line], entries: &[i64], scale: i64, shares: &mut [i64]) ->
 fn share(own: i64, entry: i64, scale: i64) -> Option<i64>
     ensures { IfSome result (λ share. share *ℤ own ≡ entry *ℤ scale) }
 {
-    let product = entry.checked_mul(scale)?;
-    let share = product.checked_div(own)?;
-    if is_same_short(share.checked_mul(own)?, product) {
-        Some(share)
+    whole_quotient(entry.checked_mul(scale)?, own)
+}
+
+// Most products are 0 and most divisors 1, which a division would take long to find.
+fn whole_quotient(product: i64, own: i64) -> Option<i64>
+    ensures { IfSome result (λ quotient. quotient *ℤ own ≡ product) }
+{
+    if is_same_short(product, 0) {
+        return Some(0);
+    }
+    if is_same_short(own, 1) {
+        return Some(product);
+    }
+    let quotient = product.checked_div(own)?;
+    if is_same_short(quotient.checked_mul(own)?, product) {
+        Some(quotient)
     } else {
         None
     }

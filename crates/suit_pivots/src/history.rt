@@ -1,27 +1,35 @@
 //! The pivots so far, from which columns and rows are guessed. Nothing here is trusted: the
 //! arithmetic wraps, and what is guessed is tested elsewhere.
 use super::cells::Cell;
-use super::lines::{Factors, common_divisor};
+use super::lines::Factors;
 use super::sparse::Sparse;
 use std::alloc::{AllocError, Global};
+
+// How many changes of rows are kept at most, so that memory does not grow with the budget. There are no
+// more numbers of leaving rows either.
+pub(crate) const MOST_CHANGES: usize = 1 << 22;
 
 // A pivot: the row that left, what its numbers were divided by, what they have in its old basic
 // column, and where its parts of the lists begin.
 #[derive(Clone, Copy)]
 struct Leaver {
-    row: usize,
+    row: u32,
+    weights: u32,
+    changes: u32,
+    multiples: u32,
     divisor: i64,
     own: i64,
-    weights: usize,
-    changes: usize,
-    multiples: usize,
 }
 
-// A change of one row: the pivot, and the two factors.
+// A change of one row: the pivot, the two factors, and how many changes there were up to and with
+// the row's change before, or 0.
 #[derive(Clone, Copy)]
-struct Step {
-    pivot: usize,
-    factors: Factors,
+struct Change {
+    row: u32,
+    pivot: u32,
+    before: u32,
+    own: u32,
+    times: i64,
 }
 
 #[derive(Drop)]
@@ -29,16 +37,15 @@ pub(crate) struct History {
     leavers: Vec<Leaver>,
     // What the leaving rows take of the first rows.
     weights: Vec<Cell>,
-    // What is taken of the leaving row, by the rows that change.
-    changes: Vec<Cell>,
+    changes: Vec<Change>,
     // The factors other than 1 of rows that change.
     multiples: Vec<Cell>,
     // How many pivots were made up to and with that at which a row left last, or 0.
     left: Vec<usize>,
     // The same of a column.
     left_at: Vec<usize>,
-    // The changes of each row since it left last.
-    steps: Vec<Vec<Step>>,
+    // How many changes there were up to and with a row's last one since it left, or 0.
+    last: Vec<u32>,
 }
 
 pub(crate) fn first_history(
@@ -46,10 +53,6 @@ pub(crate) fn first_history(
     rows: usize,
     columns: usize,
 ) -> Result<History, AllocError> {
-    let mut steps = Vec::with_capacity(alloc, rows)?;
-    for row in 0..rows {
-        steps.push(Vec::new(alloc))?;
-    }
     Ok(History {
         leavers: Vec::new(alloc),
         weights: Vec::new(alloc),
@@ -57,13 +60,25 @@ pub(crate) fn first_history(
         multiples: Vec::new(alloc),
         left: vec![in alloc; 0; rows]?,
         left_at: vec![in alloc; 0; columns]?,
-        steps,
+        last: vec![in alloc; 0; rows]?,
     })
 }
 
-fn part(cells: &[Cell], from: usize, to: usize) -> &[Cell] {
+fn cells_between(cells: &[Cell], from: u32, to: u32) -> &[Cell] {
+    let from = from as usize;
+    let to = to as usize;
     if from <= to && to <= cells.len() {
         &cells[from..to]
+    } else {
+        &[]
+    }
+}
+
+fn changes_between(changes: &[Change], from: u32, to: u32) -> &[Change] {
+    let from = from as usize;
+    let to = to as usize;
+    if from <= to && to <= changes.len() {
+        &changes[from..to]
     } else {
         &[]
     }
@@ -78,17 +93,21 @@ fn take_multiple(numbers: &mut [i64], cells: &[Cell], times: i64) {
     }
 }
 
+fn take_changes(numbers: &mut [i64], changes: &[Change], entry: i64) {
+    for change in changes {
+        let row = change.row as usize;
+        if row < numbers.len() {
+            let taken = entry.wrapping_mul(change.times);
+            numbers[row] = numbers[row].wrapping_sub(taken);
+        }
+    }
+}
+
 fn multiply(numbers: &mut [i64], cells: &[Cell]) {
     for cell in cells {
         if cell.index < numbers.len() {
             numbers[cell.index] = numbers[cell.index].wrapping_mul(cell.number);
         }
-    }
-}
-
-fn multiply_all(numbers: &mut [i64], factor: i64) {
-    for number in numbers.iter_mut() {
-        *number = number.wrapping_mul(factor);
     }
 }
 
@@ -107,28 +126,28 @@ fn quotient(number: i64, divisor: i64) -> i64 {
 }
 
 impl History {
-    fn changes_of(&self, pivot: usize, leaver: &Leaver) -> &[Cell] {
+    fn changes_of(&self, pivot: usize, leaver: &Leaver) -> &[Change] {
         let end = match self.leavers.get(pivot.saturating_add(1)) {
             Some(next) => next.changes,
-            None => self.changes.len(),
+            None => count_of(self.changes.len()),
         };
-        part(&self.changes, leaver.changes, end)
+        changes_between(&self.changes, leaver.changes, end)
     }
 
     fn multiples_of(&self, pivot: usize, leaver: &Leaver) -> &[Cell] {
         let end = match self.leavers.get(pivot.saturating_add(1)) {
             Some(next) => next.multiples,
-            None => self.multiples.len(),
+            None => count_of(self.multiples.len()),
         };
-        part(&self.multiples, leaver.multiples, end)
+        cells_between(&self.multiples, leaver.multiples, end)
     }
 
     fn weights_of(&self, pivot: usize, leaver: &Leaver) -> &[Cell] {
         let end = match self.leavers.get(pivot.saturating_add(1)) {
             Some(next) => next.weights,
-            None => self.weights.len(),
+            None => count_of(self.weights.len()),
         };
-        part(&self.weights, leaver.weights, end)
+        cells_between(&self.weights, leaver.weights, end)
     }
 
     // The entries of a column in the rows as they are now.
@@ -149,10 +168,11 @@ impl History {
         };
         if count > 0 {
             if let Some(leaver) = self.leavers.get(count - 1) {
-                if leaver.row < entries.len() {
-                    entries[leaver.row] = leaver.own;
+                let row = leaver.row as usize;
+                if row < entries.len() {
+                    entries[row] = leaver.own;
                 }
-                take_multiple(entries, self.changes_of(count - 1, leaver), leaver.own);
+                take_changes(entries, self.changes_of(count - 1, leaver), leaver.own);
                 return count;
             }
         }
@@ -167,31 +187,40 @@ impl History {
             return;
         };
         multiply(entries, self.multiples_of(pivot, leaver));
-        if leaver.row >= entries.len() || entries[leaver.row] == 0 {
+        let row = leaver.row as usize;
+        if row >= entries.len() || entries[row] == 0 {
             return;
         }
-        let entry = quotient(entries[leaver.row], leaver.divisor);
-        entries[leaver.row] = entry;
-        take_multiple(entries, self.changes_of(pivot, leaver), entry);
+        let entry = quotient(entries[row], leaver.divisor);
+        entries[row] = entry;
+        take_changes(entries, self.changes_of(pivot, leaver), entry);
     }
 
-    // What a row takes of the first rows.
+    // What a row takes of the first rows, from its last change back.
     pub(crate) fn guess_row(&self, row: usize, weights: &mut [i64]) {
         clear_all(weights);
-        if row >= self.left.len() || row >= self.steps.len() || row >= weights.len() {
+        if row >= self.left.len() || row >= self.last.len() || row >= weights.len() {
             return;
         }
-        let count = self.left[row];
-        if count == 0 {
-            weights[row] = 1;
-        } else {
-            self.take_leaver(count - 1, -1, weights);
-        }
-        for step in &self.steps[row] {
-            if step.factors.own != 1 {
-                multiply_all(weights, step.factors.own);
+        let mut factor: i64 = 1;
+        let mut count = self.last[row] as usize;
+        for made in 0..self.changes.len() {
+            if count == 0 {
+                break;
             }
-            self.take_leaver(step.pivot, step.factors.times, weights);
+            let Some(change) = self.changes.get(count - 1) else {
+                return;
+            };
+            let times = factor.wrapping_mul(change.times);
+            self.take_leaver(change.pivot as usize, times, weights);
+            factor = factor.wrapping_mul(i64::from(change.own));
+            count = change.before as usize;
+        }
+        let left = self.left[row];
+        if left == 0 {
+            weights[row] = weights[row].wrapping_add(factor);
+        } else {
+            self.take_leaver(left - 1, factor.wrapping_neg(), weights);
         }
     }
 
@@ -210,12 +239,12 @@ impl History {
         weights: &[i64],
     ) -> Result<(), AllocError> {
         let leaver = Leaver {
-            row,
+            row: count_of(row),
+            weights: count_of(self.weights.len()),
+            changes: count_of(self.changes.len()),
+            multiples: count_of(self.multiples.len()),
             divisor,
             own,
-            weights: self.weights.len(),
-            changes: self.changes.len(),
-            multiples: self.multiples.len(),
         };
         self.leavers.push(leaver)?;
         for index in 0..weights.len() {
@@ -229,30 +258,35 @@ impl History {
         Ok(())
     }
 
-    // A row that the pivot changes.
-    pub(crate) fn push_change(&mut self, row: usize, factors: Factors) -> Result<(), AllocError> {
+    fn is_full(&self) -> bool {
+        self.changes.len() >= MOST_CHANGES || self.weights.len() >= MOST_CHANGES
+    }
+
+    // A row that the pivot changes. False where the history is full, or a factor does not fit.
+    pub(crate) fn push_change(&mut self, row: usize, factors: Factors) -> Result<bool, AllocError> {
+        if row >= self.last.len() || self.is_full() {
+            return Ok(false);
+        }
         let pivot = self.leavers.len().saturating_sub(1);
-        self.changes.push(Cell {
-            index: row,
-            number: factors.times,
-        })?;
+        let Some(change) = change_of(row, pivot, self.last[row], factors) else {
+            return Ok(false);
+        };
+        self.changes.push(change)?;
         if factors.own != 1 {
             self.multiples.push(Cell {
                 index: row,
                 number: factors.own,
             })?;
         }
-        if row < self.steps.len() {
-            self.steps[row].push(Step { pivot, factors })?;
-        }
-        Ok(())
+        self.last[row] = count_of(self.changes.len());
+        Ok(true)
     }
 
     // The pivot is made: a row has left, and so has the column that was basic in it.
     pub(crate) fn end_pivot(&mut self, row: usize, basic: usize) {
         let count = self.leavers.len();
-        if row < self.steps.len() {
-            self.steps[row].clear();
+        if row < self.last.len() {
+            self.last[row] = 0;
         }
         if row < self.left.len() {
             self.left[row] = count;
@@ -260,5 +294,28 @@ impl History {
         if basic < self.left_at.len() {
             self.left_at[basic] = count;
         }
+    }
+}
+
+fn change_of(row: usize, pivot: usize, before: u32, factors: Factors) -> Option<Change> {
+    let (Ok(row), Ok(pivot)) = (u32::try_from(row), u32::try_from(pivot)) else {
+        return None;
+    };
+    let Ok(own) = u32::try_from(factors.own) else {
+        return None;
+    };
+    Some(Change {
+        row,
+        pivot,
+        before,
+        own,
+        times: factors.times,
+    })
+}
+
+fn count_of(count: usize) -> u32 {
+    match u32::try_from(count) {
+        Ok(count) => count,
+        Err(_) => 0,
     }
 }

@@ -214,8 +214,11 @@ fn change_line(
     let Some(next) = changed(line, factors, leaver) else {
         return Ok(None);
     };
-    history.push_change(index, factors)?;
-    Ok(Some(next))
+    if history.push_change(index, factors)? {
+        Ok(Some(next))
+    } else {
+        Ok(None)
+    }
 }
 
 // The objective row after the pivot. False where a number does not fit, and then nothing is said of

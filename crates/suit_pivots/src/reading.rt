@@ -3,6 +3,7 @@ ghost use Rattle.std.specs.Prelude.{◌≡◌, ℕ, ◌<◌, ◌≤◌, ℤ, pos
 ghost use Rattle.std.specs.Prelude.{OnOk};
 ghost use Rattle.suit_num.specs.declared.fraction.Frac.{Frac};
 ghost use Rattle.suit_tableaus.specs.Points.{number_at};
+ghost use Rattle.suit_tableaus.specs.Sparse.{dense};
 ghost use Rattle.suit_tableaus.specs.Multiples.{IsSmall};
 ghost use Rattle.suit_tableaus.specs.Pivots.{primitive};
 ghost use Rattle.suit_tableaus.specs.Tableaus.{Tableau};
@@ -14,18 +15,19 @@ use super::lines::{Line, is_positive};
 use super::primitive::make_primitive;
 use std::alloc::{AllocError, Global};
 use suit_num::Frac;
-use suit_tableaus::{Fracs, Numbers, Optimum, Program};
+use suit_tableaus::{Fracs, Numbers, Optimum, SparseProgram};
 
 // The optimum of the last tableau.
 pub(crate) fn read_optimum(
     alloc: Global,
-    program: &Program,
+    program: &SparseProgram,
     lines: &[Line],
     objective: &[i64],
 ) -> Result<Option<Optimum>, AllocError>
     requires { All IsSmall objective.now }
     ensures { IfOk result (λ found. IfSome found (λ optimum. (tableau : Tableau)
-        → IsStateOf program.now lines.now objective.now tableau → IsOptimumOf program.now tableau optimum)) }
+        → IsStateOf (dense program.now) lines.now objective.now tableau
+        → IsOptimumOf (dense program.now) tableau optimum)) }
 {
     let columns = program.costs.items().len();
     let Some(point) = read_point(alloc, lines, columns)? else {

@@ -5,28 +5,29 @@ ghost use Rattle.suit_tableaus.specs.Programs.{IsWellFormed};
 ghost use Rattle.suit_tableaus.specs.Runs.{run_end, AtOptimum};
 ghost use Rattle.suit_tableaus.specs.Multiples.{IsSmall};
 ghost use Rattle.suit_tableaus.specs.Points.{number_at};
+ghost use Rattle.suit_tableaus.specs.Sparse.{dense, dense_row, dense_entries};
 ghost use Rattle.suit_tableaus.specs.Tableaus.{Tableau, first_tableau};
 ghost use Rattle.suit_pivots.specs.Lines.{IsLineOf};
 ghost use Rattle.suit_pivots.specs.States.{AreFirstLines, IsFirstLine, IsStateOf, AreLinesOf};
 ghost use Rattle.suit_tableaus.specs.Ends.{Tells};
 
 use super::history::first_history;
-use super::lines::Line;
+use super::lines::{Line, MOST_SIZE};
 use super::objective::is_small;
 use super::pivot::{Progress, advance, entering, first_scratch};
 use super::reading::read_optimum;
 use super::sparse::sparse_of;
 use std::alloc::{AllocError, Global};
-use suit_tableaus::{Optimum, Program, ProgramRow, SimplexEnd};
+use suit_tableaus::{Entry, Optimum, SimplexEnd, SparseProgram, SparseRow};
 
 /// How a run ends, where the numbers of its tableaus stay small; else there is no answer.
 pub fn fast(
     alloc: Global,
-    program: &Program,
+    program: &SparseProgram,
     pivots: u32,
 ) -> Result<Option<Result<Optimum, SimplexEnd>>, AllocError>
-    requires { IsWellFormed program.now }
-    ensures { IfOk result (λ answer. IfSome answer (Tells program.now (run_end program.now pivots))) }
+    requires { IsWellFormed (dense program.now) }
+    ensures { IfOk result (λ answer. IfSome answer (Tells (dense program.now) (run_end (dense program.now) pivots))) }
 {
     let Some(sparse) = sparse_of(alloc, program)? else {
         return Ok(None);
@@ -62,13 +63,14 @@ pub fn fast(
 
 fn read_end(
     alloc: Global,
-    program: &Program,
+    program: &SparseProgram,
     lines: &[Line],
     objective: &[i64],
 ) -> Result<Option<Result<Optimum, SimplexEnd>>, AllocError>
     requires { All IsSmall objective.now }
     ensures { IfOk result (λ answer. IfSome answer (λ end. (tableau : Tableau)
-        → IsStateOf program.now lines.now objective.now tableau → Tells program.now (AtOptimum tableau) end)) }
+        → IsStateOf (dense program.now) lines.now objective.now tableau
+        → Tells (dense program.now) (AtOptimum tableau) end)) }
 {
     match read_optimum(alloc, program, lines, objective)? {
         Some(optimum) => Ok(Some(Ok(optimum))),
@@ -76,8 +78,8 @@ fn read_end(
     }
 }
 
-fn first_lines(alloc: Global, program: &Program) -> Result<Option<Vec<Line>>, AllocError>
-    ensures { IfOk result (λ found. IfSome found (λ lines. AreFirstLines program.now lines.items)) }
+fn first_lines(alloc: Global, program: &SparseProgram) -> Result<Option<Vec<Line>>, AllocError>
+    ensures { IfOk result (λ found. IfSome found (λ lines. AreFirstLines (dense program.now) lines.items)) }
 {
     let columns = program.costs.items().len();
     let rows = program.rows.items();
@@ -91,10 +93,10 @@ fn first_lines(alloc: Global, program: &Program) -> Result<Option<Vec<Line>>, Al
     Ok(Some(lines))
 }
 
-fn first_line(columns: usize, index: usize, row: &ProgramRow) -> Option<Line>
-    ensures { IfSome result (IsFirstLine columns index row.now) }
+fn first_line(columns: usize, index: usize, row: &SparseRow) -> Option<Line>
+    ensures { IfSome result (IsFirstLine columns index (dense_row columns row.now)) }
 {
-    let size = largest(row.entries.items())?;
+    let size = size_of_entries(row.entries.items())?;
     let bound = small(row.bound)?;
     Some(Line {
         basic: columns.checked_add(index)?,
@@ -104,20 +106,29 @@ fn first_line(columns: usize, index: usize, row: &ProgramRow) -> Option<Line>
     })
 }
 
-// A size that no number is above, and at least 1.
-fn largest(numbers: &[i128]) -> Option<u64>
-    ensures within { IfSome result (λ size. (index : ℕ) → unsigned_abs (number_at numbers.now index) ≤ size) }
+// A size that the entries of no column add up to more than, and at least 1.
+fn size_of_entries(entries: &[Entry]) -> Option<u64>
+    ensures within { IfSome result (λ size. (columns column : ℕ)
+        → unsigned_abs (number_at (dense_entries columns entries.now) column) ≤ size) }
     ensures some { IfSome result (λ size. 1 ≤ size) }
     ensures small { IfSome result (λ size. size ≤ 2 ^ 62) }
 {
     let mut size: u64 = 1;
-    for number in numbers {
-        let Some(short) = small(*number) else {
+    for index in 0..entries.len() {
+        let Some(sum) = grown(size, entries[index].number) else {
             return None;
         };
-        size = size.max(short.unsigned_abs());
+        size = sum;
     }
     Some(size)
+}
+
+fn grown(size: u64, number: i64) -> Option<u64>
+    ensures value { IfSome result (λ sum. sum ≡ size + unsigned_abs number) }
+    ensures small { IfSome result (λ sum. sum ≤ 2 ^ 62) }
+{
+    let sum = size.checked_add(number.unsigned_abs())?;
+    if sum <= MOST_SIZE { Some(sum) } else { None }
 }
 
 fn small(number: i128) -> Option<i64>

@@ -1,17 +1,19 @@
 //! A program's first rows and its columns without their zeros.
 ghost use Rattle.std.specs.Prelude.{◌≡◌, ℕ, suc, ◌+◌, ℤ, pos, ◌+ℤ◌, ◌∷◌, length, slice_get, Some, All, IfOk, IfSome};
 ghost use Rattle.std.specs.Prelude.{IsTrue};
-ghost use Rattle.std.specs.Prelude.{◌==◌, if◌then◌else◌, OnOk};
+ghost use Rattle.std.specs.Prelude.{◌==◌, if◌then◌else◌, OnOk, ◌<◌, [], ◌++◌, set, slice_index_or, map, replicate};
 ghost use Rattle.suit_tableaus.specs.Points.{number_at};
-ghost use Rattle.suit_tableaus.specs.Programs.{IsWellFormed, column_entries};
+ghost use Rattle.suit_tableaus.specs.Programs.{IsWellFormed};
+ghost use Rattle.suit_tableaus.specs.Sparse.{dense, dense_row, dense_entries};
 ghost use Rattle.suit_pivots.specs.Cells.{number_in};
 ghost use Rattle.suit_pivots.specs.Lines.{unit};
-ghost use Rattle.suit_pivots.specs.Sparse.{IsSparse, HoldProgramRow, HoldProgramColumn, AreRows, AreColumns};
+ghost use Rattle.suit_pivots.specs.Sparse.{IsSparse, AreRows, AreColumns, AreProgramColumns, AddsEntries};
+ghost use Rattle.suit_pivots.specs.Sparse.{cells_of, entry_part};
 
 use super::cells::Cell;
 use std::alloc::{AllocError, Global};
 use std::cmp::Ordering;
-use suit_tableaus::{Program, ProgramRow};
+use suit_tableaus::{Entry, SparseProgram, SparseRow};
 
 #[derive(Drop)]
 pub(crate) struct Sparse {
@@ -21,22 +23,23 @@ pub(crate) struct Sparse {
     pub(crate) columns: Vec<Vec<Cell>>,
 }
 
-// None where a number of a row does not fit 64 bits.
-pub(crate) fn sparse_of(alloc: Global, program: &Program) -> Result<Option<Sparse>, AllocError>
-    requires { IsWellFormed program.now }
-    ensures { IfOk result (λ found. IfSome found (λ sparse. IsSparse program.now sparse)) }
+// None where a bound does not fit 64 bits.
+pub(crate) fn sparse_of(
+    alloc: Global,
+    program: &SparseProgram,
+) -> Result<Option<Sparse>, AllocError>
+    requires { IsWellFormed (dense program.now) }
+    ensures { IfOk result (λ found. IfSome found (λ sparse. IsSparse (dense program.now) sparse)) }
 {
     let Some(rows) = sparse_rows(alloc, program)? else {
         return Ok(None);
     };
-    let Some(columns) = sparse_columns(alloc, program)? else {
-        return Ok(None);
-    };
+    let columns = sparse_columns(alloc, program)?;
     Ok(Some(Sparse { rows, columns }))
 }
 
-fn sparse_rows(alloc: Global, program: &Program) -> Result<Option<Vec<Vec<Cell>>>, AllocError>
-    ensures { IfOk result (λ found. IfSome found (λ rows. AreRows program.now rows.items)) }
+fn sparse_rows(alloc: Global, program: &SparseProgram) -> Result<Option<Vec<Vec<Cell>>>, AllocError>
+    ensures { IfOk result (λ found. IfSome found (λ rows. AreRows (dense program.now) rows.items)) }
 {
     let columns = program.costs.items().len();
     let list = program.rows.items();
@@ -45,7 +48,7 @@ fn sparse_rows(alloc: Global, program: &Program) -> Result<Option<Vec<Vec<Cell>>
         let Some(slack) = slack_index(columns, index) else {
             return Ok(None);
         };
-        let Some(cells) = row_cells(alloc, &list[index], slack)? else {
+        let Some(cells) = row_cells(alloc, &list[index], columns, slack)? else {
             return Ok(None);
         };
         rows.push(cells)?;
@@ -59,17 +62,22 @@ fn slack_index(columns: usize, index: usize) -> Option<usize>
     columns.checked_add(index)?.checked_add(1)
 }
 
-fn row_cells(alloc: Global, row: &ProgramRow, slack: usize) -> Result<Option<Vec<Cell>>, AllocError>
+fn row_cells(
+    alloc: Global,
+    row: &SparseRow,
+    columns: usize,
+    slack: usize,
+) -> Result<Option<Vec<Cell>>, AllocError>
     ensures { IfOk result (λ found. IfSome found (λ cells. (index : ℕ) → number_in cells.items index
-        ≡ number_at (row.now.bound ∷ row.now.entries) index +ℤ unit slack index)) }
+        ≡ number_at (row.now.bound ∷ dense_entries columns row.now.entries) index +ℤ unit slack index)) }
 {
     let mut cells = Vec::new(alloc);
     if !push_cell(&mut cells, 0, row.bound)? {
         return Ok(None);
     }
     let entries = row.entries.items();
-    for column in 0..entries.len() {
-        if !push_cell(&mut cells, column + 1, entries[column])? {
+    for index in 0..entries.len() {
+        if !push_entry(&mut cells, &entries[index], columns)? {
             return Ok(None);
         }
     }
@@ -77,6 +85,19 @@ fn row_cells(alloc: Global, row: &ProgramRow, slack: usize) -> Result<Option<Vec
         return Ok(None);
     }
     Ok(Some(cells))
+}
+
+// An entry behind the cells of a row, where its column is one of so many. False where it does not fit.
+fn push_entry(cells: &mut Vec<Cell>, entry: &Entry, columns: usize) -> Result<bool, AllocError>
+    ensures { IfOk result (λ pushed. IsTrue pushed → (place : ℕ) → number_in cells.new.items place
+        ≡ number_in cells.old.items place +ℤ entry_part columns entry.now place) }
+{
+    let column = entry.column as usize;
+    if column < columns {
+        push_cell(cells, column + 1, i128::from(entry.number))
+    } else {
+        Ok(true)
+    }
 }
 
 // A number behind the cells, where it is not 0. False where it does not fit.
@@ -112,47 +133,70 @@ fn narrowed(number: i128) -> Option<i64>
     }
 }
 
-fn sparse_columns(alloc: Global, program: &Program) -> Result<Option<Vec<Vec<Cell>>>, AllocError>
-    ensures { IfOk result (λ found. IfSome found (λ columns. AreColumns program.now columns.items)) }
+fn sparse_columns(alloc: Global, program: &SparseProgram) -> Result<Vec<Vec<Cell>>, AllocError>
+    ensures { IfOk result (λ columns. AreColumns (dense program.now) columns.items) }
 {
     let rows = program.rows.items();
-    let mut columns = Vec::new(alloc);
-    for column in 0..program.costs.items().len() {
-        let Some(cells) = column_cells(alloc, rows, column)? else {
-            return Ok(None);
-        };
-        columns.push(cells)?;
-    }
+    let mut columns = program_columns(alloc, rows, program.costs.items().len())?;
     for index in 0..rows.len() {
         columns.push(slack_cells(alloc, index)?)?;
     }
-    Ok(Some(columns))
+    Ok(columns)
 }
 
-fn column_cells(
+// The entries of so many columns in the rows.
+fn program_columns(
     alloc: Global,
-    rows: &[ProgramRow],
-    column: usize,
-) -> Result<Option<Vec<Cell>>, AllocError>
-    ensures { IfOk result (λ found. IfSome found (λ cells. (index : ℕ) → number_in cells.items index
-        ≡ number_at (column_entries rows.now column) index)) }
+    rows: &[SparseRow],
+    count: usize,
+) -> Result<Vec<Vec<Cell>>, AllocError>
+    ensures { IfOk result (λ columns. AreProgramColumns (map (dense_row count) rows.now) count columns.items) }
 {
-    let mut cells = Vec::new(alloc);
+    let mut columns = empty_columns(alloc, count)?;
     for index in 0..rows.len() {
-        if !push_cell(&mut cells, index, entry(&rows[index], column))? {
-            return Ok(None);
+        add_entries(&mut columns, index, rows[index].entries.items())?;
+    }
+    Ok(columns)
+}
+
+fn empty_columns(alloc: Global, count: usize) -> Result<Vec<Vec<Cell>>, AllocError>
+    ensures { IfOk result (λ columns. cells_of columns.items ≡ replicate count []) }
+{
+    let mut columns = Vec::with_capacity(alloc, count)?;
+    for made in 0..count {
+        columns.push(Vec::new(alloc))?;
+    }
+    Ok(columns)
+}
+
+// The entries of the row at an index behind the cells of their columns.
+fn add_entries(
+    columns: &mut Vec<Vec<Cell>>,
+    index: usize,
+    entries: &[Entry],
+) -> Result<(), AllocError>
+    ensures { OnOk result (AddsEntries index entries.now (cells_of columns.old.items) (cells_of columns.new.items)) }
+{
+    for place in 0..entries.len() {
+        let column = entries[place].column as usize;
+        if column < columns.len() {
+            let cell = Cell {
+                index,
+                number: entries[place].number,
+            };
+            push_at(columns, column, cell)?;
         }
     }
-    Ok(Some(cells))
+    Ok(())
 }
 
-fn entry(row: &ProgramRow, column: usize) -> i128
-    ensures { result ≡ number_at row.now.entries column }
+fn push_at(columns: &mut Vec<Vec<Cell>>, column: usize, cell: Cell) -> Result<(), AllocError>
+    requires { column < length columns.old.items }
+    ensures { OnOk result (cells_of columns.new.items ≡ set (cells_of columns.old.items) column
+        (slice_index_or (cells_of columns.old.items) column [] ++ cell ∷ [])) }
 {
-    match row.entries.items().get(column) {
-        Some(entry) => *entry,
-        None => 0,
-    }
+    columns[column].push(cell)?;
+    Ok(())
 }
 
 fn slack_cells(alloc: Global, index: usize) -> Result<Vec<Cell>, AllocError>

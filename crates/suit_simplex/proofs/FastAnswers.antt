@@ -1,5 +1,5 @@
 -- What an answer that tells the end of a run proves (`told_primal`, `told_dual`).
-use Rattle.std.proofs.Common.{◌≡◌, ℕ, zero, suc, Bool, true, false, refl, sym, ap, ◌∙◌, cond, None, is_some, subst}
+use Rattle.std.proofs.Common.{◌≡◌, ℕ, zero, suc, Bool, true, false, refl, cond, None, is_some, subst}
 use Rattle.std.specs.Prelude.{Result, Ok, Err, IfOk}
 use Rattle.suit_tableaus.specs.declared.program.Program.{Program}
 use Rattle.suit_tableaus.specs.declared.ends.Optimum.{Optimum}
@@ -10,7 +10,7 @@ use Rattle.suit_tableaus.specs.Pivots.{entering}
 use Rattle.suit_tableaus.specs.Runs.{Next, Last, Ray, Wide, To, next, RunEnd, AtOptimum, AtBudget, AtWide, AtRay}
 use Rattle.suit_tableaus.specs.Runs.{run_on}
 use Rattle.suit_tableaus.specs.Runs.{run_within, run_end}
-use Rattle.suit_tableaus.specs.Ends.{Tells, IsOptimumOf}
+use Rattle.suit_tableaus.specs.Ends.{Tells}
 use Rattle.suit_tableaus.specs.Optima.{IsPrimalOptimum, IsDualOptimum}
 use Rattle.suit_tableaus.proofs.SoundTableaus.{IsSound}
 use Rattle.suit_tableaus.proofs.FirstTableaus.{first_is_sound}
@@ -46,7 +46,7 @@ last_is_sound program (suc left) made tableau last sound h =
     by_next more (To later) e k = more later (next_is_sound program tableau later sound e) k
 
 module _ (program : Program) (budget : ℕ) (formed : IsWellFormed program) where
-  last_of : (tableau : Tableau) → run_end program budget ≡ AtOptimum tableau
+  pub last_of : (tableau : Tableau) → run_end program budget ≡ AtOptimum tableau
       → IsSound program tableau × (entering tableau ≡ None)
   last_of tableau e = last_is_sound program budget 0 (first_tableau program) tableau (first_is_sound program formed) e
 

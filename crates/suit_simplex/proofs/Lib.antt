@@ -8,3 +8,5 @@ pub mod LeavingRows
 pub mod PivotSteps
 pub mod PivotedRows
 pub mod WorkedRuns
+pub mod OneOptimum
+pub mod SparsePrograms

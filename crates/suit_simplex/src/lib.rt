@@ -9,9 +9,13 @@ pub mod laws;
 mod reading;
 mod row;
 mod solving;
+mod sparse;
 
-pub use solving::optimum;
-pub use suit_tableaus::{Fracs, Numbers, Optimum, Program, ProgramRow, ProgramRows, SimplexEnd};
+pub use solving::{optimum, sparse_optimum};
+pub use suit_tableaus::{
+    Entries, Entry, Fracs, Numbers, Optimum, Program, ProgramRow, ProgramRows, SimplexEnd,
+    SparseProgram, SparseRow, SparseRows,
+};
 
 #[cfg(test)]
 mod tests;

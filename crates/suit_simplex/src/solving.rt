@@ -1,7 +1,8 @@
 //! The run of the simplex.
-ghost use Rattle.std.specs.Prelude.{◌≡◌, ℕ, suc, ◌+◌, ℤ, pos, ◌<ℤ◌, length, All, IfOk, MatchResult};
+ghost use Rattle.std.specs.Prelude.{◌≡◌, ℕ, suc, ◌+◌, ℤ, pos, ◌<ℤ◌, length, All, IfOk, IfSome, MatchResult};
 ghost use Rattle.suit_tableaus.specs.declared.ends.SimplexEnd.TheVariants as ends;
 ghost use Rattle.suit_tableaus.specs.Programs.{IsWellFormed, IsBounded};
+ghost use Rattle.suit_tableaus.specs.Sparse.{dense};
 ghost use Rattle.suit_tableaus.specs.Tableaus.{entry};
 ghost use Rattle.suit_tableaus.specs.Runs.{run_end};
 ghost use Rattle.suit_tableaus.specs.Ends.{IsOptimumOf, Tells};
@@ -12,8 +13,9 @@ use super::dense::Dense;
 use super::first::first_dense;
 use super::reading::read_optimum;
 use super::row::TooWide;
-use super::{Optimum, Program, SimplexEnd};
-use std::alloc::Global;
+use super::sparse::sparse_program;
+use super::{Optimum, Program, SimplexEnd, SparseProgram};
+use std::alloc::{AllocError, Global};
 use suit_pivots::fast;
 
 // How far one step takes the run.
@@ -58,9 +60,35 @@ pub fn optimum(alloc: Global, program: &Program, pivots: u32) -> Result<Optimum,
     ensures primal { IfOk result (IsPrimalOptimum program.now) }
     ensures dual { IfOk result (IsDualOptimum program.now) }
 {
-    if let Some(end) = fast(alloc, program, pivots)? {
+    if let Some(end) = quick(alloc, program, pivots)? {
         return end;
     }
+    plain(alloc, program, pivots)
+}
+
+// The end of the run where numbers stay small.
+pub(crate) fn quick(
+    alloc: Global,
+    program: &Program,
+    pivots: u32,
+) -> Result<Option<Result<Optimum, SimplexEnd>>, AllocError>
+    requires { IsWellFormed program.now }
+    ensures { IfOk result (λ answer. IfSome answer (Tells program.now (run_end program.now pivots))) }
+{
+    let Some(sparse) = sparse_program(alloc, program)? else {
+        return Ok(None);
+    };
+    fast(alloc, &sparse, pivots)
+}
+
+// The run with every number.
+fn plain(alloc: Global, program: &Program, pivots: u32) -> Result<Optimum, SimplexEnd>
+    requires formed { IsWellFormed program.now }
+    requires bounded { IsBounded program.now }
+    ensures run { Tells program.now (run_end program.now pivots) result }
+    ensures primal { IfOk result (IsPrimalOptimum program.now) }
+    ensures dual { IfOk result (IsDualOptimum program.now) }
+{
     let mut tableau = first_dense(alloc, program)?;
     for made in 0..pivots {
         match advance(&mut tableau) {
@@ -73,4 +101,23 @@ pub fn optimum(alloc: Global, program: &Program, pivots: u32) -> Result<Optimum,
         return Err(SimplexEnd::Pivots);
     }
     Ok(read_optimum(alloc, program, &tableau)?)
+}
+
+/// The optimum of the program that a sparse one means, as `optimum` finds it.
+pub fn sparse_optimum(
+    alloc: Global,
+    program: &SparseProgram,
+    pivots: u32,
+) -> Result<Optimum, SimplexEnd>
+    requires formed { IsWellFormed (dense program.now) }
+    requires bounded { IsBounded (dense program.now) }
+    ensures run { Tells (dense program.now) (run_end (dense program.now) pivots) result }
+    ensures primal { IfOk result (IsPrimalOptimum (dense program.now)) }
+    ensures dual { IfOk result (IsDualOptimum (dense program.now)) }
+{
+    if let Some(end) = fast(alloc, program, pivots)? {
+        return end;
+    }
+    let whole = program.dense(alloc)?;
+    plain(alloc, &whole, pivots)
 }

@@ -1,10 +1,10 @@
 ghost use Rattle.std.specs.Prelude.{◌≡◌, [], ◌∷◌, IfOk};
 ghost use Rattle.suit_simplex.specs.Examples.{two_columns, one_wide_row, two_wide_rows, nothing_gained, tied};
 
+use super::solving::quick;
 use super::*;
 use std::alloc::{AllocError, Global};
 use std::test::Fail;
-use suit_pivots::fast;
 
 fn row(alloc: Global, entries: &[i128], bound: i128) -> Result<ProgramRow, AllocError>
     ensures { IfOk result (λ row. row ≡ record { entries = entries.now; bound = bound }) }
@@ -133,14 +133,14 @@ fn corners(rt: HostRuntime) -> Result<(), Fail> {
 fn bodies(rt: HostRuntime) -> Result<(), Fail> {
     let alloc = rt.alloc();
     let small = two_columns(alloc)?;
-    let Some(Ok(found)) = fast(alloc, &small, 2)? else {
+    let Some(Ok(found)) = quick(alloc, &small, 2)? else {
         return Err(Fail::from("numbers are small"));
     };
     assert_eq!(rt; (found.scale, found.value), (2, 18));
     assert_eq!(rt; found.duals.items(), [3, 1].as_slice());
     let wide = two_wide_rows(alloc)?;
-    assert!(rt; fast(alloc, &wide, 1)?.is_none());
+    assert!(rt; quick(alloc, &wide, 1)?.is_none());
     let wide = one_wide_row(alloc)?;
-    assert!(rt; fast(alloc, &wide, 1)?.is_none());
+    assert!(rt; quick(alloc, &wide, 1)?.is_none());
     Ok(())
 }

@@ -155,7 +155,7 @@ basic_from columns rows start (x ∷ xs) zero row h =
 basic_from columns rows start (x ∷ xs) (suc index) row h = basic_from columns rows (start + 1) xs index row h
     ∙ ap (λ (n : ℕ). columns + n) (omega arith)
 
-zeros : (count index : ℕ) → number_at (replicate count (pos 0)) index ≡ pos 0
+pub zeros : (count index : ℕ) → number_at (replicate count (pos 0)) index ≡ pos 0
 zeros zero index = refl
 zeros (suc count) zero = refl
 zeros (suc count) (suc index) = zeros count index

@@ -7,6 +7,7 @@ pub mod Corners
 pub mod DotProducts
 pub mod Elements
 pub mod EnteringColumns
+pub mod ExchangedSums
 pub mod FirstTableaus
 pub mod KeptRows
 pub mod Multiples
@@ -21,3 +22,4 @@ pub mod Signs
 pub mod SmallTableaus
 pub mod SoundRows
 pub mod SoundTableaus
+pub mod SparseSums

@@ -6,4 +6,5 @@ pub mod Pivots
 pub mod Points
 pub mod Programs
 pub mod Runs
+pub mod Sparse
 pub mod Tableaus

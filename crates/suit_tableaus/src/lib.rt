@@ -6,7 +6,9 @@ mod ends;
 pub mod laws;
 mod lists;
 mod program;
+mod sparse;
 
 pub use ends::{Optimum, SimplexEnd};
-pub use lists::{Fracs, Numbers, ProgramRows};
+pub use lists::{Entries, Fracs, Numbers, ProgramRows, SparseRows};
 pub use program::{Program, ProgramRow};
+pub use sparse::{Entry, SparseProgram, SparseRow};

@@ -1,7 +1,7 @@
 //! Lists that contracts see as lists.
 ghost use Rattle.std.specs.Prelude.{◌≡◌};
 
-use super::ProgramRow;
+use super::{Entry, ProgramRow, SparseRow};
 use std::marker::Model;
 use suit_num::Frac;
 
@@ -91,6 +91,68 @@ impl ProgramRows {
 
     /// The rows of the list, in order.
     pub fn items(&self) -> &[ProgramRow]
+        ensures { result.now ≡ self.now }
+    {
+        &self.items
+    }
+}
+
+/// The entries of a row, in any order.
+#[derive(Debug, Drop)]
+pub struct Entries {
+    items: Vec<Entry>,
+}
+
+impl Model for Entries {
+    ghost use Rattle.std.specs.Prelude.{List};
+    ghost use Rattle.suit_tableaus.specs.declared.sparse.Entry.{Entry};
+
+    ghost Value = { List Entry };
+
+    ghost view = { λ list. list.items.items };
+}
+
+impl Entries {
+    /// The list of these entries.
+    pub fn of(items: Vec<Entry>) -> Entries
+        ensures { result ≡ items.items }
+    {
+        Entries { items }
+    }
+
+    /// The entries of the list, in order.
+    pub fn items(&self) -> &[Entry]
+        ensures { result.now ≡ self.now }
+    {
+        &self.items
+    }
+}
+
+/// The rows of a sparse program.
+#[derive(Debug, Drop)]
+pub struct SparseRows {
+    items: Vec<SparseRow>,
+}
+
+impl Model for SparseRows {
+    ghost use Rattle.std.specs.Prelude.{List};
+    ghost use Rattle.suit_tableaus.specs.declared.sparse.SparseRow.{SparseRow};
+
+    ghost Value = { List SparseRow };
+
+    ghost view = { λ list. list.items.items };
+}
+
+impl SparseRows {
+    /// The list of these rows.
+    pub fn of(items: Vec<SparseRow>) -> SparseRows
+        ensures { result ≡ items.items }
+    {
+        SparseRows { items }
+    }
+
+    /// The rows of the list, in order.
+    pub fn items(&self) -> &[SparseRow]
         ensures { result.now ≡ self.now }
     {
         &self.items

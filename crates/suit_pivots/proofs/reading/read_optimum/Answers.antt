@@ -3,6 +3,7 @@ use Rattle.std.specs.Prelude.{drop, ◌+◌, FitsSigned, List, ℤ, ℕ}
 use Rattle.suit_tableaus.specs.Points.{number_at}
 use Rattle.std.specs.Int.{w128}
 use Rattle.std.proofs.lemmas.Int.{to_z-of_z}
+use Rattle.suit_tableaus.specs.Sparse.{dense}
 use Rattle.suit_tableaus.specs.Pivots.{primitive}
 use Rattle.suit_pivots.proofs.Readings.{optimum_read}
 use Rattle.suit_pivots.proofs.reading.read_optimum.Goals as goal
@@ -20,7 +21,7 @@ returns c = λ tableau state.
     c.of-2.ensures ∙ c.in_ok-duals.ensures
     ∙ ap (λ (xs : List ℤ). drop c.in-Some-checked_add.start xs) c.deref.ensures.value
     ∙ ap (λ (n : ℕ). drop n c.in-Some-2.whole.items) start in
-    simp to_z-of_z (optimum_read c.args.program.now c.args.lines.now c.args.objective.now tableau state
+    simp to_z-of_z (optimum_read (dense c.args.program.now) c.args.lines.now c.args.objective.now tableau state
     (record { point = c.of.result; duals = c.of-2.result; scale = c.number.result; value = c.number-2.result })
     c.in-Some-2.whole.items (rw c.of.ensures (rw c.items-columns.ensures at facts.count))
     (rw c.of.ensures facts.values) whole duals

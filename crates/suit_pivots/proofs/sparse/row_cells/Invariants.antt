@@ -1,6 +1,6 @@
-use Rattle.std.specs.Prelude.{take, ◌∷◌}
-use Rattle.suit_pivots.proofs.SparsePrograms.{HoldNumbers}
+use Rattle.std.specs.Prelude.{take}
+use Rattle.suit_pivots.proofs.SparseRows.{HoldParts}
 use Rattle.suit_pivots.proofs.sparse.row_cells.Given as goal
 
-abbrev pub invariant-loop-column : goal.invariant-loop-column
-invariant-loop-column l = HoldNumbers l.cells.items (l.row.bound ∷ take l.column l.entries)
+abbrev pub invariant-loop-index : goal.invariant-loop-index
+invariant-loop-index l = HoldParts l.columns l.row.bound (take l.index l.entries) l.cells.items

@@ -1,5 +1,6 @@
+use Rattle.suit_tableaus.specs.Sparse.{dense}
 use Rattle.suit_pivots.proofs.SparsePrograms.{AreRowsBelow}
 use Rattle.suit_pivots.proofs.sparse.sparse_rows.Given as goal
 
 abbrev pub invariant-loop-index : goal.invariant-loop-index
-invariant-loop-index l = AreRowsBelow l.program l.index l.rows.items
+invariant-loop-index l = AreRowsBelow (dense l.program) l.index l.rows.items
