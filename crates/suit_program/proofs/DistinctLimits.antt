@@ -64,7 +64,7 @@ step_before false true rest later gives less = gives less
 step_before false false rest later gives less = absurd (cc)
 
 -- counts that compare as less stand before
-less_before : (here there : Counts) → slice_cmp nat_cmp here there ≡ Less → counts_before here there ≡ true
+pub less_before : (here there : Counts) → slice_cmp nat_cmp here there ≡ Less → counts_before here there ≡ true
 unfolding is_earlier
 less_before [] [] less = absurd (cc)
 less_before [] (other ∷ others) less = refl

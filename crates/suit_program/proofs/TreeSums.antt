@@ -111,7 +111,7 @@ module _ (question : Question) (support : Support) where
       (one.1 ∙ ap (filter one.0) legal.1 ∙ filter-filter legal.0 one.0 every_move)
 
   -- of the moves with which a class history goes on those of a class layout in which it is reached are its moves
-  next_held : (history : List ClassMove) (layout : Counts × ℕ)
+  pub next_held : (history : List ClassMove) (layout : Counts × ℕ)
       → Contains (reached_layouts question support history) layout
       → filter (is_among (supported_moves question support layout.0 history)) (next_moves question support history)
       ≡ supported_moves question support layout.0 history

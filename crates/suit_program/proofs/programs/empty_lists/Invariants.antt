@@ -1,0 +1,5 @@
+use Rattle.suit_program.proofs.RowLists.{AreEmpty}
+use Rattle.suit_program.proofs.programs.empty_lists.Given as goal
+
+abbrev pub invariant-loop-index : goal.invariant-loop-index
+invariant-loop-index l = AreEmpty l.index l.lists.items

@@ -1,0 +1,19 @@
+use Rattle.std.proofs.Common.{◌≡◌, length, map, take}
+use Rattle.std.specs.Prelude.{filter}
+use Rattle.suit_tree.specs.Nodes.{children_of}
+use Rattle.suit_program.specs.Reaches.{goes_on, move_of}
+use Rattle.suit_program.specs.DraftWalks.{IsAsked, IsOpened}
+use Rattle.suit_program.proofs.WrittenWalks.{ArePassed}
+use Rattle.suit_program.proofs.walk.+write.Given as goal
+
+abbrev pub decreases-write : goal.decreases-write
+decreases-write l = l.more
+
+abbrev pub invariant-loop-child : goal.invariant-loop-child
+invariant-loop-child l = (case : IsAsked l.fn.draft l.reach l.accounts)
+    → IsOpened case.question case.support case.history l.mass l.accounts l.fn.draft l.initial.draft l.turn
+    × ArePassed case.question case.support case.history l.mass l.accounts l.turn l.initial.draft l.draft
+    (map move_of (filter (goes_on case.question case.support case.history)
+    (take l.child-index (children_of l.reach.node))))
+    × (l.passed ≡ length (map move_of (filter (goes_on case.question case.support case.history)
+    (take l.child-index (children_of l.reach.node)))))
