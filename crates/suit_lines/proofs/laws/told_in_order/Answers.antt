@@ -1,0 +1,5 @@
+use Rattle.suit_lines.proofs.ToldHistories.{told_in_order}
+use Rattle.suit_lines.proofs.laws.told_in_order.Goals as goal
+
+pub returns : goal.returns
+returns c = told_in_order

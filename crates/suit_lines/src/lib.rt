@@ -1,0 +1,15 @@
+//! Lines of play: a plan told to a player in sentences, one for each choice that declarer comes to.
+#![tactic(auto)]
+
+pub mod laws;
+mod moves;
+mod sentences;
+mod telling;
+#[cfg(test)]
+mod tests;
+mod value;
+
+pub use telling::lines_text;
+
+/// Memory ran out.
+pub type Memory = std::alloc::AllocError;
