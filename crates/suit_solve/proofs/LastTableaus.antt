@@ -1,0 +1,149 @@
+-- The optimum that the last tableau of a run holds (`holds_optimum`, `last_proves`).
+use Rattle.std.proofs.Common.{◌≡◌, ℕ, zero, suc, ◌+◌, ◌==◌, Bool, true, false, List, [], ◌∷◌, length, map, refl, sym}
+use Rattle.std.proofs.Common.{ap, ◌∙◌, subst, Some, None, Option, cond, arith, Ok}
+use Rattle.std.specs.Prelude.{find, slice_get, ℤ, pos, ◌*ℤ◌, ◌<ℤ◌, ◌≤ℤ◌, int_lt}
+use Rattle.std.specs.List.{AllByRecursion, range_with_len}
+use Rattle.std.proofs.lemmas.Bool.Decides.{nat_tests}
+use Rattle.std.proofs.lemmas.Int.{ints}
+use Rattle.std.proofs.lemmas.List.Elements.{recursion_from_All}
+use Rattle.suit_num.specs.declared.fraction.Frac.{Frac}
+use Rattle.suit_num.proofs.IntegerLaws.{int_lt-false, mul-one}
+use Rattle.suit_tableaus.specs.declared.program.Program.{Program}
+use Rattle.suit_tableaus.specs.declared.ends.Optimum.{Optimum}
+use Rattle.suit_tableaus.specs.Programs.{IsWellFormed}
+use Rattle.suit_tableaus.specs.Tableaus.{TableauRow, Tableau, bound, entry}
+use Rattle.suit_tableaus.specs.Runs.{RunEnd, AtOptimum, run_end}
+use Rattle.suit_tableaus.specs.Ends.{IsBasicValue, IsOptimumOf, Tells}
+use Rattle.suit_tableaus.specs.Optima.{IsDualOptimum, IsPrimalOptimum}
+use Rattle.suit_tableaus.proofs.SoundTableaus.{IsSound}
+use Rattle.suit_simplex.proofs.FastAnswers.{last_of, told_dual, told_primal}
+use Rattle.suit_simplex.proofs.OneOptimum.{one_optimum}
+use Rattle.suit_solve.specs.Fractions.{fraction, fraction_by}
+use Rattle.suit_solve.specs.LastTableaus.{basic_value, optimum_at, value_at}
+use Rattle.suit_solve.specs.LowestTerms.{lowest_den, lowest_exact, lowest_num}
+
+-- ---- fractions
+
+by_exact : (num den : ℤ) (b : Bool) (told : int_lt (pos 0) den ≡ b) → pos 0 <ℤ den
+    → num *ℤ (fraction_by num den b told).den ≡ (fraction_by num den b told).num *ℤ den
+by_exact num den true told some = lowest_exact num den told
+by_exact num den false told some =
+    let low : den ≤ℤ pos 0 = int_lt-false (pos 0) den told in absurd (omega (arith, ints))
+
+-- a fraction is its number over the other
+pub fraction_exact : (num den : ℤ) → pos 0 <ℤ den → num *ℤ (fraction num den).den ≡ (fraction num den).num *ℤ den
+unfolding fraction
+fraction_exact num den some = by_exact num den (int_lt (pos 0) den) (λ i. int_lt (pos 0) den) some
+
+by_small : (num den : ℤ) (b : Bool) (told : int_lt (pos 0) den ≡ b) → pos 0 <ℤ den → pos 0 ≤ℤ num
+    → (pos 0 ≤ℤ (fraction_by num den b told).num) × ((fraction_by num den b told).num ≤ℤ num)
+    × ((fraction_by num den b told).den ≤ℤ den)
+by_small num den true told some low =
+    let small = lowest_num num den told low in (small.0, small.1, lowest_den num den told)
+by_small num den false told some low =
+    let none : den ≤ℤ pos 0 = int_lt-false (pos 0) den told in absurd (omega (arith, ints))
+
+-- and no part of it is larger
+pub fraction_small : (num den : ℤ) → pos 0 <ℤ den → pos 0 ≤ℤ num
+    → (pos 0 ≤ℤ (fraction num den).num) × ((fraction num den).num ≤ℤ num) × ((fraction num den).den ≤ℤ den)
+unfolding fraction
+fraction_small num den some low = by_small num den (int_lt (pos 0) den) (λ i. int_lt (pos 0) den) some low
+
+one_positive : pos 0 <ℤ pos 1
+one_positive = omega (arith, ints)
+
+nothing_times : (d : ℤ) → pos 0 *ℤ d ≡ pos 0
+nothing_times d = omega (arith, ints)
+
+nothing : (fraction (pos 0) (pos 1)).num ≡ pos 0
+nothing =
+    let f : Frac = fraction (pos 0) (pos 1) in
+    sym (mul-one f.num) ∙ sym (fraction_exact (pos 0) (pos 1) one_positive) ∙ nothing_times f.den
+
+-- ---- rows
+
+same_number : (a b : ℕ) → (a == b) ≡ true → a ≡ b
+same_number a b passed = grind (arith, nat_tests)
+
+-- what holds of each element holds of the one that is found
+found_fits : {X : Type 0} (P : X → Type 0) (test : X → Bool) (xs : List X) (x : X) → AllByRecursion P xs
+    → find test xs ≡ Some x → P x × (test x ≡ true)
+found_fits P test [] x all is = absurd (cc)
+found_fits {X} P test (first ∷ xs) x all is =
+    by_test (λ found. found_fits P test xs x all.1 found) (test first) refl is
+  where
+    by_test : (find test xs ≡ Some x → P x × (test x ≡ true)) → (b : Bool) → test first ≡ b
+        → cond b (Some first) (find test xs) ≡ Some x → P x × (test x ≡ true)
+    by_test later true e found =
+        let same : first ≡ x = cc in subst (λ (y : X). P y × (test y ≡ true)) same (all.0, e)
+    by_test later false e found = later found
+
+basic_is : (tableau : Tableau) (column : ℕ) (row : Option TableauRow)
+    → AllByRecursion (λ (other : TableauRow). pos 0 <ℤ entry other other.basic) tableau.rows
+    → find (λ (other : TableauRow). other.basic == column) tableau.rows ≡ row
+    → IsBasicValue column row (basic_value column row)
+basic_is tableau column (Some row) pivotal found =
+    let fits = found_fits (λ (other : TableauRow). pos 0 <ℤ entry other other.basic)
+    (λ (other : TableauRow). other.basic == column) tableau.rows row pivotal found in
+    let here : pos 0 <ℤ entry row column =
+    subst (λ (n : ℕ). pos 0 <ℤ entry row n) (same_number row.basic column fits.1) fits.0 in
+    sym (fraction_exact (bound row) (entry row column) here)
+basic_is tableau column None pivotal found = nothing
+
+-- ---- points
+
+mapped_at : {X : Type 0} (f : ℕ → X) (first count column : ℕ) (x : X)
+    → slice_get (map f (range_with_len first count)) column ≡ Some x → x ≡ f (first + column)
+mapped_at f first zero column x is = absurd (cc)
+mapped_at f first (suc count) zero x is =
+    let same : f first ≡ x = cc in sym same ∙ ap f (omega arith)
+mapped_at f first (suc count) (suc column) x is =
+    mapped_at f (first + 1) count column x is ∙ ap f (omega arith)
+
+mapped_long : {X : Type 0} (f : ℕ → X) (first count : ℕ) → length (map f (range_with_len first count)) ≡ count
+mapped_long f first zero = refl
+mapped_long f first (suc count) = ap suc (mapped_long f (first + 1) count)
+
+zero_plus : (n : ℕ) → 0 + n ≡ n
+zero_plus n = omega arith
+
+-- the optimum that is read from a sound tableau is one that it holds
+pub holds_optimum : (program : Program) (tableau : Tableau) → IsSound program tableau
+    → IsOptimumOf program tableau (optimum_at program tableau)
+unfolding optimum_at
+holds_optimum program tableau sound = record {
+  columns = mapped_long (value_at tableau) 0 (length program.costs);
+  point = λ column part at.
+      subst (IsBasicValue column (find (λ (row : TableauRow). row.basic == column) tableau.rows))
+      (sym (mapped_at (value_at tableau) 0 (length program.costs) column part at
+      ∙ ap (value_at tableau) (zero_plus column)))
+      (basic_is tableau column (find (λ (row : TableauRow). row.basic == column) tableau.rows)
+      (recursion_from_All (λ (row : TableauRow). pos 0 <ℤ entry row row.basic) tableau.rows sound.pivotal) refl);
+  duals = refl;
+  scale = refl;
+  value = refl;
+}
+
+-- ---- runs
+
+module _ (program : Program) (budget : ℕ) (formed : IsWellFormed program) (tableau : Tableau)
+    (ended : run_end program budget ≡ AtOptimum tableau) where
+  -- a run's last tableau holds an optimum
+  pub last_holds : IsOptimumOf program tableau (optimum_at program tableau)
+  last_holds = holds_optimum program tableau (last_of program budget formed tableau ended).0
+
+  tells : Tells program (run_end program budget) (Ok (optimum_at program tableau))
+  tells = subst (λ (end : RunEnd). Tells program end (Ok (optimum_at program tableau))) (sym ended) last_holds
+
+  -- whose point is feasible
+  pub last_primal : IsPrimalOptimum program (optimum_at program tableau)
+  last_primal = told_primal program budget formed (Ok (optimum_at program tableau)) tells
+
+  -- and so are its prices
+  pub last_dual : IsDualOptimum program (optimum_at program tableau)
+  last_dual = told_dual program budget formed (Ok (optimum_at program tableau)) tells
+
+  -- and any other that it holds is the same
+  pub last_is : (optimum : Optimum) → IsOptimumOf program tableau optimum → optimum ≡ optimum_at program tableau
+  last_is optimum is =
+      one_optimum program budget tableau optimum (optimum_at program tableau) formed ended is last_holds

@@ -1,0 +1,15 @@
+pub mod ClassesWithin
+pub mod FatesTold
+pub mod Growth
+pub mod Lacking
+pub mod LastTableaus
+pub mod LayoutCounts
+pub mod PlayedRounds
+pub mod ReplyPlaces
+pub mod Rounds
+pub mod ShownAnswers
+pub mod SolvedRounds
+pub mod WholeNumbers
+pub mod WholeSupports
+pub mod WritableAnswers
+pub mod WritableRows

@@ -1,0 +1,264 @@
+-- A question on its way through the rounds (`first_round`, `next_round`).
+use Rattle.std.proofs.Common.{◌≡◌, ℕ, zero, suc, ◌+◌, ◌*◌, ◌-◌, ◌^◌, ◌<◌, ◌≤◌, Bool, true, false, List, [], ◌∷◌, length, refl}
+use Rattle.std.proofs.Common.{sym, ap, ◌∙◌, subst, Ok, Err, Result, nat_lt, arith, filter, map}
+use Rattle.std.specs.Prelude.{Contains, get_or, not, sum_by, if◌then◌else◌}
+use Rattle.std.specs.List.{AllByRecursion}
+use Rattle.std.proofs.lemmas.Bool.{le-ltb, lt-ltb}
+use Rattle.std.proofs.lemmas.List.Sums.{sum_by-cons}
+use Rattle.suit_cards.specs.Cards.{Counts}
+use Rattle.suit_game.specs.declared.question.Question.{Question}
+use Rattle.suit_game.specs.Validity.{IsValid}
+use Rattle.suit_game.proofs.ListSums.{length_filter-most}
+use Rattle.suit_classes.specs.declared.class_moves.ClassMove.{ClassMove}
+use Rattle.suit_classes.specs.AllowedHistories.{every_move, is_among}
+use Rattle.suit_classes.specs.ClassMoves.{ClassHistory}
+use Rattle.suit_classes.specs.ClassPlaces.{ClassView, class_after, class_decided, class_moves, class_numbers}
+use Rattle.suit_plans.specs.declared.moves.DeclarerMove.{DeclarerMove}
+use Rattle.suit_plans.specs.declared.moves.DefenceMove.{DefenceMove}
+use Rattle.suit_classes.proofs.EveryMove.{class_moves_listed}
+use Rattle.suit_tree.specs.declared.tree_end.TreeEnd.{TreeEnd}
+use Rattle.suit_tree.specs.declared.tree_end.TreeEnd.TheVariants as grown
+use Rattle.suit_tree.specs.declared.tree.Tree.{Tree}
+use Rattle.suit_tree.specs.Trees.{IsTreeOf}
+use Rattle.suit_tree.specs.TreeEnds.{IsPastBudget}
+use Rattle.suit_tree.proofs.ListedHistories.{counted_exactly}
+use Rattle.suit_tree.specs.CountedHistories.{counted_histories, node_count}
+use Rattle.suit_program.specs.Marks.{AreLegalIn, GoesPastNone, IsOwnMove, IsTheirMove}
+use Rattle.suit_program.specs.ReadingLaws.{defence_read, plan_read}
+use Rattle.suit_program.proofs.SupportedTurns.{own_legal}
+use Rattle.suit_plans.proofs.ReplyChoices.{least_choices, most_choices}
+use Rattle.suit_solve.proofs.ReplyPlaces.{own_place, their_place}
+use Rattle.std.proofs.lemmas.List.Elements.{All-from_recursion}
+use Rattle.suit_game.proofs.EachElement.{Contains-map, each_in}
+use Rattle.suit_program.specs.Supports.{Support, first_support, layouts_of, legal_moves, supported_moves, with_moves}
+use Rattle.suit_answer.specs.declared.answer.Answer.{Answer}
+use Rattle.suit_solve.specs.declared.ends.SolveEnd.{SolveEnd}
+use Rattle.suit_solve.specs.declared.ends.SolveEnd.TheVariants as ends
+use Rattle.suit_solve.specs.Ends.{same_end}
+use Rattle.suit_solve.specs.Fates.{Fate, IsEnd, fate, fate_after, fate_from, fate_in_rounds, lacking, lacking_at}
+use Rattle.suit_solve.specs.Plays.{IsRoundEnd}
+use Rattle.suit_solve.specs.Rounds.{RoundEnd, PastSize, PastPivots, PastWidth, Met, Apart, round_end}
+use Rattle.suit_solve.proofs.Growth.{apart_less}
+use Rattle.suit_solve.proofs.Rounds.{IsApartAt, ReadsAt, reads}
+
+-- ---- how many rounds there may be
+
+every_length : length every_move ≡ 40
+unfolding every_move class_numbers
+every_length = refl
+
+moves_few : (view : ClassView) (west : Counts) → length (class_moves view west) ≤ 40
+moves_few view west =
+    subst (λ (moves : List ClassMove). length moves ≤ 40) (sym (class_moves_listed view west))
+    (both (length_filter-most (is_among (class_moves view west)) every_move) every_length)
+  where
+    both : {a b : ℕ} → a ≤ b → b ≡ 40 → a ≤ 40
+    both p q = omega (arith, p, q)
+
+legal_few : (question : Question) (west : Counts) (history : ClassHistory)
+    → length (legal_moves question west history) ≤ 40
+legal_few question west history =
+    by_decided (class_decided (class_after question history)) (class_moves (class_after question history) west)
+    (moves_few (class_after question history) west)
+  where
+    by_decided : (b : Bool) (moves : List ClassMove) → length moves ≤ 40 → length (if b then [] else moves) ≤ 40
+    by_decided true moves few = omega arith
+    by_decided false moves few = few
+
+-- so many moves a class history lacks at most
+few_lacking : (question : Question) (support : Support) (west : Counts) (history : ClassHistory)
+    → lacking_at question support west history ≤ 40
+few_lacking question support west history =
+    both (length_filter-most (λ move. not (is_among (supported_moves question support west history) move))
+    (legal_moves question west history)) (legal_few question west history)
+  where
+    both : {a b : ℕ} → a ≤ b → b ≤ 40 → a ≤ 40
+    both p q = omega (arith, p, q)
+
+each_sum : {X : Type 0} (f : X → ℕ) (xs : List X) → ((x : X) → f x ≤ 40) → sum_by f xs ≤ length xs * 40
+each_sum f [] le = omega arith
+each_sum f (x ∷ xs) le =
+    more (sum_by f (x ∷ xs)) (f x) (sum_by f xs) (length xs) (sum_by-cons f x xs) (le x) (each_sum f xs le)
+  where
+    more : (whole one rest count : ℕ) → whole ≡ one + rest → one ≤ 40 → rest ≤ count * 40 → whole ≤ suc count * 40
+    more whole one rest count is p q = omega (arith, is, p, q)
+
+scaled_sum : {X : Type 0} (f g : X → ℕ) (xs : List X) → ((x : X) → f x ≤ g x * 40)
+    → sum_by f xs ≤ sum_by g xs * 40
+scaled_sum f g [] le = omega arith
+scaled_sum f g (x ∷ xs) le = omega (arith, sum_by-cons f x xs, sum_by-cons g x xs, le x, scaled_sum f g xs le)
+
+-- a support lacks no more than forty moves of each pair
+lacking_few : (question : Question) (support : Support) → lacking question support ≤ node_count question * 40
+unfolding lacking node_count
+lacking_few question support =
+    scaled_sum
+    (λ (layout : Counts × ℕ). sum_by (lacking_at question support layout.0) (counted_histories question layout.0))
+    (λ (layout : Counts × ℕ). length (counted_histories question layout.0)) (layouts_of question)
+    (λ layout. each_sum (lacking_at question support layout.0) (counted_histories question layout.0)
+    (few_lacking question support layout.0))
+
+-- ---- on the way
+
+-- a question has come to a support in a round: its fate is what becomes of it from there on, and the round is not late
+pub record IsAt (question : Question) (support : Support) (round : ℕ) : Type 0 where
+  pub more : ℕ
+  pub enough : lacking question support < more
+  pub fated : fate question ≡ fate_from question more support round
+  pub early : round + lacking question support ≤ lacking question first_support
+
+-- a question whose tree was not grown has ended for the same cause
+pub tree_end : (question : Question) (end : TreeEnd) → IsPastBudget (node_count question) question.nodes end
+    → IsEnd question (same_end end)
+unfolding fate
+tree_end question (grown.Nodes budget) past =
+    ap (λ (b : Bool). if b then Err (ends.Nodes question.nodes) else fate_in_rounds question)
+    (lt-ltb question.nodes (node_count question) past.1)
+    ∙ ap (λ (n : ℕ). Err (ends.Nodes n)) (sym past.0)
+tree_end question grown.Memory past = tt
+
+-- it begins with the support of first moves, where its tree is within the budget
+pub first_round : (question : Question) (support : Support) → node_count question ≤ question.nodes
+    → support ≡ first_support → IsAt question support 0
+unfolding fate
+first_round question support within is =
+    subst (λ (other : Support). IsAt question other 0) (sym is) (record {
+      more = suc (lacking question first_support);
+      enough = one_more (lacking question first_support);
+      fated = ap (λ (b : Bool). if b then Err (ends.Nodes question.nodes) else fate_in_rounds question)
+          (le-ltb question.nodes (node_count question) within);
+      early = same (lacking question first_support);
+    })
+  where
+    one_more : (n : ℕ) → n < suc n
+    one_more n = omega arith
+
+    same : (n : ℕ) → 0 + n ≤ n
+    same n = omega arith
+
+-- no tree within the budget of any question has so many moves that a round's number is too wide
+pub round_fits : (question : Question) (support : Support) (round : ℕ) → IsValid question
+    → node_count question ≤ question.nodes → IsAt question support round → round < 2 ^ 28
+round_fits question support round valid within at =
+    small (lacking question support) (lacking question first_support) (node_count question) question.nodes at.early
+    (lacking_few question first_support) within valid.nodes_most
+  where
+    small : (left first count nodes : ℕ) → round + left ≤ first → first ≤ count * 40 → count ≤ nodes
+        → nodes ≤ 4000000 → round < 2 ^ 28
+    small left first count nodes early few le most = omega (arith, early, few, le, most)
+
+some_more : (less more : ℕ) → less < more → (left : ℕ) × (more ≡ suc left)
+some_more less zero below = absurd (omega (arith, below))
+some_more less (suc left) below = (left, refl)
+
+-- a counted class history goes past no decided position
+past_none : (question : Question) → IsValid question → (layout : Counts × ℕ) (history : ClassHistory)
+    → Contains (layouts_of question) layout → Contains (counted_histories question layout.0) history
+    → GoesPastNone question history
+past_none question valid layout history listed counted =
+    ((counted_exactly question layout.0 history valid
+    (Contains-map (λ (other : Counts × ℕ). other.0) (layouts_of question) layout listed)).0 counted).undecided
+
+module _ (question : Question) (support : Support) (round : ℕ) (at : IsAt question support round) where
+  -- what becomes of a question where a round ends so
+  fated_by : (left : ℕ) → at.more ≡ suc left
+      → fate question ≡ fate_after question support round (fate_from question left) (round_end question support)
+  unfolding fate_from
+  fated_by left is = at.fated ∙ ap (λ (n : ℕ). fate_from question n support round) is
+
+  pub fate_of_met : (answer : Answer) → round_end question support ≡ Met answer → fate question ≡ Ok answer
+  fate_of_met answer is =
+      let some = some_more (lacking question support) at.more at.enough in
+      fated_by some.0 some.1 ∙ ap (fate_after question support round (fate_from question some.0)) is
+
+  pub fate_of_end : (end : SolveEnd) → IsRoundEnd (round_end question support) round end → IsEnd question end
+  fate_of_end end is =
+      let some = some_more (lacking question support) at.more at.enough in
+      by_end some.0 end (fated_by some.0 some.1) is
+    where
+      by_end : (left : ℕ) (end : SolveEnd)
+          → fate question ≡ fate_after question support round (fate_from question left) (round_end question support)
+          → IsRoundEnd (round_end question support) round end → IsEnd question end
+      by_end left (ends.Nodes budget) fated is = absurd is
+      by_end left (ends.Support told) fated is =
+          fated ∙ ap (fate_after question support round (fate_from question left)) is.0
+          ∙ ap (λ (n : ℕ). Err (ends.Support n)) (sym is.1)
+      by_end left (ends.Pivots told) fated is =
+          fated ∙ ap (fate_after question support round (fate_from question left)) is.0
+          ∙ ap (λ (n : ℕ). Err (ends.Pivots n)) (sym is.1)
+      by_end left (ends.Wide told) fated is =
+          fated ∙ ap (fate_after question support round (fate_from question left)) is.0
+          ∙ ap (λ (n : ℕ). Err (ends.Wide n)) (sym is.1)
+      by_end left ends.Memory fated is = tt
+
+  -- ---- the next round
+
+  module _ (valid : IsValid question) (own : List DeclarerMove) (theirs : List DefenceMove)
+      (ended : round_end question support ≡ Apart own theirs) where
+    apart : IsApartAt question support own theirs
+    unfolding ReadsAt
+    apart = subst (ReadsAt question support) ended (reads question support valid)
+
+    -- the support lacks fewer moves
+    pub next_less : lacking question (with_moves question support own theirs) < lacking question support
+    next_less = apart_less question support own theirs apart
+
+    pub next_at : IsAt question (with_moves question support own theirs) (round + 1)
+    next_at =
+        let some = some_more (lacking question support) at.more at.enough in
+        record {
+          more = some.0;
+          enough = under at.more some.0 (lacking question support)
+              (lacking question (with_moves question support own theirs)) some.1 at.enough next_less;
+          fated = fated_by some.0 some.1
+              ∙ ap (fate_after question support round (fate_from question some.0)) ended
+              ∙ ap (fate_from question some.0 (with_moves question support own theirs)) (next_number round);
+          early = later (lacking question first_support) (lacking question support)
+              (lacking question (with_moves question support own theirs)) at.early next_less;
+        }
+      where
+        under : (more left less fewer : ℕ) → more ≡ suc left → less < more → fewer < less → fewer < left
+        under more left less fewer is p q = omega (arith, is, p, q)
+
+        later : (first less fewer : ℕ) → round + less ≤ first → fewer < less → round + 1 + fewer ≤ first
+        later first less fewer p q = omega (arith, p, q)
+
+        next_number : (n : ℕ) → suc n ≡ n + 1
+        next_number n = omega arith
+
+    pub own_move : (entry : DeclarerMove) → Contains own entry → IsOwnMove question entry
+    own_move entry found =
+        let listed = subst (λ (moves : List DeclarerMove). Contains moves entry) (sym apart.own_is) found in
+        let choice = most_choices question (defence_read question support apart.optimum) entry valid listed in
+        let placed = own_place question valid (defence_read question support apart.optimum) entry listed in
+        record {
+          allowed = choice.allowed;
+          past = past_none question valid placed.0 entry.history placed.1.listed placed.1.counted;
+          turn = choice.turn;
+          legal = subst (λ (moves : List ClassMove). Contains moves entry.mv)
+              (sym (own_legal question support placed.0.0 entry.history choice.going choice.turn)) placed.1.legal;
+        }
+
+    pub their_move : (entry : DefenceMove) → Contains theirs entry → IsTheirMove question entry
+    their_move entry found =
+        let listed = subst (λ (moves : List DefenceMove). Contains moves entry) (sym apart.theirs_is) found in
+        let chosen = least_choices question (plan_read question support apart.optimum) entry valid listed in
+        let placed = their_place question valid (plan_read question support apart.optimum) entry listed in
+        record {
+          listed = chosen.0;
+          allowed = placed.0.allowed;
+          past = past_none question valid (get_or (layouts_of question) entry.layout ([], 0)) entry.history
+              placed.0.listed placed.0.counted;
+          turn = placed.1;
+          legal = placed.0.legal;
+        }
+
+    -- both replies may be added to the support
+    abbrev pub next_legal : (tree : Tree) → IsTreeOf question tree → AreLegalIn tree own theirs
+    next_legal tree grown = record {
+      question = question;
+      valid = valid;
+      grown = grown;
+      own_moves = All-from_recursion (IsOwnMove question) own (each_in (IsOwnMove question) own own_move);
+      their_moves = All-from_recursion (IsTheirMove question) theirs (each_in (IsTheirMove question) theirs their_move);
+    }
