@@ -6,4 +6,8 @@ mod checking;
 #[cfg(test)]
 mod solved;
 #[cfg(test)]
+mod solving;
+#[cfg(test)]
+mod telling;
+#[cfg(test)]
 mod tests;

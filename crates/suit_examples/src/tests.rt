@@ -42,7 +42,7 @@ const ANSWERED: [(&str, &str, &str); 8] = [
     ),
 ];
 
-/// The question that only `weigh` takes so far.
+/// A question whose weights are told.
 const NINE_CARDS: &str =
     "# Nine cards without the queen: play for the drop, or finesse?\nnorth AKJT9\nsouth 8765\ngoal 5\nend\n";
 
@@ -81,9 +81,6 @@ fn solve_answers_the_examples(rt: HostRuntime) -> Result<(), Fail> {
         let want = format!(in rt.alloc(); "answer 1\nvalue {value}\nplan 1 0\ndefence 1 0\nend\n")?;
         assert_eq!(rt; written.as_slice(), want.as_bytes(), "at {name}");
     }
-    let (status, written) = ran(&rt, rt.alloc(), "solve", NINE_CARDS)?;
-    assert_eq!(rt; status, Status::NotBuilt);
-    assert!(rt; written.is_empty());
     Ok(())
 }
 

@@ -17,6 +17,7 @@ use Rattle.suit_answer.specs.Reading.{answer_read}
 use Rattle.suit_check.specs.Verdicts.{Finding, Valid, Plan, Defence, Least, Most, verdict_of}
 use Rattle.suit_check.specs.VerdictLaws.{IsMet}
 use Rattle.suit_check.proofs.VerdictsMet.{valid_is_met}
+use Rattle.suit_lift.specs.Certified.{IsCertified}
 use Rattle.suit_lift.proofs.DefenceGains.{defences_hold}
 use Rattle.suit_lift.proofs.OneValue.{met_is_certified}
 use Rattle.suit_lift.proofs.PlanGains.{plans_earn}
@@ -47,10 +48,18 @@ met_whole (negsuc a) num den part whole low above some met = absurd (omega (arit
 met_whole (pos a) num (negsuc d) part whole low above some met = absurd (omega (arith, ints, above))
 met_whole (pos a) num (pos d) (negsuc p) whole low above some met = absurd (omega (arith, some))
 
--- an answer that is met is certified
-met_checks : (question : Question) (rest text : Text) (answer : Answer) → IsValid question
-    → answer_read question rest ≡ Ok answer → IsMet question answer → text ≡ valid_text → Checks question rest text
-met_checks question rest text answer valid read met is_text =
+-- an answer is certified, and its value is told in whole numbers
+pub record IsCertifiedAnswer (question : Question) (answer : Answer) : Type 0 where
+  pub num : ℕ
+  pub den : ℕ
+  pub num_is : answer.value.num ≡ pos num
+  pub den_is : answer.value.den ≡ pos den
+  pub certified : IsCertified question num den answer.plan answer.defence
+
+-- so is an answer that is met
+pub met_certified : (question : Question) (answer : Answer) → IsValid question → IsMet question answer
+    → IsCertifiedAnswer question answer
+met_certified question answer valid met =
     let low = plans_earn question answer.plan (λ west history move. 0) valid met.plan in
     let high = defences_hold question (λ history move. 0) answer.defence valid met.defence in
     let earned = met_whole (least question answer.plan) answer.value.num answer.value.den answer.plan.den
@@ -58,8 +67,6 @@ met_checks question rest text answer valid read met is_text =
     let given = met_whole (most question answer.defence) answer.value.num answer.value.den answer.defence.den
     (total question) high.not_negative answer.value.positive high.weighs met.most in
     record {
-      answer = answer;
-      read = read;
       num = counted answer.value.num;
       den = counted answer.value.den;
       num_is = earned.num_is;
@@ -70,12 +77,27 @@ met_checks question rest text answer valid read met is_text =
           (subst (λ (n : ℕ). IsCoprime (unsigned_abs answer.value.num) n) (ap unsigned_abs earned.den_is)
           answer.value.coprime))
           (above_nothing answer.value.den answer.value.positive) earned.met given.met;
-      is_text = is_text;
     }
   where
     above_nothing : (z : ℤ) → pos 0 <ℤ z → 0 < counted z
     above_nothing (pos n) some = omega (arith, ints, some)
     above_nothing (negsuc n) some = absurd (omega (arith, ints, some))
+
+-- the text of an answer that is met is certified
+met_checks : (question : Question) (rest text : Text) (answer : Answer) → IsValid question
+    → answer_read question rest ≡ Ok answer → IsMet question answer → text ≡ valid_text → Checks question rest text
+met_checks question rest text answer valid read met is_text =
+    let is = met_certified question answer valid met in
+    record {
+      answer = answer;
+      read = read;
+      num = is.num;
+      den = is.den;
+      num_is = is.num_is;
+      den_is = is.den_is;
+      certified = is.certified;
+      is_text = is_text;
+    }
 
 found_checks : (question : Question) (rest text : Text) (answer : Answer) (found : Finding) → IsValid question
     → answer_read question rest ≡ Ok answer → verdict_of question answer ≡ found

@@ -2,7 +2,7 @@
 use Rattle.std.proofs.Common.{◌≡◌, ℕ, ◌+◌, ◌≤◌, ◌++◌, append-nil, arith, List, [], Result, Ok, Err, Option, None, Some}
 use Rattle.std.proofs.Common.{Bool, true, false, nat_lt, length, refl, sym, ap, ◌∙◌, subst, ◌⊎◌, inl, inr, ◌<◌, IsNone}
 use Rattle.std.specs.Prelude.{if◌then◌else◌, IfSome, IsTrue, MatchBool}
-use Rattle.std.proofs.lemmas.Bool.{le-ltb, lt-ltb, cases_Bool}
+use Rattle.std.proofs.lemmas.Bool.{le-ltb, lt-ltb}
 use Rattle.std.specs.Io.KnownBytes.{Appends, Consumes, IsAtEnd}
 use Rattle.suit_ports.specs.declared.transfer.ReadEnd.{ReadEnd}
 use Rattle.suit_ports.specs.declared.transfer.ReadEnd.TheVariants as Reading
@@ -10,18 +10,16 @@ use Rattle.suit_ports.specs.Counts.{Rose}
 use Rattle.suit_ports.specs.Reading.{Took}
 use Rattle.suit_ports.specs.Room.{KeepsRoom, IsFull}
 use Rattle.suit_game.specs.declared.question.Question.{Question}
-use Rattle.suit_game.specs.OneTrick.{one_trick_value}
 use Rattle.suit_top.specs.declared.commands.Command.{Command}
-use Rattle.suit_top.specs.declared.commands.Command.TheVariants.{Check, Solve, Weigh}
+use Rattle.suit_top.specs.declared.commands.Command.TheVariants.{Check, Lines, Solve, Weigh}
 use Rattle.suit_top.specs.declared.reply.Reply.{Reply}
 use Rattle.suit_top.specs.declared.status.Status.{Status}
-use Rattle.suit_top.specs.declared.status.Status.TheVariants.{Done, Usage, WriteFault, Long, NotBuilt}
+use Rattle.suit_top.specs.declared.status.Status.TheVariants.{Done, Usage, WriteFault, Long}
 use Rattle.suit_cards.specs.Cards.{Text}
 use Rattle.suit_answer.specs.Reading.{answer_read}
 use Rattle.suit_top.specs.Asking.{answer_part, due_of_read}
 use Rattle.suit_top.specs.Commands.{asking_part, command_of, reads_input, limit_of, due_about, due_within, Says}
 use Rattle.suit_top.specs.Commands.{words_read}
-use Rattle.suit_top.specs.Commands.Solving.{is_one_trick, answer_text}
 use Rattle.suit_top.specs.Dues.{Due, done, silent}
 use Rattle.suit_question.specs.Reading.{question_read}
 use Rattle.suit_question.specs.declared.faults.QuestionFault.{QuestionFault}
@@ -30,21 +28,19 @@ use Rattle.suit_top.specs.Owing.{due_for, Owes}
 use Rattle.suit_top.specs.Replies.{IsReply, Delivered, Stopped}
 use Rattle.suit_top.specs.Runs.{IsInput, Ports, Runs}
 use Rattle.suit_top.proofs.Checked.{answer_tells}
+use Rattle.suit_top.proofs.Solved.{fate_tells}
+use Rattle.suit_solve.specs.Fates.{fate}
+use Rattle.suit_top.proofs.ToldAnswers.{told_tells}
 use Rattle.suit_top.proofs.Inputs.{is_input, long_input}
 
 -- no command owes Usage about a question
 about_tells : (command : Command) (input : Text) (question : Question)
     → (due_about command input question).status ≡ Usage → ⊥
-about_tells Solve input question usage = elim (cases_Bool (is_one_trick question)) [
-  | inl one ↦ let told : Done ≡ Usage =
-      ap (λ (b : Bool). (if b then done (answer_text (one_trick_value question) 1) else silent NotBuilt).status)
-      (sym one) ∙ usage in cc
-  | inr more ↦ let told : NotBuilt ≡ Usage =
-      ap (λ (b : Bool). (if b then done (answer_text (one_trick_value question) 1) else silent NotBuilt).status)
-      (sym more) ∙ usage in cc
-]
+about_tells Solve input question usage = fate_tells question (fate question) usage
 about_tells Check input question usage =
     answer_tells question (answer_read question (answer_part input)) usage
+about_tells Lines input question usage =
+    told_tells question (answer_read question (answer_part input)) usage
 about_tells Weigh input question usage = cc
 
 -- nor about a text that was read

@@ -5,7 +5,7 @@ use Rattle.std.specs.Prelude.{IsTrue, MatchBool}
 use Rattle.std.specs.Io.KnownBytes.{Consumes}
 use Rattle.suit_cards.specs.Cards.{Text}
 use Rattle.suit_top.specs.declared.commands.Command.{Command}
-use Rattle.suit_top.specs.declared.commands.Command.TheVariants.{Check, Solve, Weigh}
+use Rattle.suit_top.specs.declared.commands.Command.TheVariants.{Check, Lines, Solve, Weigh}
 use Rattle.suit_top.specs.Commands.{command_of, reads_input, words_read}
 use Rattle.suit_top.specs.Runs.{Ports, IsInput}
 
@@ -22,6 +22,7 @@ long_input (Some bytes) (Some rest) taken limit consumed long =
 pub reads_all : (command : Command) → IsTrue (reads_input command)
 reads_all Solve = refl
 reads_all Check = refl
+reads_all Lines = refl
 reads_all Weigh = refl
 
 -- the input of a command that reads is what the source had

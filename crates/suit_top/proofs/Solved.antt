@@ -1,35 +1,46 @@
--- `answered`: a valid question of one trick is settled by its answer.
-use Rattle.std.proofs.Common.{◌≡◌, Bool, true, false, IsTrue, length, refl}
-use Rattle.std.specs.Prelude.{nat_le, not, ◌↔◌}
-use Rattle.std.proofs.lemmas.Bool.{leb-true, and_parts}
+-- `solved`: the answer of a question is certified.
+use Rattle.std.proofs.Common.{◌≡◌, Ok, Err}
 use Rattle.suit_cards.specs.Cards.{Text}
 use Rattle.suit_game.specs.declared.question.Question.{Question}
-use Rattle.suit_game.specs.OneTrick.{one_trick_value}
 use Rattle.suit_game.specs.Validity.{IsValid}
-use Rattle.suit_game.proofs.OneTrickHalves.{one_trick-settled}
-use Rattle.suit_top.specs.Commands.Solving.{Answers, answer_text, is_one_trick}
+use Rattle.suit_answer.specs.declared.answer.Answer.{Answer}
+use Rattle.suit_answer.specs.Writing.{text_of}
+use Rattle.suit_check.specs.VerdictLaws.{IsMet}
+use Rattle.suit_solve.specs.declared.ends.SolveEnd.TheVariants as ends
+use Rattle.suit_solve.specs.Fates.{Fate, fate}
+use Rattle.suit_solve.proofs.FatesTold.{answers_are_shown}
+use Rattle.suit_top.specs.declared.status.Status.TheVariants.{Usage}
+use Rattle.suit_top.specs.Commands.Solving.{Answers, due_of_fate}
+use Rattle.suit_top.proofs.Checked.{met_certified}
 
--- the text of its value answers a question of one trick
-pub answered : (question : Question) (text : Text) → IsValid question → is_one_trick question ≡ true
-    → text ≡ answer_text (one_trick_value question) 1 → Answers question text
-answered question text valid small is_text =
-    let parts : (nat_le (length question.north) 1 ≡ true) × (nat_le (length question.south) 1 ≡ true) =
-    and_parts (nat_le (length question.north) 1) (nat_le (length question.south) 1) small in
+-- the answer of a question is met by its plan and its defence
+pub fate_met : (question : Question) (answer : Answer) → IsValid question → fate question ≡ Ok answer
+    → IsMet question answer
+fate_met question answer valid is =
+    let shown = answers_are_shown question answer valid is in
+    record { plan = shown.plan; defence = shown.defence; least = shown.least; most = shown.most }
+
+-- so its text answers the question
+pub solved : (question : Question) (text : Text) (answer : Answer) → IsValid question → fate question ≡ Ok answer
+    → text ≡ text_of question answer → Answers question text
+solved question text answer valid is is_text =
+    let certified = met_certified question answer valid (fate_met question answer valid is) in
     record {
-      num = one_trick_value question;
-      den = 1;
+      answer = answer;
+      is_fate = is;
+      num = certified.num;
+      den = certified.den;
+      num_is = certified.num_is;
+      den_is = certified.den_is;
+      certified = certified.certified;
       is_text = is_text;
-      settled = one_trick-settled question (record {
-        north = valid.north;
-        south = valid.south;
-        north_one = leb-true (length question.north) 1 parts.0;
-        south_one = leb-true (length question.south) 1 parts.1;
-      }) valid.has_weight;
     }
 
--- two tests that tell the same tell the same when turned
-pub same_told : (P : Type 0) (told whole : Bool) → (IsTrue told ↔ P) → (P ↔ (whole ≡ true)) → not told ≡ not whole
-same_told P true true tells is = refl
-same_told P false false tells is = refl
-same_told P true false tells is = let no = is.0 (tells.0 refl) in cc
-same_told P false true tells is = let no = tells.1 (is.1 refl) in cc
+-- no fate owes Usage
+pub fate_tells : (question : Question) (found : Fate) → (due_of_fate question found).status ≡ Usage → ⊥
+fate_tells question (Ok answer) usage = cc
+fate_tells question (Err (ends.Nodes budget)) usage = cc
+fate_tells question (Err (ends.Support round)) usage = cc
+fate_tells question (Err (ends.Pivots round)) usage = cc
+fate_tells question (Err (ends.Wide round)) usage = cc
+fate_tells question (Err ends.Memory) usage = cc

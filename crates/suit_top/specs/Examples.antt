@@ -1,20 +1,13 @@
--- What some runs owe, written down by hand: one for each status that has a text, and two that have none.
+-- What some runs owe, written down by hand.
 use Rattle.std.specs.Prelude.{◌≡◌, [], ◌∷◌, codes}
 use Rattle.suit_cards.specs.Cards.{Text}
 use Rattle.suit_top.specs.declared.status.Status.{Status}
-use Rattle.suit_top.specs.declared.status.Status.TheVariants.{Done, Usage, Malformed, NotBuilt}
+use Rattle.suit_top.specs.declared.status.Status.TheVariants.{Done, Usage, Malformed}
 use Rattle.suit_top.specs.Owing.{due}
 
 -- a run of one word with this input owes this status with this text
 abbrev pub Owed : Text → Text → Status → Text → Type 0
 Owed word input status text = due (word ∷ []) input ≡ record { status = status; text = text }
-
--- answers of `solve`
-pub record Solved : Type 0 where
-  pub ace : Owed (codes "solve") (codes "north A\nsouth 2\ngoal 1\nend\n") Done
-      (codes "answer 1\nvalue 1/1\nplan 1 0\ndefence 1 0\nend\n")
-  pub king : Owed (codes "solve") (codes "north K\nsouth 2\ngoal 1\nend\n") Done
-      (codes "answer 1\nvalue 0/1\nplan 1 0\ndefence 1 0\nend\n")
 
 -- a text of `weigh`: two cards are missing
 pub record Weighed : Type 0 where
@@ -26,5 +19,4 @@ pub record Refused : Type 0 where
   pub twice : Owed (codes "solve") (codes "north A\nsouth 2\nnorth A\n") Malformed (codes "malformed 3 at line 3\n")
   pub vacant : Owed (codes "weigh") (codes "vacant 1 1\nsouth -\nnorth AKQJT98765\ngoal 1\nend\n") Malformed
       (codes "malformed 10 at line 5\n")
-  pub two_tricks : Owed (codes "solve") (codes "north AK\nsouth 2\ngoal 1\nend\n") NotBuilt []
   pub other_word : Owed (codes "Solve") [] Usage []

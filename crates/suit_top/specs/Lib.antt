@@ -1,11 +1,13 @@
 pub mod Asking
 pub mod Commands
+pub mod Completeness
 pub mod Dues
 pub mod Examples
 pub mod Owing
 pub mod Refusals
 pub mod Replies
 pub mod Runs
+pub mod SolvedTexts
 pub mod Statuses
 pub mod Texts
 pub mod Words

@@ -97,3 +97,19 @@ most_line found = fraction_line (codes "not valid: most ") found
 -- the line that is written where a tree has more nodes than the question's budget
 abbrev pub nodes_line : ℕ → Text
 nodes_line budget = codes "nodes " ++ decimal budget ++ codes "\n"
+
+-- the line of what has passed a limit in a round, counted from 0
+abbrev pub round_line : Text → ℕ → Text
+round_line what round = what ++ codes " at round " ++ decimal round ++ codes "\n"
+
+-- the line that is written where the program of a round's support is too large
+abbrev pub size_line : ℕ → Text
+size_line round = round_line (codes "support") round
+
+-- the line that is written where the run of a round needs more pivots than the question's budget
+abbrev pub pivots_line : ℕ → ℕ → Text
+pivots_line budget round = round_line (codes "pivots " ++ decimal budget) round
+
+-- the line that is written where a number of a round is too wide
+abbrev pub width_line : ℕ → Text
+width_line round = round_line (codes "wide") round

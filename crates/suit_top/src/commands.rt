@@ -15,6 +15,7 @@ use suit_game::{Gate, Question};
 use suit_question::{question_end, read_question};
 
 mod check;
+mod lines;
 mod solve;
 mod weigh;
 
@@ -28,6 +29,8 @@ pub enum Command {
     Solve,
     /// Check the answer that follows the question that is read.
     Check,
+    /// Tell in sentences the plan of the answer that follows the question that is read.
+    Lines,
     /// Tell the weights of the class layouts of the question that is read.
     Weigh,
 }
@@ -43,6 +46,9 @@ impl Command {
         if check::are_words(words) {
             return Some(Command::Check);
         }
+        if lines::are_words(words) {
+            return Some(Command::Lines);
+        }
         if weigh::are_words(words) {
             return Some(Command::Weigh);
         }
@@ -56,6 +62,7 @@ impl Command {
         match self {
             Command::Solve => solve::LIMIT,
             Command::Check => check::LIMIT,
+            Command::Lines => lines::LIMIT,
             Command::Weigh => weigh::LIMIT,
         }
     }
@@ -88,7 +95,7 @@ impl Command {
     {
         match self {
             Command::Solve | Command::Weigh => input,
-            Command::Check => input.split_at(question_end(input)).0,
+            Command::Check | Command::Lines => input.split_at(question_end(input)).0,
         }
     }
 
@@ -111,6 +118,7 @@ impl Command {
         match self {
             Command::Solve => solve::reply(alloc, question),
             Command::Check => check::reply(rt, gate, alloc, question, answer_part(input)),
+            Command::Lines => lines::reply(rt, gate, alloc, question, answer_part(input)),
             Command::Weigh => weigh::reply(alloc, question),
         }
     }

@@ -1,10 +1,5 @@
 //! What some runs owe, by the definitions, on texts that were read apart from them.
-ghost use Rattle.suit_top.specs.Examples.{Solved, Weighed, Refused};
-
-/// Answers of `solve`.
-pub fn solved()
-    ensures { Solved }
-{}
+ghost use Rattle.suit_top.specs.Examples.{Weighed, Refused};
 
 /// A text of `weigh`.
 pub fn weighed()

@@ -3,6 +3,7 @@
 
 mod commands;
 pub mod examples;
+pub mod laws;
 mod refusal;
 mod reply;
 mod status;

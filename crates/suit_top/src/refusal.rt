@@ -4,6 +4,7 @@ ghost use Rattle.suit_check.specs.Verdicts.{parts_of};
 ghost use Rattle.suit_top.specs.Refusals.{answer_fault_number, answer_fault_place, answer_line};
 ghost use Rattle.suit_top.specs.Refusals.{defence_line, fault_line, fault_number, fraction_line, least_line};
 ghost use Rattle.suit_top.specs.Refusals.{malformed_line, most_line, nodes_line, plan_fault_number, plan_line};
+ghost use Rattle.suit_top.specs.Refusals.{pivots_line, size_line, width_line};
 
 use arrayvec::ArrayString;
 use itoa::Buffer;
@@ -75,6 +76,43 @@ pub fn past_nodes(budget: u32) -> Refusal
     let mut text = Refusal::new();
     text.push_str("nodes ");
     text.push_str(Buffer::new().format(budget));
+    text.push_str("\n");
+    text
+}
+
+/// The line that is written where the program of a round's support is too large.
+pub fn past_size(round: u32) -> Refusal
+    ensures { result.bytes ≡ size_line round }
+{
+    let mut text = Refusal::new();
+    text.push_str("support");
+    text.push_str(" at round ");
+    text.push_str(Buffer::new().format(round));
+    text.push_str("\n");
+    text
+}
+
+/// The line that is written where the run of a round needs more pivots than this budget.
+pub fn past_pivots(budget: u32, round: u32) -> Refusal
+    ensures { result.bytes ≡ pivots_line budget round }
+{
+    let mut text = Refusal::new();
+    text.push_str("pivots ");
+    text.push_str(Buffer::new().format(budget));
+    text.push_str(" at round ");
+    text.push_str(Buffer::new().format(round));
+    text.push_str("\n");
+    text
+}
+
+/// The line that is written where a number of a round is too wide.
+pub fn past_width(round: u32) -> Refusal
+    ensures { result.bytes ≡ width_line round }
+{
+    let mut text = Refusal::new();
+    text.push_str("wide");
+    text.push_str(" at round ");
+    text.push_str(Buffer::new().format(round));
     text.push_str("\n");
     text
 }

@@ -20,6 +20,8 @@ use suit_question::QuestionFault;
 pub enum ReplyText {
     /// A text of any length, made in memory.
     Made(String),
+    /// A text that was made byte by byte.
+    Written(Vec<u8>),
     /// One line, which took no memory.
     Line(Refusal),
     /// No byte.
@@ -33,6 +35,7 @@ impl ReplyText {
     {
         match self {
             ReplyText::Made(text) => text.as_bytes(),
+            ReplyText::Written(text) => text,
             ReplyText::Line(text) => text.as_bytes(),
             ReplyText::Nothing => &[],
         }
@@ -55,6 +58,17 @@ impl Reply {
         Reply {
             status: Status::Done,
             text: ReplyText::Made(text),
+        }
+    }
+
+    /// The text that the command is for, by its bytes.
+    pub fn written(text: Vec<u8>) -> Reply
+        ensures status { result.status ≡ Status.Done }
+        ensures text { text_bytes result.text ≡ text.items }
+    {
+        Reply {
+            status: Status::Done,
+            text: ReplyText::Written(text),
         }
     }
 

@@ -15,16 +15,20 @@ pub enum Status {
     Malformed,
     /// The question's tree has more nodes than its budget.
     Nodes,
+    /// The run of a program needs more pivots than the question's budget.
+    Pivots,
+    /// A number of the run of a program, or a denominator that is read from its optimum, is too wide.
+    Wide,
     /// The source failed.
     ReadFault,
     /// The sink failed or took nothing, before the whole text was written.
     WriteFault,
     /// For want of memory nothing was written.
     Memory,
+    /// The program of a support is too large.
+    Support,
     /// The input has more bytes than the command takes.
     Long,
-    /// The question has two or more cards in one declarer hand, and such a question is not solved so far.
-    NotBuilt,
 }
 
 impl Status {
@@ -38,11 +42,13 @@ impl Status {
             Status::Usage => 2,
             Status::Malformed => 3,
             Status::Nodes => 4,
+            Status::Pivots => 5,
+            Status::Wide => 6,
             Status::ReadFault => 7,
             Status::WriteFault => 8,
             Status::Memory => 9,
+            Status::Support => 10,
             Status::Long => 11,
-            Status::NotBuilt => 13,
         }
     }
 }

@@ -160,7 +160,6 @@ fn weights_and_refusals(rt: HostRuntime) -> Result<(), Fail> {
             3,
             "malformed 12 at line 5\n",
         ),
-        ("solve", "north AK\nsouth 2\ngoal 1\nend\n", 13, ""),
     ];
     for (word, input, code, text) in cases {
         let (status, written) = ran(&rt, rt.alloc(), &[word], input.as_bytes())?;

@@ -1,36 +1,43 @@
--- `solve`: the value of a question, with a plan and a defence. So far it answers questions of one trick.
-use Rattle.std.specs.Prelude.{◌≡◌, ℕ, nat_le, ◌&&◌, ◌++◌, Bool, List, [], length, codes, decimal, if◌then◌else◌}
+-- `solve`: the value of a question, with a plan and a defence that show it.
+use Rattle.std.specs.Prelude.{◌≡◌, ℕ, Bool, List, Ok, Err, codes, pos}
 use Rattle.suit_cards.specs.Cards.{Text}
 use Rattle.suit_game.specs.declared.question.Question.{Question}
-use Rattle.suit_game.specs.OneTrick.{one_trick_value}
-use Rattle.suit_game.specs.Settled.{Settles}
-use Rattle.suit_game.specs.Strategies.{by_rows, by_defence_rows}
-use Rattle.suit_top.specs.declared.status.Status.TheVariants.{NotBuilt}
+use Rattle.suit_answer.specs.declared.answer.Answer.{Answer}
+use Rattle.suit_answer.specs.Writing.{text_of}
+use Rattle.suit_lift.specs.Certified.{IsCertified}
+use Rattle.suit_solve.specs.declared.ends.SolveEnd.TheVariants as ends
+use Rattle.suit_solve.specs.Fates.{Fate, fate}
+use Rattle.suit_top.specs.declared.status.Status.TheVariants.{Memory, Nodes, Pivots, Support, Wide}
 use Rattle.suit_top.specs.Dues.{Due, done, silent}
+use Rattle.suit_top.specs.Refusals.{nodes_line, pivots_line, size_line, width_line}
 use Rattle.suit_top.specs.Words.{is_only}
 
 -- the words of the command
 abbrev pub is_solve : List Text → Bool
 is_solve words = is_only (codes "solve") words
 
--- whether no declarer hand has two cards
-abbrev pub is_one_trick : Question → Bool
-is_one_trick question = nat_le (length question.north) 1 && nat_le (length question.south) 1
-
--- an answer of the value num / den, whose plan and defence have no rows
-abbrev pub answer_text : ℕ → ℕ → Text
-answer_text num den =
-    codes "answer 1\nvalue " ++ decimal num ++ codes "/" ++ decimal den ++ codes "\nplan 1 0\ndefence 1 0\nend\n"
+-- what is due about a question that has this fate; want of memory is none
+abbrev pub due_of_fate : Question → Fate → Due
+due_of_fate question (Ok answer) = done (text_of question answer)
+due_of_fate question (Err (ends.Nodes budget)) = record { status = Nodes; text = nodes_line budget }
+due_of_fate question (Err (ends.Support round)) = record { status = Support; text = size_line round }
+due_of_fate question (Err (ends.Pivots round)) = record { status = Pivots; text = pivots_line question.pivots round }
+due_of_fate question (Err (ends.Wide round)) = record { status = Wide; text = width_line round }
+due_of_fate question (Err ends.Memory) = silent Memory
 
 -- what is due about a question
 abbrev pub due_solving : Question → Due
-due_solving question =
-    if is_one_trick question then done (answer_text (one_trick_value question) 1) else silent NotBuilt
+due_solving question = due_of_fate question (fate question)
 
--- a text answers a question: it has a value, its plan earns at least that against every defence, and its defence holds
--- every plan to at most that
+-- a text answers a question: it is that of an answer, which is the question's fate, and whose value is certified by its
+-- plan and its defence: played with single cards, the plan earns at least that against every defence, and the defence
+-- holds every way of declarer's to at most that
 pub record Answers (question : Question) (text : Text) : Type 0 where
+  pub answer : Answer
+  pub is_fate : fate question ≡ Ok answer
   pub num : ℕ
   pub den : ℕ
-  pub is_text : text ≡ answer_text num den
-  pub settled : Settles question (by_rows []) (by_defence_rows []) num den
+  pub num_is : answer.value.num ≡ pos num
+  pub den_is : answer.value.den ≡ pos den
+  pub certified : IsCertified question num den answer.plan answer.defence
+  pub is_text : text ≡ text_of question answer

@@ -52,7 +52,7 @@ pub fn reply<R: Threads + Sync, G: Gate + Sync>(
 }
 
 /// The reply to a question and an answer.
-fn reply_to_answer<R: Threads + Sync, G: Gate + Sync>(
+pub(super) fn reply_to_answer<R: Threads + Sync, G: Gate + Sync>(
     rt: &R,
     gate: &G,
     alloc: Global,

@@ -20,4 +20,4 @@ pub returns : goal.returns
 unfolding digits suit letters spots_from holding_read next_row binomial_row binomial blocks_of choices_of layouts
     without keyword_named pieces_of first_saying asked_by words_of class_below class_layouts class_weight counts_up_to
     weighed count_text layout_line weights_text
-returns c = record { twice = refl; vacant = refl; two_tricks = refl; other_word = refl }
+returns c = record { twice = refl; vacant = refl; other_word = refl }

@@ -1,0 +1,214 @@
+-- An answer that is told with Done is certified (`told_reply`): `check` finds it valid, and then it can be told
+-- (`done_proper`, `done_tellable`).
+use Rattle.std.proofs.Common.{◌≡◌, ℕ, zero, suc, ◌+◌, ◌*◌, ◌^◌, ◌<◌, ◌≤◌, Bool, true, false, [], Result, Ok, Err, refl, sym}
+use Rattle.std.proofs.Common.{ap, ◌∙◌, subst, arith}
+use Rattle.std.proofs.Math.IntN.{*ℤ_comm}
+use Rattle.std.proofs.Math.Nat.{mul-le-mul_right, pos_of_dvd_of_pos}
+use Rattle.std.proofs.lemmas.Bool.{false≢true}
+use Rattle.std.proofs.lemmas.Int.{ints}
+use Rattle.std.proofs.lemmas.Nat.{div-mul-add, le-div}
+use Rattle.std.specs.Prelude.{ℤ, pos, negsuc, ◌*ℤ◌, ◌≤ℤ◌, ◌<ℤ◌, IfOk, nat_lt, unsigned_abs, if◌then◌else◌}
+use Rattle.suit_num.specs.Divisors.{gcd_of}
+use Rattle.suit_num.proofs.DivisorLaws.{IsGcd-gcd_of}
+use Rattle.suit_num.proofs.IntegerLaws.{div-mul, int_le-true}
+use Rattle.suit_cards.specs.Cards.{Counts, Text}
+use Rattle.suit_game.specs.declared.question.Question.{Question}
+use Rattle.suit_game.specs.Layouts.{total}
+use Rattle.suit_game.specs.Validity.{IsValid}
+use Rattle.suit_game.proofs.FilledPlaces.{total_at_most}
+use Rattle.suit_classes.specs.Classes.{sizes_of}
+use Rattle.suit_layouts.specs.ClassLayouts.{class_layouts}
+use Rattle.suit_tree.specs.CountedHistories.{node_count}
+use Rattle.suit_plans.specs.BestReplies.{least, reply_to_plan, worth}
+use Rattle.suit_plans.specs.Properness.{IsProperPlan}
+use Rattle.suit_plans.specs.ReplyLaws.{IsPaid}
+use Rattle.suit_plans.specs.declared.plan.Plan.{Plan}
+use Rattle.suit_plans.specs.declared.plan.TheConstants.{MOST_DEN}
+use Rattle.suit_plans.proofs.BoundedReplies.{sum_weighed, weighed_paid, weights_add}
+use Rattle.suit_plans.proofs.PaidWorths.{sum_paid}
+use Rattle.suit_plans.proofs.ProperPlans.{proper_plan}
+use Rattle.suit_answer.specs.declared.answer.Answer.{Answer}
+use Rattle.suit_answer.specs.declared.faults.AnswerFault.{AnswerFault}
+use Rattle.suit_answer.specs.Reading.{answer_read}
+use Rattle.suit_lines.specs.Lines.{lines_of}
+use Rattle.suit_lines.specs.Values.{IsTellable}
+use Rattle.suit_check.specs.Verdicts.{Finding, Valid, Plan as PlanFound, Defence, Least, Most, verdict_of}
+use Rattle.suit_check.specs.VerdictLaws.{IsMet}
+use Rattle.suit_check.proofs.LowestTerms.{lowest_is}
+use Rattle.suit_check.proofs.VerdictsMet.{valid_is_met, whole_positive}
+use Rattle.suit_top.specs.declared.reply.Reply.{Reply}
+use Rattle.suit_top.specs.declared.status.Status.{Status}
+use Rattle.suit_top.specs.declared.status.Status.TheVariants.{Done, Nodes, Usage}
+use Rattle.suit_top.specs.Commands.Checking.{due_found, due_of_answer, due_of_answer_read, valid_text}
+use Rattle.suit_top.specs.Commands.Telling.{Tells, due_of_told, due_telling_of, is_done}
+use Rattle.suit_top.specs.Dues.{Due, done}
+use Rattle.suit_top.specs.Refusals.{nodes_line}
+use Rattle.suit_top.specs.Texts.{text_bytes}
+use Rattle.suit_top.proofs.Checked.{answer_tells, checked}
+
+-- ---- what `check` owes with Done
+
+pub done_is : (status : Status) → is_done status ≡ true → status ≡ Done
+done_is Done is = refl
+done_is _ is = absurd (false≢true is)
+
+found_valid : (found : Finding) → (due_found found).status ≡ Done → found ≡ Valid
+found_valid Valid is = refl
+found_valid (PlanFound fault) is = absurd (cc)
+found_valid (Defence fault) is = absurd (cc)
+found_valid (Least found) is = absurd (cc)
+found_valid (Most found) is = absurd (cc)
+
+budget_valid : (past : Bool) (question : Question) (answer : Answer)
+    → (if past then record { status = Nodes; text = nodes_line question.nodes }
+    else due_found (verdict_of question answer)).status ≡ Done
+    → (verdict_of question answer ≡ Valid)
+    × (valid_text ≡ (if past then record { status = Nodes; text = nodes_line question.nodes }
+    else due_found (verdict_of question answer)).text)
+budget_valid true question answer is = absurd (cc)
+budget_valid false question answer is =
+    let valid = found_valid (verdict_of question answer) is in
+    (valid, ap (λ (found : Finding). (due_found found).text) (sym valid))
+
+done_valid : (question : Question) (answer : Answer) → (due_of_answer question answer).status ≡ Done
+    → (verdict_of question answer ≡ Valid) × (valid_text ≡ (due_of_answer question answer).text)
+done_valid question answer is = budget_valid (nat_lt question.nodes (node_count question)) question answer is
+
+done_met : (question : Question) (answer : Answer) → IsValid question → (due_of_answer question answer).status ≡ Done
+    → IsMet question answer
+done_met question answer valid is = (valid_is_met question answer valid).0 (done_valid question answer is).0
+
+pub done_proper : (question : Question) (answer : Answer) → IsValid question
+    → (due_of_answer question answer).status ≡ Done → IsProperPlan question answer.plan
+done_proper question answer valid is = (done_met question answer valid is).plan
+
+-- ---- the value of a valid answer
+
+-- a plan earns at least no more than thirteen tricks of all weights
+plan_paid : (question : Question) (plan : Plan) → IsValid question → IsProperPlan question plan
+    → IsPaid (pos (total question) *ℤ plan.den) (least question plan)
+unfolding least
+plan_paid question plan valid proper =
+    let layouts = class_layouts question (sizes_of question) in
+    let worths : Counts × ℕ → ℤ = λ layout. pos layout.1 *ℤ worth (reply_to_plan question plan layout.0) [] in
+    subst (λ (mass : ℤ). IsPaid mass (least question plan))
+    (sum_weighed plan.den layouts ∙ ap (λ (n : ℕ). pos n *ℤ plan.den) (weights_add question))
+    (sum_paid worths (λ (layout : Counts × ℕ). pos layout.1 *ℤ plan.den) layouts
+    (λ layout found. weighed_paid question plan layout valid proper found))
+
+few_times : (a n d w : ℕ) → 0 < w → a ≤ 13 * w → a * d ≡ n * w → n ≤ 1000 * d
+few_times a n d w some few same =
+    let scaled : a * d ≤ (13 * w) * d = mul-le-mul_right d few in
+    let within : n * w ≤ (13 * d) * w + 0 = omega (arith, same, scaled) in
+    let small : n ≤ 13 * d = subst (λ (m : ℕ). n ≤ m) (div-mul-add (13 * d) w 0 some)
+    (le-div n ((13 * d) * w + 0) w some within) in
+    omega arith
+
+no_less : (a n w : ℕ) → 0 < w → pos a ≡ negsuc n *ℤ pos w → ⊥
+no_less a n zero some same = omega (arith, some)
+no_less a n (suc w) some same = omega (arith, ints, same)
+
+record IsFew (num den : ℤ) : Type 0 where
+  least : pos 0 ≤ℤ num
+  most : num ≤ℤ (pos 1000 *ℤ den)
+
+few_value : (number num den whole : ℤ) → pos 0 ≤ℤ number → number ≤ℤ (pos 13 *ℤ whole) → pos 0 <ℤ den
+    → pos 0 <ℤ whole → number *ℤ den ≡ num *ℤ whole → IsFew num den
+few_value (pos a) (pos n) (pos d) (pos w) low few positive some same =
+    let small : n ≤ 1000 * d =
+    few_times a n d w (omega (arith, ints, some)) (omega (arith, ints, few)) (ap unsigned_abs same) in
+    record { least = omega (arith, ints); most = omega (arith, ints, small) }
+few_value (pos a) (negsuc n) (pos d) (pos w) low few positive some same =
+    absurd (no_less (a * d) n w (omega (arith, ints, some)) same)
+few_value (negsuc a) num den whole low few positive some same = absurd (omega (arith, ints, low))
+few_value (pos a) num (negsuc d) whole low few positive some same = absurd (omega (arith, ints, positive))
+few_value (pos a) num (pos d) (negsuc w) low few positive some same = absurd (omega (arith, ints, some))
+
+-- a part of a product
+part_below : (d g w : ℕ) → 0 < g → d * g ≡ w → d ≤ w
+part_below d zero w some is = absurd (omega (arith, some))
+part_below d (suc g) w some is = omega (arith, is)
+
+-- a denominator that divides a plan's denominator times the total weight is not large
+fine_den : (den part : ℤ) (t g : ℕ) → pos 1 ≤ℤ part → part ≤ℤ MOST_DEN → t ≤ 10400600 → 0 < g → pos 0 <ℤ den
+    → den *ℤ pos g ≡ part *ℤ pos t → den ≤ℤ pos (2 ^ 114)
+fine_den (pos d) (pos p) t g one most few some positive is =
+    let below : d ≤ p * t = part_below d g (p * t) some (ap unsigned_abs is) in
+    let scaled : p * t ≤ 2 ^ 90 * t = mul-le-mul_right t (omega (arith, ints, most)) in
+    omega (arith, ints, below, scaled, few)
+fine_den (pos d) (negsuc p) t g one most few some positive is = absurd (omega (arith, ints, one))
+fine_den (negsuc d) part t g one most few some positive is = absurd (omega (arith, ints, positive))
+
+some_size : (z : ℤ) → pos 0 <ℤ z → 0 < unsigned_abs z
+some_size (pos n) some = omega (arith, ints, some)
+some_size (negsuc n) some = absurd (omega (arith, ints, some))
+
+pub done_tellable : (question : Question) (answer : Answer) → IsValid question
+    → (due_of_answer question answer).status ≡ Done → IsTellable answer.value
+done_tellable question answer valid is =
+    let met = done_met question answer valid is in
+    let bounds = proper_plan question answer.plan met.plan in
+    let one : pos 1 ≤ℤ answer.plan.den = int_le-true (pos 1) answer.plan.den bounds.0 in
+    let number : ℤ = least question answer.plan in
+    let whole : ℤ = answer.plan.den *ℤ pos (total question) in
+    let some : pos 0 <ℤ whole = whole_positive question answer.plan.den valid one in
+    let paid = plan_paid question answer.plan valid met.plan in
+    let few : number ≤ℤ (pos 13 *ℤ whole) =
+    subst (λ (z : ℤ). number ≤ℤ (pos 13 *ℤ z)) (*ℤ_comm (pos (total question)) answer.plan.den) paid.few in
+    let small = few_value number answer.value.num answer.value.den whole paid.some few answer.value.positive some
+    met.least in
+    let g : ℕ = gcd_of (unsigned_abs number) (unsigned_abs whole) in
+    let greatest = IsGcd-gcd_of (unsigned_abs number) (unsigned_abs whole) in
+    let lowest = lowest_is number whole some (answer.value.num, answer.value.den) answer.value.positive
+    answer.value.coprime met.least in
+    let den_back : answer.value.den *ℤ pos g ≡ whole =
+    ap (λ (parts : ℤ × ℤ). parts.1 *ℤ pos g) (sym lowest) ∙ div-mul whole (pos g) greatest.1 in
+    record {
+      least = small.least;
+      most = small.most;
+      fine = fine_den answer.value.den answer.plan.den (total question) g one
+          (int_le-true answer.plan.den MOST_DEN bounds.1) (total_at_most question valid)
+          (pos_of_dvd_of_pos greatest.1 (some_size whole some)) answer.value.positive den_back;
+    }
+
+-- ---- what is told
+
+-- no answer owes Usage
+done_tells : (b : Bool) (question : Question) (answer : Answer) (due : Due) → (due.status ≡ Usage → ⊥)
+    → (if b then done (lines_of question answer) else due).status ≡ Usage → ⊥
+done_tells true question answer due tells usage = cc
+done_tells false question answer due tells usage = tells usage
+
+pub told_tells : (question : Question) (found : Result Answer AnswerFault)
+    → (due_of_told question found (due_of_answer_read question found)).status ≡ Usage → ⊥
+told_tells question (Err fault) usage = answer_tells question (Err fault) usage
+told_tells question (Ok answer) usage =
+    done_tells (is_done (due_of_answer question answer).status) question answer (due_of_answer question answer)
+    (answer_tells question (Ok answer)) usage
+
+-- what is told of an answer with Done is certified
+certified_lines : (b : Bool) (question : Question) (rest text : Text) (answer : Answer) → IsValid question
+    → answer_read question rest ≡ Ok answer → is_done (due_of_answer question answer).status ≡ b
+    → (if b then done (lines_of question answer) else due_of_answer question answer).status ≡ Done
+    → text ≡ (if b then done (lines_of question answer) else due_of_answer question answer).text
+    → Tells question rest text
+certified_lines true question rest text answer valid read is status text_is =
+    let went = done_is (due_of_answer question answer).status is in
+    let checks = checked question rest valid_text answer valid read went (done_valid question answer went).1 in
+    let found : Ok answer ≡ Ok checks.answer = sym read ∙ checks.read in
+    let same : answer ≡ checks.answer = cc in
+    record { checked = checks; is_text = text_is ∙ ap (lines_of question) same }
+certified_lines false question rest text answer valid read is status text_is =
+    let went : is_done (due_of_answer question answer).status ≡ true = ap is_done status in
+    absurd (false≢true (sym is ∙ went))
+
+pub told_reply : {E : Type 0} (question : Question) (rest : Text) (answer : Answer) (result : Result Reply E)
+    → IsValid question → answer_read question rest ≡ Ok answer
+    → IfOk result (λ reply. reply.status ≡ (due_telling_of question answer (due_of_answer question answer)).status)
+    → IfOk result (λ reply. text_bytes reply.text
+    ≡ (due_telling_of question answer (due_of_answer question answer)).text)
+    → IfOk result (λ reply. reply.status ≡ Done → Tells question rest (text_bytes reply.text))
+told_reply question rest answer (Ok reply) valid read status text =
+    λ done. certified_lines (is_done (due_of_answer question answer).status) question rest (text_bytes reply.text) answer
+    valid read refl (sym status ∙ done) text
+told_reply question rest answer (Err end) valid read status text = tt

@@ -1,0 +1,5 @@
+use Rattle.suit_top.proofs.Completeness.{runs_complete}
+use Rattle.suit_top.proofs.laws.runs_complete.Goals as goal
+
+pub returns : goal.returns
+returns c = runs_complete
