@@ -1,11 +1,10 @@
 //! What a row gives to class moves.
 ghost use Rattle.std.specs.Prelude.{◌≡◌, ◌==◌, not, option_map, pos, Some};
 ghost use Rattle.std.specs.List.{list_all};
-ghost use Rattle.suit_plans.specs.Masses.{is_first};
 ghost use Rattle.suit_lift.specs.Lifts.{class_share, row_count};
 
 use suit_classes::ClassMove;
-use suit_plans::Counts;
+use suit_plans::{Counts, is_first};
 
 // The count of a move, and 0 without a row or where it is negative, which no count of a proper row is.
 fn row_count(row: Option<&Counts>, mv: ClassMove) -> i128
@@ -38,16 +37,6 @@ fn some_counted(shares: &Counts, moves: &[ClassMove]) -> bool
         }
     }
     false
-}
-
-// Whether a move is the first of some.
-fn is_first(moves: &[ClassMove], mv: ClassMove) -> bool
-    ensures { result ≡ is_first moves.now mv }
-{
-    match moves {
-        [first, ..] => first.is_same(mv),
-        [] => false,
-    }
 }
 
 /// The share of a move among those that the legal moves merge to: its count, and where none of them

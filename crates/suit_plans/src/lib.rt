@@ -16,6 +16,7 @@ mod row_faults;
 mod sharing;
 #[cfg(test)]
 mod tests;
+mod turns;
 
 pub use counts::{Counts, share};
 pub use defence::{Defence, DefenceRow, DefenceRows};
@@ -24,3 +25,4 @@ pub use lookup::{defence_shares_at, plan_shares_at};
 pub use moves::{DeclarerMove, DeclarerMoves, DefenceMove, DefenceMoves};
 pub use plan::{MOST_DEN, Plan, Row, Rows};
 pub use proper::{proper_defence, proper_plan};
+pub use turns::{is_declarers, is_defences, is_first};

@@ -3,10 +3,11 @@ ghost use Rattle.std.specs.Prelude.{◌≡◌, ◌≤◌, ◌≤ℤ◌, ◌^◌,
 ghost use Rattle.suit_classes.specs.ClassPlaces.{class_after};
 ghost use Rattle.suit_game.specs.declared.question.Question.{Question};
 ghost use Rattle.suit_plans.specs.declared.plan.TheConstants.{MOST_DEN};
-ghost use Rattle.suit_plans.specs.Masses.{declarer, defenders, is_first, mass_of, let_through, weight_of};
+ghost use Rattle.suit_plans.specs.Masses.{declarer, defenders, mass_of, let_through, weight_of};
 ghost use Rattle.suit_plans.specs.Orders.{InOrder, defence_row_before, plan_row_before};
 ghost use Rattle.suit_plans.specs.Players.{AreOrdered, side_of};
 
+use super::turns::{is_declarers, is_defences, is_first};
 use super::{Counts, DefenceRow, Row, defence_shares_at, plan_shares_at, share};
 use suit_classes::{ClassMove, ClassPlace, ClassTurn, Classes};
 use suit_game::Question;
@@ -68,14 +69,8 @@ impl<'a> Player<'a> {
         ensures { result ≡ (side_of self.now).plays turn }
     {
         match self.rows {
-            PlayerRows::Declarer(_) => match turn {
-                ClassTurn::Lead | ClassTurn::Declarer(_) => true,
-                ClassTurn::Defence(_) | ClassTurn::Decided => false,
-            },
-            PlayerRows::Defence(_) => match turn {
-                ClassTurn::Defence(_) => true,
-                ClassTurn::Lead | ClassTurn::Declarer(_) | ClassTurn::Decided => false,
-            },
+            PlayerRows::Declarer(_) => is_declarers(turn),
+            PlayerRows::Defence(_) => is_defences(turn),
         }
     }
 
@@ -126,15 +121,5 @@ impl<'a> Player<'a> {
             place = place.step(history[index]);
         }
         mass
-    }
-}
-
-// Whether a move is the first of some.
-fn is_first(moves: &[ClassMove], mv: ClassMove) -> bool
-    ensures { result ≡ is_first moves.now mv }
-{
-    match moves {
-        [first, ..] => *first == mv,
-        [] => false,
     }
 }

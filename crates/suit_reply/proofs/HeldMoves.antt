@@ -1,7 +1,7 @@
 -- own_moves_on: at a turn of declarer the moves to the nodes below a node are his class moves, in order.
 use Rattle.std.proofs.Common.{◌≡◌, ℕ, Bool, true, false, List, [], ◌∷◌, ◌++◌, length, map, sym, ap, ◌∙◌}
 use Rattle.std.proofs.Common.{subst}
-use Rattle.std.specs.Prelude.{Some, Contains, get_or, nat_lt}
+use Rattle.std.specs.Prelude.{Contains, Some, get_or, nat_lt, unwrap_or}
 use Rattle.std.proofs.lemmas.Bool.{ltb-true}
 use Rattle.std.proofs.lemmas.Bool.Decides.{same_from_decides}
 use Rattle.std.proofs.lemmas.List.Elements.{Contains-get_or, filter_agree}
@@ -18,17 +18,17 @@ use Rattle.suit_classes.proofs.AllowedHistories.{allowed_moves}
 use Rattle.suit_classes.proofs.SameMoves.{among-Contains, among_contained}
 use Rattle.suit_classes.specs.Classes.{sizes_of}
 use Rattle.suit_classes.specs.ClassMoves.{ClassHistory}
+use Rattle.suit_classes.specs.declared.class_moves.ClassMove.TheVariants.{ShowOut}
 use Rattle.suit_plans.specs.Masses.{is_declarers, is_defences}
 use Rattle.suit_plans.proofs.TurnMoves.{declarers_moves}
 use Rattle.suit_classes.proofs.UndecidedMoves.{HasFirst, some_move as first_move}
 use Rattle.suit_tree.specs.declared.node.Node.{Node}
-use Rattle.suit_tree.specs.Nodes.{move_to}
+use Rattle.suit_tree.specs.Nodes.{move_of, move_to}
 use Rattle.suit_tree.specs.Trees.{AllFit, IsTreeAt, allowing, counts_at, moves_on}
 use Rattle.suit_tree.proofs.CountedNodes.{kept_layouts}
 use Rattle.suit_tree.proofs.HeldMoves.{going_on, index_goes_on, some_held}
 use Rattle.suit_classes.proofs.EveryMove.{class_moves_listed}
 use Rattle.suit_layouts.specs.ClassLayouts.{class_layouts}
-use Rattle.suit_reply.specs.NodeMoves.{move_of, or_show_out}
 use Rattle.suit_tree.proofs.FittedNodes.{map_fitted}
 use Rattle.std.proofs.lemmas.List.{map-id}
 
@@ -129,5 +129,5 @@ pub moves_below : (more : ℕ) (question : Question) (history : ClassHistory) (n
     → map move_of nodes ≡ moves_on question history
 moves_below more question history nodes fit =
     map_fitted (AreBelow more question history) move_of (λ move. move) (moves_on question history) nodes fit
-    (λ move child found below. ap or_show_out below.0)
+    (λ move child found below. ap (λ to. unwrap_or to ShowOut) below.0)
     ∙ map-id (moves_on question history)

@@ -3,7 +3,7 @@ pub mod Cases
 pub mod NoMass
 use Rattle.std.proofs.Common.{◌≡◌, ℕ, zero, suc, Bool, true, false, List, [], ◌∷◌, ◌++◌, map, refl, sym, ap, ◌∙◌, subst}
 use Rattle.std.proofs.Common.{inl, inr, arith}
-use Rattle.std.specs.Prelude.{Contains, filter, if◌then◌else◌, ℤ, pos, ◌*ℤ◌, ◌≤ℤ◌, int_lt}
+use Rattle.std.specs.Prelude.{Contains, filter, if◌then◌else◌, int_lt, pos, unwrap_or, ℤ, ◌*ℤ◌, ◌≤ℤ◌}
 use Rattle.std.specs.Ordering.{int_eq}
 use Rattle.std.proofs.lemmas.Bool.{cases_Bool, false≢true}
 use Rattle.std.proofs.lemmas.Bool.Decides.{Decides-int_eq, not_from_Decides}
@@ -16,11 +16,12 @@ use Rattle.suit_classes.specs.declared.class_turn.ClassTurn.TheVariants as turns
 use Rattle.suit_classes.specs.declared.class_view.ClassView.{ClassView}
 use Rattle.suit_classes.specs.ClassPlaces.{class_after, class_moves, class_payoff, class_turn}
 use Rattle.suit_classes.specs.ClassMoves.{ClassHistory}
+use Rattle.suit_classes.specs.declared.class_moves.ClassMove.TheVariants.{ShowOut}
 use Rattle.suit_plans.specs.BestReplies.{Reply, worth_within}
 use Rattle.suit_plans.specs.Masses.{declarer, is_declarers, is_defences, is_first, plan_shares_at, plan_mass, share}
 use Rattle.suit_plans.specs.declared.plan.Plan.{Plan}
 use Rattle.suit_plans.specs.declared.plan.Row.{Row}
-use Rattle.suit_tree.specs.Nodes.{children_of, payoff_at, turn_at}
+use Rattle.suit_tree.specs.Nodes.{children_of, holds_index, move_of, payoff_at, turn_at}
 use Rattle.suit_tree.specs.Trees.{IsTreeAt, StandsAt, allowing, moves_on}
 use Rattle.suit_tree.specs.declared.node.Node.{Node}
 use Rattle.suit_tree.proofs.NodePaths.{tree_stands}
@@ -29,7 +30,7 @@ use Rattle.suit_plans.proofs.TurnMoves.{declarers_moves}
 use Rattle.suit_reply.specs.declared.turn_rule.TurnRule.TheVariants.{Sum, Least}
 use Rattle.suit_reply.specs.NodeReplies.{NodeReplyView, nothing}
 use Rattle.suit_reply.specs.Turns.{finished, gathered}
-use Rattle.suit_reply.specs.NodeMoves.{holds_layout, is_first_of, move_of, or_show_out}
+use Rattle.suit_reply.specs.NodeMoves.{is_first_of}
 use Rattle.suit_reply.specs.AgainstPlan.{least_at, node_least, nodes_for, plan_share}
 use Rattle.suit_tree.proofs.FittedNodes.{map_fitted, map_fitted_kept}
 use Rattle.suit_reply.proofs.TurnReplies.GatheredWorths.{found_with, least_gathered, results_of, same_found}
@@ -66,7 +67,7 @@ at_defences : (turn : ClassTurn) (payoff index : ℕ) (mass : ℤ) (history : Cl
     (map (λ child. (move_of child, next child (plan_share turn rows nodes history mass (move_of child))))
     (nodes_for turn index nodes))
     ≡ finished Least history (gathered Least
-    (map (λ child. (move_of child, next child mass)) (filter (holds_layout index) nodes)))
+    (map (λ child. (move_of child, next child mass)) (filter (holds_index index) nodes)))
 at_defences turns.Lead payoff index mass history rows nodes next theirs = absurd (false≢true theirs)
 at_defences (turns.Declarer seat) payoff index mass history rows nodes next theirs = absurd (false≢true theirs)
 at_defences (turns.Defence seat) payoff index mass history rows nodes next theirs = refl
@@ -130,7 +131,7 @@ module _ (question : Question) (plan : Plan) (index : ℕ) where
       (masses (move_of child)) child) ≡ told_of move (found_next more (reply_at question plan index) history move)
   child_told more history masses tells move child found same below =
       ap (λ (m : ClassMove). told_of m (node_least more plan.rows index (history ++ m ∷ []) (masses m) child))
-      (ap or_show_out below.0)
+      (ap (λ to. unwrap_or to ShowOut) below.0)
       ∙ ap (told_of move) (tells move (masses move) child found below.1 same)
 
   -- what is told at a turn of declarer's
@@ -203,7 +204,7 @@ module _ (question : Question) (plan : Plan) (index : ℕ) where
       let shares : (other : ClassMove) → masses other ≡ plan_mass question plan (history ++ other ∷ []) =
       λ other. same ∙ sym (is.realised.kept history other not_own) in
       let holds : (other : ClassMove) (child : Node) → AreBelow more question history other child
-      → holds_layout index child ≡ may other =
+      → holds_index index child ≡ may other =
       λ other child below. ap (is_held index)
       (tree_stands more question (history ++ other ∷ []) child below.1).layouts in
       at_defences (turn_at node) (payoff_at node) index mass history plan.rows nodes next
@@ -211,7 +212,7 @@ module _ (question : Question) (plan : Plan) (index : ℕ) where
       ∙ ap (λ (l : List (ClassMove × NodeReplyView)). finished Least history (gathered Least l))
       (map_fitted_kept (AreBelow more question history) (λ child. told_of (move_of child) (next child mass))
       (λ other. told_of other (found_next more reply history other))
-      (holds_layout index) may (moves_on question history) nodes fit holds
+      (holds_index index) may (moves_on question history) nodes fit holds
       (λ other child passes below.
       let goes = index_goes_on question history other index is.valid is.held in
       child_told more history masses tells other child

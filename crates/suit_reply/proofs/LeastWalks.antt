@@ -2,7 +2,7 @@
 pub mod Sums
 use Rattle.std.proofs.Common.{◌≡◌, ◌⊎◌, of_z, ℕ, zero, suc, ◌+◌, ◌-◌, ◌<◌, ◌≤◌, Bool, true, false, cond, List, [], ◌∷◌}
 use Rattle.std.proofs.Common.{◌++◌, length, map, take, refl, sym, ap, ◌∙◌, subst, inl, inr, arith}
-use Rattle.std.specs.Prelude.{Contains, ◌^◌, filter, get_or, if◌then◌else◌, ℤ, pos, ◌*ℤ◌, ◌≤ℤ◌}
+use Rattle.std.specs.Prelude.{Contains, filter, get_or, if◌then◌else◌, pos, unwrap_or, ℤ, ◌*ℤ◌, ◌^◌, ◌≤ℤ◌}
 use Rattle.std.specs.Ordering.{int_eq}
 use Rattle.std.proofs.lemmas.Bool.{false≢true, false_from_ne_true}
 use Rattle.std.proofs.lemmas.Bool.Decides.{Decides-int_eq}
@@ -19,6 +19,7 @@ use Rattle.suit_classes.specs.declared.class_turn.ClassTurn.TheVariants as turns
 use Rattle.suit_classes.specs.declared.class_view.ClassView.{ClassView}
 use Rattle.suit_classes.specs.ClassPlaces.{class_after, class_moves}
 use Rattle.suit_classes.specs.ClassMoves.{ClassHistory}
+use Rattle.suit_classes.specs.declared.class_moves.ClassMove.TheVariants.{ShowOut}
 use Rattle.suit_plans.specs.Masses.{declarer, is_declarers, is_defences, is_first, plan_shares_at, plan_mass, share}
 use Rattle.suit_plans.specs.Orders.{InOrder, plan_row_before}
 use Rattle.suit_plans.specs.declared.plan.Plan.{Plan}
@@ -27,7 +28,7 @@ use Rattle.suit_plans.proofs.MassBounds.{mass_falls}
 use Rattle.suit_plans.proofs.ProperPlans.{plans_are_realised}
 use Rattle.suit_plans.proofs.ProperOrders.{plan_in_order}
 use Rattle.suit_plans.proofs.TurnMoves.{declarers_moves}
-use Rattle.suit_tree.specs.Nodes.{children_of, payoff_at, turn_at}
+use Rattle.suit_tree.specs.Nodes.{children_of, holds_index, move_of, payoff_at, turn_at}
 use Rattle.suit_tree.specs.Trees.{AllFit, IsTreeAt, StandsAt, allowing, moves_on}
 use Rattle.suit_tree.specs.declared.node.Node.{Node}
 use Rattle.suit_tree.proofs.NodePaths.{tree_stands}
@@ -36,7 +37,7 @@ use Rattle.suit_reply.specs.declared.turn_rule.TurnRule.TheVariants.{Sum, Least}
 use Rattle.suit_reply.specs.NodeReplies.{NodeReplyView, nothing}
 use Rattle.suit_reply.specs.Turns.{TurnView, finished, gathered, gathered_none, joined}
 use Rattle.suit_reply.specs.AgainstPlan.{LeastNode, goes_to, least_at, node_least, nodes_for, plan_share}
-use Rattle.suit_reply.specs.NodeMoves.{holds_layout, is_first_of, move_of, or_show_out}
+use Rattle.suit_reply.specs.NodeMoves.{is_first_of}
 use Rattle.suit_tree.proofs.FittedNodes.{fitted_node}
 use Rattle.suit_reply.proofs.TurnReplies.GatheredWorths.{found_with, gathered-push}
 use Rattle.suit_plans.proofs.WhoseTurns.{Declarers, Defences, Over, WhoseTurn, whose_turn}
@@ -105,8 +106,8 @@ nodes_for-push turns.Lead index nodes child b is = unless_more nodes child b is
 nodes_for-push (turns.Declarer seat) index nodes child b is = unless_more nodes child b is
 nodes_for-push turns.Decided index nodes child b is = unless_more nodes child b is
 nodes_for-push (turns.Defence seat) index nodes child b is =
-    filter-append (holds_layout index) nodes (child ∷ [])
-    ∙ ap (λ (c : Bool). filter (holds_layout index) nodes ++ cond c (child ∷ []) []) is
+    filter-append (holds_index index) nodes (child ∷ [])
+    ∙ ap (λ (c : Bool). filter (holds_index index) nodes ++ cond c (child ∷ []) []) is
 
 -- nothing is gathered from no children
 pub gathered_first : (rule : TurnRule) (rows : List Row) (index : ℕ) (history : ClassHistory) (mass : ℤ) (node : Node)
@@ -216,7 +217,7 @@ their_share (turns.Defence seat) rows nodes history mass move theirs = refl
 their_share turns.Decided rows nodes history mass move theirs = absurd (false≢true theirs)
 
 their_children : (turn : ClassTurn) (index : ℕ) (child : Node) → is_defences turn ≡ true
-    → goes_to turn index child ≡ holds_layout index child
+    → goes_to turn index child ≡ holds_index index child
 their_children turns.Lead index child theirs = absurd (false≢true theirs)
 their_children (turns.Declarer seat) index child theirs = absurd (false≢true theirs)
 their_children (turns.Defence seat) index child theirs = refl
@@ -267,7 +268,7 @@ module _ (question : Question) (plan : Plan) (index : ℕ) where
       (own_moves_on question history index is.valid is.held going own) by.on
   child_moves more history node child is stands by goes going (Defences undecided not_own theirs) =
       let indices : Indices = allowing question (history ++ by.move ∷ []) in
-      let holds : holds_layout index child ≡ true =
+      let holds : holds_index index child ≡ true =
       sym (their_children (turn_at node) index child (ap is_defences stands.turn ∙ theirs)) ∙ goes in
       let held : is_held index indices ≡ true =
       sym (ap (is_held index) (tree_stands (more - 1) question (history ++ by.move ∷ []) child by.below.1).layouts)
@@ -338,7 +339,7 @@ module _ (rows : List Row) (index : ℕ) (history : ClassHistory) (mass : ℤ) (
       let there : LeastCase (suc (more - 1)) question plan index history =
       subst (λ (n : ℕ). LeastCase n question plan index history) (as_next more by.some) here in
       let goes_on = child_moves question plan index more history node child here stands by goes going turn in
-      let moved : by.move ≡ move_of child = sym (ap or_show_out by.below.0) in
+      let moved : by.move ≡ move_of child = sym (ap (λ to. unwrap_or to ShowOut) by.below.0) in
       let shared : plan_share (turn_at node) rows (children_of node) history mass (move_of child)
       ≡ plan_mass question plan (history ++ move_of child ∷ []) =
       ap (λ (l : List Row). plan_share (turn_at node) l (children_of node) history mass (move_of child))

@@ -4,7 +4,7 @@ pub mod Cases
 pub mod LiveMasses
 pub mod MassesBelow
 use Rattle.std.proofs.Common.{◌≡◌, ℕ, zero, suc, Bool, true, false, List, [], ◌∷◌, ◌++◌, map, refl, sym, ap, ◌∙◌}
-use Rattle.std.specs.Prelude.{Contains, filter, if◌then◌else◌, ℤ, pos, ◌*ℤ◌}
+use Rattle.std.specs.Prelude.{Contains, filter, if◌then◌else◌, pos, unwrap_or, ℤ, ◌*ℤ◌}
 use Rattle.std.proofs.lemmas.Bool.{false≢true}
 use Rattle.std.proofs.Math.IntN.{*ℤ_comm, zero-*ℤ}
 use Rattle.suit_cards.specs.Cards.{Counts}
@@ -15,18 +15,18 @@ use Rattle.suit_classes.specs.declared.class_turn.ClassTurn.TheVariants as turns
 use Rattle.suit_classes.specs.declared.class_view.ClassView.{ClassView}
 use Rattle.suit_classes.specs.ClassPlaces.{class_after, class_payoff, class_turn}
 use Rattle.suit_classes.specs.ClassMoves.{ClassHistory}
+use Rattle.suit_classes.specs.declared.class_moves.ClassMove.TheVariants.{ShowOut}
 use Rattle.suit_plans.specs.BestReplies.{Reply, reply_to_defence, worth_within}
 use Rattle.suit_plans.specs.Masses.{is_declarers, is_defences}
 use Rattle.suit_plans.specs.Properness.{sum_of}
 use Rattle.suit_plans.specs.declared.defence.Defence.{Defence}
 use Rattle.suit_plans.specs.declared.defence.DefenceRow.{DefenceRow}
 use Rattle.suit_tree.specs.declared.node.Node.{Node}
-use Rattle.suit_tree.specs.Nodes.{children_of, payoff_at, turn_at}
+use Rattle.suit_tree.specs.Nodes.{children_of, holds_index, move_of, payoff_at, turn_at}
 use Rattle.suit_tree.specs.Trees.{IsTreeAt, StandsAt, allowing, moves_on}
 use Rattle.suit_reply.specs.declared.turn_rule.TurnRule.TheVariants.{Sum, Most}
 use Rattle.suit_reply.specs.NodeReplies.{NodeReplyView}
 use Rattle.suit_reply.specs.Turns.{finished, gathered}
-use Rattle.suit_reply.specs.NodeMoves.{holds_layout, move_of, or_show_out}
 use Rattle.suit_reply.specs.AgainstDefence.{LayoutMasses, if_live, is_live, layout_share, most_at, node_most}
 use Rattle.suit_reply.specs.AgainstDefence.{shared_masses}
 use Rattle.suit_reply.proofs.MostByNodes.AllowingLayouts.{earned_at, mass_at}
@@ -50,7 +50,7 @@ abbrev passed_masses : List (Counts × ℕ) → List DefenceRow → List Node �
     → LayoutMasses
 passed_masses layouts rows nodes history masses child move =
     filter is_live (map (layout_share layouts rows nodes history move)
-    (filter (λ held. holds_layout held.0 child) masses))
+    (filter (λ held. holds_index held.0 child) masses))
 
 at_declarers : (turn : ClassTurn) (payoff : ℕ) (masses : LayoutMasses) (history : ClassHistory)
     (layouts : List (Counts × ℕ)) (rows : List DefenceRow) (nodes : List Node)
@@ -136,7 +136,8 @@ module _ (question : Question) (defence : Defence) where
       ≡ told_of move (found_next more (reply_to_defence question defence) history move)
   child_told more history masses tells move child found same below =
       ap (λ (m : ClassMove). told_of m
-      (node_most more (layouts_of question) defence.rows (history ++ m ∷ []) (masses m) child)) (ap or_show_out below.0)
+      (node_most more (layouts_of question) defence.rows (history ++ m ∷ []) (masses m) child))
+      (ap (λ to. unwrap_or to ShowOut) below.0)
       ∙ ap (told_of move) (tells move (masses move) child found below.1 same)
 
   -- what is told at a turn of declarer's

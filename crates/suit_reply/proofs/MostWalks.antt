@@ -3,7 +3,7 @@ pub mod AskedNodes
 pub mod EarnedSums
 use Rattle.std.proofs.Common.{◌≡◌, ℕ, zero, suc, ◌-◌, ◌+◌, ◌<◌, true, false, List, [], ◌∷◌, ◌++◌, Option, Some, None}
 use Rattle.std.proofs.Common.{length, get_or, map, take, refl, sym, ap, ◌∙◌, subst, arith}
-use Rattle.std.specs.Prelude.{◌==◌, ℤ, pos, ◌*◌, ◌^◌, ◌+ℤ◌, ◌*ℤ◌, ◌≤ℤ◌, unsigned_abs}
+use Rattle.std.specs.Prelude.{pos, unsigned_abs, unwrap_or, ℤ, ◌*ℤ◌, ◌*◌, ◌+ℤ◌, ◌==◌, ◌^◌, ◌≤ℤ◌}
 use Rattle.std.specs.List.{take-map}
 use Rattle.std.proofs.lemmas.Bool.{false≢true}
 use Rattle.std.proofs.lemmas.Bool.Decides.{nat_tests}
@@ -17,12 +17,13 @@ use Rattle.suit_classes.specs.declared.class_turn.ClassTurn.{ClassTurn}
 use Rattle.suit_classes.specs.declared.class_turn.ClassTurn.TheVariants as turns
 use Rattle.suit_classes.specs.ClassPlaces.{class_after, class_turn}
 use Rattle.suit_classes.specs.ClassMoves.{ClassHistory}
+use Rattle.suit_classes.specs.declared.class_moves.ClassMove.TheVariants.{ShowOut}
 use Rattle.suit_plans.specs.BestReplies.{Reply, reply_to_defence}
 use Rattle.suit_plans.specs.Masses.{is_defences}
 use Rattle.suit_plans.specs.Properness.{sum_of}
 use Rattle.suit_plans.specs.declared.defence.DefenceRow.{DefenceRow}
 use Rattle.suit_tree.specs.declared.node.Node.{Node}
-use Rattle.suit_tree.specs.Nodes.{children_of, payoff_at, turn_at}
+use Rattle.suit_tree.specs.Nodes.{children_of, move_of, payoff_at, turn_at}
 use Rattle.suit_tree.specs.Trees.{IsTreeAt, moves_on}
 use Rattle.suit_tree.proofs.NodePaths.{tree_stands}
 use Rattle.suit_reply.specs.declared.turn_rule.TurnRule.{TurnRule}
@@ -31,7 +32,6 @@ use Rattle.suit_reply.specs.NodeReplies.{NodeReplyView, nothing}
 use Rattle.suit_reply.specs.Turns.{TurnView, finished, gathered, joined}
 use Rattle.suit_reply.specs.AgainstDefence.{LayoutMasses, MostNode, if_live, most_at, most_gathers, node_most}
 use Rattle.suit_reply.specs.AgainstDefence.{shared_masses}
-use Rattle.suit_reply.specs.NodeMoves.{move_of, or_show_out}
 use Rattle.suit_reply.proofs.MostWalks.AskedNodes.{HasBelow, IsStep, has_below, masses_below, node_case, none_gathered}
 use Rattle.suit_tree.proofs.FittedNodes.{map_fitted}
 use Rattle.suit_reply.proofs.TurnReplies.GatheredWorths.{found_with, gathered-push, results_of, sum_gathered, worths_of}
@@ -242,7 +242,7 @@ module _ (layouts : List (Counts × ℕ)) (rows : List DefenceRow) (history : Cl
       most_next question is.defence below.less history move case found in
       ap (λ (m : ClassMove). told_of m
       (node_most (52 - length (history ++ m ∷ [])) layouts rows (history ++ m ∷ []) given child))
-      (ap or_show_out fits.0)
+      (ap (λ to. unwrap_or to ShowOut) fits.0)
       ∙ ap (λ (fuel : ℕ). told_of move (node_most fuel layouts rows (history ++ move ∷ []) given child)) (sym next.left)
       ∙ ap (λ (l : List (Counts × ℕ)). told_of move (node_most below.less l rows (history ++ move ∷ []) given child))
       (sym is.is_layouts)

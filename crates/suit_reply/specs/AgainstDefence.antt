@@ -18,11 +18,11 @@ use Rattle.suit_plans.specs.Masses.{defence_shares_at, defence_mass, share}
 use Rattle.suit_plans.specs.Properness.{IsProperDefence, sum_of}
 use Rattle.suit_tree.specs.declared.node.Node.{Node}
 use Rattle.suit_tree.specs.declared.tree.Tree.{Tree}
-use Rattle.suit_tree.specs.Nodes.{children_of, payoff_at, turn_at}
+use Rattle.suit_tree.specs.Nodes.{children_of, holds_index, move_of, payoff_at, turn_at}
 use Rattle.suit_tree.specs.Trees.{IsTreeAt, IsTreeOf, allowing, counts_at}
 use Rattle.suit_reply.specs.declared.turn_rule.TurnRule.{TurnRule}
 use Rattle.suit_reply.specs.declared.turn_rule.TurnRule.TheVariants.{Sum, Most}
-use Rattle.suit_reply.specs.NodeMoves.{holds_layout, is_first_of, move_of}
+use Rattle.suit_reply.specs.NodeMoves.{is_first_of}
 use Rattle.suit_reply.specs.NodeReplies.{NodeReplyView, nothing}
 use Rattle.suit_reply.specs.Turns.{finished, gathered}
 
@@ -72,7 +72,7 @@ abbrev pub layout_share : List (Counts × ℕ) → List DefenceRow → List Node
 layout_share layouts rows nodes history move held = (
   held.0,
   share (defence_shares_at rows (counts_at layouts held.0) history)
-      (is_first_of (filter (holds_layout held.0) nodes) move) held.1 move,
+      (is_first_of (filter (holds_index held.0) nodes) move) held.1 move,
 )
 
 -- what the masses become at a child, without those that are 0; no move of declarer's changes them
@@ -80,7 +80,7 @@ abbrev pub shared_masses : ClassTurn → List (Counts × ℕ) → List DefenceRo
     → Node → LayoutMasses
 shared_masses (turns.Defence seat) layouts rows nodes history masses child =
     filter is_live
-    (map (layout_share layouts rows nodes history (move_of child)) (filter (λ held. holds_layout held.0 child) masses))
+    (map (layout_share layouts rows nodes history (move_of child)) (filter (λ held. holds_index held.0 child) masses))
 shared_masses turns.Lead layouts rows nodes history masses child = masses
 shared_masses (turns.Declarer seat) layouts rows nodes history masses child = masses
 shared_masses turns.Decided layouts rows nodes history masses child = masses

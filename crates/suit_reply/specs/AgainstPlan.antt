@@ -17,10 +17,10 @@ use Rattle.suit_plans.specs.Masses.{plan_shares_at, plan_mass, share}
 use Rattle.suit_plans.specs.Properness.{IsProperPlan}
 use Rattle.suit_tree.specs.declared.node.Node.{Node}
 use Rattle.suit_tree.specs.declared.tree.Tree.{Tree}
-use Rattle.suit_tree.specs.Nodes.{children_of, payoff_at, turn_at}
+use Rattle.suit_tree.specs.Nodes.{children_of, holds_index, move_of, payoff_at, turn_at}
 use Rattle.suit_tree.specs.Trees.{IsTreeAt, IsTreeOf, allowing}
 use Rattle.suit_reply.specs.declared.turn_rule.TurnRule.TheVariants.{Sum, Least}
-use Rattle.suit_reply.specs.NodeMoves.{holds_layout, is_first_of, move_of}
+use Rattle.suit_reply.specs.NodeMoves.{is_first_of}
 use Rattle.suit_reply.specs.NodeReplies.{NodeReplyView, nothing}
 use Rattle.suit_reply.specs.Turns.{finished, gathered}
 
@@ -51,14 +51,14 @@ pub record LeastNode (rows : List Row) (index : ℕ) (history : ClassHistory) (m
 -- whether play goes on to a node, in the class layout with an index: where the defence is on turn, by whether this
 -- layout can make the move
 abbrev pub goes_to : ClassTurn → ℕ → Node → Bool
-goes_to (turns.Defence seat) index node = holds_layout index node
+goes_to (turns.Defence seat) index node = holds_index index node
 goes_to turns.Lead index node = true
 goes_to (turns.Declarer seat) index node = true
 goes_to turns.Decided index node = true
 
 -- the nodes to which it goes on
 abbrev pub nodes_for : ClassTurn → ℕ → List Node → List Node
-nodes_for (turns.Defence seat) index nodes = filter (holds_layout index) nodes
+nodes_for (turns.Defence seat) index nodes = filter (holds_index index) nodes
 nodes_for turns.Lead index nodes = nodes
 nodes_for (turns.Declarer seat) index nodes = nodes
 nodes_for turns.Decided index nodes = nodes

@@ -5,13 +5,12 @@ ghost use Rattle.std.specs.List.{range_with_len};
 ghost use Rattle.suit_plans.specs.BestReplies.{most, most_reply};
 ghost use Rattle.suit_plans.specs.Orders.{InOrder, defence_row_before};
 ghost use Rattle.suit_plans.specs.Properness.{sum_of};
-ghost use Rattle.suit_tree.specs.Nodes.{children_of, turn_at};
+ghost use Rattle.suit_tree.specs.Nodes.{children_of, holds_index, move_of, turn_at};
 ghost use Rattle.suit_reply.specs.AgainstDefence.{IsDefenceFor, MostNode, is_live, layout_share, most_gathers};
 ghost use Rattle.suit_reply.specs.AgainstDefence.{node_most, shared_masses};
-ghost use Rattle.suit_reply.specs.NodeMoves.{holds_layout, move_of};
 
 use super::chosen_move::ChosenMove;
-use super::node_moves::{holds, is_first_for, move_of};
+use super::node_moves::is_first_for;
 use super::node_reply::NodeReply;
 use super::turn_rule::TurnRule;
 use super::turn_so_far::TurnSoFar;
@@ -114,7 +113,7 @@ impl AgainstDefence<'_> {
         };
         let mut so_far = TurnSoFar::none(self.alloc);
         for child in node.children() {
-            let mv = move_of(child);
+            let mv = child.mv();
             let passed = self.passed(node, history, masses, child)?;
             history.push(mv)?;
             let reply = self.below(child, history, &passed)?;
@@ -161,12 +160,12 @@ impl AgainstDefence<'_> {
             (map
             (layout_share self.now.layouts.now self.now.rows.now (children_of node.now) history.now
             (move_of child.now))
-            (filter (λ held. holds_layout held.0 child.now) masses.now))) }
+            (filter (λ held. holds_index held.0 child.now) masses.now))) }
     {
         let mut passed = Vec::new(self.alloc);
         for held in masses {
-            if holds(child, held.0) {
-                let mass = self.share(node, history, held.0, held.1, move_of(child));
+            if child.holds(held.0) {
+                let mass = self.share(node, history, held.0, held.1, child.mv());
                 add_live(&mut passed, held.0, mass)?;
             }
         }

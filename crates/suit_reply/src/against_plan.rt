@@ -8,7 +8,7 @@ ghost use Rattle.suit_reply.specs.LayoutsReplies.{IsReplyIn};
 
 use super::chosen_move::ChosenMove;
 use super::layouts_reply::LayoutsReply;
-use super::node_moves::{holds, is_first_of, move_of};
+use super::node_moves::is_first_of;
 use super::node_reply::NodeReply;
 use super::turn_rule::TurnRule;
 use super::turn_so_far::TurnSoFar;
@@ -124,7 +124,7 @@ impl AgainstPlan<'_> {
         let mut so_far = TurnSoFar::none(self.alloc);
         for child in node.children() {
             if goes_to(node.turn(), index, child) {
-                let mv = move_of(child);
+                let mv = child.mv();
                 let share = self.share(node, history, mass, mv);
                 history.push(mv)?;
                 let reply = self.below(child, index, history, share)?;
@@ -155,7 +155,7 @@ fn goes_to(turn: ClassTurn, index: u8, child: &Node) -> bool
     ensures { result ≡ goes_to turn index child.now }
 {
     match turn {
-        ClassTurn::Defence(_) => holds(child, index),
+        ClassTurn::Defence(_) => child.holds(index),
         ClassTurn::Lead | ClassTurn::Declarer(_) | ClassTurn::Decided => true,
     }
 }

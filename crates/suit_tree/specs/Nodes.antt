@@ -1,14 +1,19 @@
 -- What a node holds.
-use Rattle.std.specs.Prelude.{ℕ, ◌==◌, Bool, List, Option}
+use Rattle.std.specs.Prelude.{ℕ, ◌==◌, Bool, List, Option, unwrap_or}
 use Rattle.std.specs.List.{list_any}
 use Rattle.suit_cards.specs.Cards.{Indices}
 use Rattle.suit_classes.specs.declared.class_moves.ClassMove.{ClassMove}
+use Rattle.suit_classes.specs.declared.class_moves.ClassMove.TheVariants.{ShowOut}
 use Rattle.suit_classes.specs.declared.class_turn.ClassTurn.{ClassTurn}
 use Rattle.suit_tree.specs.declared.node.Node.{Node, out-Node}
 
 -- the last move of its history, none at the root
 abbrev pub move_to : Node → Option ClassMove
 move_to node = (out-Node node).by
+
+-- the move that leads to it, and showing out at the root
+abbrev pub move_of : Node → ClassMove
+move_of node = unwrap_or (move_to node) ShowOut
 
 -- who is on turn
 abbrev pub turn_at : Node → ClassTurn

@@ -1,6 +1,6 @@
 //! Nodes of the class tree.
 ghost use Rattle.std.specs.Prelude.{◌≡◌};
-ghost use Rattle.suit_tree.specs.Nodes.{children_of, layouts_at, move_to, payoff_at, turn_at};
+ghost use Rattle.suit_tree.specs.Nodes.{children_of, holds_index, layouts_at, move_of, move_to, payoff_at, turn_at};
 
 use std::fmt;
 use suit_classes::{ClassMove, ClassTurn};
@@ -23,6 +23,16 @@ impl<'a> Node<'a> {
         self.by
     }
 
+    /// The move that leads to it: the last of its history, and showing out at the root.
+    pub fn mv(&self) -> ClassMove
+        ensures { result ≡ move_of self.now }
+    {
+        match self.by {
+            Some(mv) => mv,
+            None => ClassMove::ShowOut,
+        }
+    }
+
     /// Who is on turn.
     pub fn turn(&self) -> ClassTurn
         ensures { result ≡ turn_at self.now }
@@ -35,6 +45,13 @@ impl<'a> Node<'a> {
         ensures { result.now ≡ layouts_at self.now }
     {
         self.layouts
+    }
+
+    /// Whether the class layout at an index is one of these.
+    pub fn holds(&self, index: u8) -> bool
+        ensures { result ≡ holds_index index self.now }
+    {
+        self.layouts.contains(&index)
     }
 
     /// What the tricks won are worth where the history is decided, and 0 where it is not.

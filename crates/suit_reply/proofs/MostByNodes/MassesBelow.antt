@@ -1,7 +1,7 @@
 -- masses_stay, masses_pass: what the masses of a class history become with a move more.
 use Rattle.std.proofs.Common.{◌≡◌, ℕ, suc, Bool, true, false, List, [], ◌∷◌, ◌++◌, map, refl, sym, ap, ◌∙◌, subst}
 use Rattle.std.proofs.Common.{arith}
-use Rattle.std.specs.Prelude.{◌&&◌, Contains, filter, get_or, ℤ, pos, ◌≤ℤ◌, int_lt}
+use Rattle.std.specs.Prelude.{Contains, filter, get_or, int_lt, pos, unwrap_or, ℤ, ◌&&◌, ◌≤ℤ◌}
 use Rattle.std.proofs.lemmas.Int.{ints}
 use Rattle.std.proofs.lemmas.List.{map-id}
 use Rattle.std.proofs.lemmas.List.Elements.{Contains-get_or, filter_agree}
@@ -15,6 +15,7 @@ use Rattle.suit_classes.specs.ClassPlaces.{class_after, class_moves}
 use Rattle.suit_classes.proofs.SameMoves.{among-Contains, among_contained}
 use Rattle.suit_classes.proofs.ToldHistories.{allows-push}
 use Rattle.suit_classes.specs.ClassMoves.{ClassHistory}
+use Rattle.suit_classes.specs.declared.class_moves.ClassMove.TheVariants.{ShowOut}
 use Rattle.suit_plans.specs.Masses.{defence_shares_at, defence_mass, defenders, is_first}
 use Rattle.suit_plans.specs.Masses.{share}
 use Rattle.suit_plans.specs.declared.defence.Defence.{Defence}
@@ -22,12 +23,11 @@ use Rattle.suit_plans.proofs.MassSteps.{mass_kept, mass_shared}
 use Rattle.suit_plans.proofs.TurnMoves.{declarers_moves}
 use Rattle.suit_tree.specs.declared.node.Node.{Node}
 use Rattle.suit_tree.specs.Growing.{keeping}
-use Rattle.suit_tree.specs.Nodes.{layouts_at}
+use Rattle.suit_tree.specs.Nodes.{holds_index, layouts_at, move_of}
 use Rattle.suit_tree.specs.Trees.{allowing, counts_at, layout_indices, moves_on}
 use Rattle.suit_tree.proofs.GrownTrees.{kept_allowing}
 use Rattle.suit_tree.proofs.MovesOn.{moves_on-parts}
 use Rattle.suit_tree.proofs.NodePaths.{tree_stands}
-use Rattle.suit_reply.specs.NodeMoves.{holds_layout, move_of, or_show_out}
 use Rattle.suit_reply.specs.AgainstDefence.{is_live, layout_share}
 use Rattle.suit_reply.proofs.MostByNodes.AllowingLayouts.{mass_at}
 use Rattle.suit_tree.proofs.FittedNodes.{map_fitted_kept}
@@ -81,13 +81,13 @@ all_allow question history move valid own found =
 firsts_below : (more : ℕ) (question : Question) (history : ClassHistory) (nodes : List Node) (index : ℕ)
     → IsValid question → IsGoing question history
     → AreChildren more question history nodes → Contains (allowing question history) index
-    → map move_of (filter (holds_layout index) nodes) ≡ layout_moves question index history
+    → map move_of (filter (holds_index index) nodes) ≡ layout_moves question index history
 firsts_below more question history nodes index valid going fit held =
     let may : ClassMove → Bool = λ other. is_held index (allowing question (history ++ other ∷ [])) in
-    map_fitted_kept (AreBelow more question history) move_of (λ other. other) (holds_layout index) may
+    map_fitted_kept (AreBelow more question history) move_of (λ other. other) (holds_index index) may
     (moves_on question history) nodes fit
     (λ other child below. ap (is_held index) (tree_stands more question (history ++ other ∷ []) child below.1).layouts)
-    (λ other child passes below. ap or_show_out below.0)
+    (λ other child passes below. ap (λ to. unwrap_or to ShowOut) below.0)
     ∙ map-id (filter may (moves_on question history))
     ∙ held_moves question history index valid held going
 
@@ -139,7 +139,7 @@ module _ (question : Question) (defence : Defence) (history : ClassHistory) (mov
       → IsGoing question history → IsDefencesTurn question history → AreChildren more question history nodes
       → AreBelow more question history move child
       → filter is_live (map (layout_share (layouts_of question) defence.rows nodes history move)
-      (filter (λ held. holds_layout held.0 child) (masses_at question defence history)))
+      (filter (λ held. holds_index held.0 child) (masses_at question defence history)))
       ≡ masses_at question defence (history ++ move ∷ [])
   masses_pass more nodes child is going theirs fit below =
       let before : ℕ → ℤ = mass_at question defence history in
@@ -147,7 +147,7 @@ module _ (question : Question) (defence : Defence) (history : ClassHistory) (mov
       let kept : Indices = allowing question (history ++ move ∷ []) in
       let held : layouts_at child ≡ kept = (tree_stands more question (history ++ move ∷ []) child below.1).layouts in
       live_passed before after (layout_share (layouts_of question) defence.rows nodes history move)
-      (λ held. holds_layout held.0 child) (goes_with question history move) (allowing question history)
+      (λ held. holds_index held.0 child) (goes_with question history move) (allowing question history)
       (λ index found. ap (is_held index) held ∙ held_is question history move index is.valid found)
       (λ index found goes. shares_below more nodes index is.valid going theirs fit found)
       (λ index found goes fails.

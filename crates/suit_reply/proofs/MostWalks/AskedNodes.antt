@@ -1,7 +1,7 @@
 -- asked_below: what a node is asked for, where declarer replies to a defence, its children are asked for.
 use Rattle.std.proofs.Common.{◌≡◌, ℕ, zero, suc, ◌-◌, ◌<◌, ◌≤◌, All, true, List, [], ◌∷◌, ◌++◌, Some, None, length}
 use Rattle.std.proofs.Common.{get_or, map, refl, sym, ap, ◌∙◌, subst, arith}
-use Rattle.std.specs.Prelude.{Contains, filter, ℤ, pos, ◌^◌, ◌≤ℤ◌}
+use Rattle.std.specs.Prelude.{Contains, filter, pos, unwrap_or, ℤ, ◌^◌, ◌≤ℤ◌}
 use Rattle.std.proofs.lemmas.Bool.{false≢true}
 use Rattle.std.proofs.lemmas.List.{length-append}
 use Rattle.std.proofs.lemmas.List.Elements.{All-contains_itself, All-filter, All-map, All-same, All-weaker}
@@ -13,6 +13,7 @@ use Rattle.suit_classes.specs.declared.class_turn.ClassTurn.{ClassTurn}
 use Rattle.suit_classes.specs.declared.class_turn.ClassTurn.TheVariants as turns
 use Rattle.suit_classes.specs.ClassPlaces.{class_after}
 use Rattle.suit_classes.specs.ClassMoves.{ClassHistory}
+use Rattle.suit_classes.specs.declared.class_moves.ClassMove.TheVariants.{ShowOut}
 use Rattle.suit_plans.specs.Masses.{is_declarers, is_defences}
 use Rattle.suit_plans.specs.Orders.{InOrder, defence_row_before}
 use Rattle.suit_plans.specs.Properness.{sum_of}
@@ -20,13 +21,12 @@ use Rattle.suit_plans.specs.declared.defence.DefenceRow.{DefenceRow}
 use Rattle.suit_plans.proofs.ProperDefences.{defences_are_realised}
 use Rattle.suit_plans.proofs.ProperOrders.{defence_in_order}
 use Rattle.suit_tree.specs.declared.node.Node.{Node}
-use Rattle.suit_tree.specs.Nodes.{children_of, payoff_at, turn_at}
+use Rattle.suit_tree.specs.Nodes.{children_of, holds_index, move_of, payoff_at, turn_at}
 use Rattle.suit_tree.specs.Trees.{IsTreeAt, StandsAt, allowing, moves_on}
 use Rattle.suit_tree.proofs.CountedNodes.{kept_layouts}
 use Rattle.suit_tree.proofs.NodePaths.{tree_stands}
 use Rattle.suit_reply.specs.declared.turn_rule.TurnRule.{TurnRule}
 use Rattle.suit_reply.specs.AgainstDefence.{LayoutMasses, MostNode, is_live, layout_share, most_gathers, shared_masses}
-use Rattle.suit_reply.specs.NodeMoves.{holds_layout, move_of, or_show_out}
 use Rattle.suit_reply.proofs.MostByNodes.AllowingLayouts.{mass_at}
 use Rattle.suit_reply.proofs.MostRoots.FirstMasses.{index_weighs}
 use Rattle.suit_plans.proofs.WhoseTurns.{Declarers, Defences, Over, WhoseTurn, whose_turn}
@@ -67,7 +67,7 @@ passed_masses : (turn : ClassTurn) (layouts : List (Counts × ℕ)) (rows : List
     → is_defences turn ≡ true
     → shared_masses turn layouts rows nodes history masses child
     ≡ filter is_live (map (layout_share layouts rows nodes history (move_of child))
-    (filter (λ held. holds_layout held.0 child) masses))
+    (filter (λ held. holds_index held.0 child) masses))
 passed_masses turns.Lead layouts rows nodes history masses child theirs = absurd (false≢true theirs)
 passed_masses (turns.Declarer seat) layouts rows nodes history masses child theirs = absurd (false≢true theirs)
 passed_masses (turns.Defence seat) layouts rows nodes history masses child theirs = refl
@@ -174,7 +174,7 @@ module _ (layouts : List (Counts × ℕ)) (rows : List DefenceRow) (history : Cl
       pass_on : List (Counts × ℕ) → List DefenceRow → ClassMove → LayoutMasses → LayoutMasses
       pass_on all given by before =
           filter is_live (map (layout_share all given (children_of node) history by)
-          (filter (λ held. holds_layout held.0 child) before))
+          (filter (λ held. holds_index held.0 child) before))
 
       at : WhoseTurn (class_after is.question history)
           → shared_masses (turn_at node) layouts rows (children_of node) history masses child
@@ -190,7 +190,8 @@ module _ (layouts : List (Counts × ℕ)) (rows : List DefenceRow) (history : Cl
           (ap is_defences stands.turn ∙ theirs)
           ∙ ap (λ (l : List (Counts × ℕ)). pass_on l rows (move_of child) masses) (sym is.is_layouts)
           ∙ ap (λ (l : List DefenceRow). pass_on (layouts_of is.question) l (move_of child) masses) (sym is.is_rows)
-          ∙ ap (λ (m : ClassMove). pass_on (layouts_of is.question) is.defence.rows m masses) (ap or_show_out fits.0)
+          ∙ ap (λ (m : ClassMove). pass_on (layouts_of is.question) is.defence.rows m masses)
+          (ap (λ to. unwrap_or to ShowOut) fits.0)
           ∙ ap (pass_on (layouts_of is.question) is.defence.rows move) is.are_masses
           ∙ masses_pass is.question is.defence history move below.less (children_of node) child case going theirs
           below.fit fits
@@ -217,7 +218,7 @@ module _ (layouts : List (Counts × ℕ)) (rows : List DefenceRow) (history : Cl
       sum_falls is.question is.defence below.less history move case at.1 in
       subst (λ (m : ClassMove). MostNode layouts rows (history ++ m ∷ [])
       (shared_masses (turn_at node) layouts rows (children_of node) history masses child) child)
-      (sym (ap or_show_out at.2.0))
+      (sym (ap (λ to. unwrap_or to ShowOut) at.2.0))
       (record {
         question = is.question;
         defence = is.defence;

@@ -7,11 +7,10 @@ use Rattle.std.proofs.lemmas.List.{take_all}
 use Rattle.suit_classes.specs.ClassMoves.{ClassHistory}
 use Rattle.suit_plans.specs.Properness.{sum_of}
 use Rattle.suit_tree.specs.declared.node.Node.{Node}
-use Rattle.suit_tree.specs.Nodes.{children_of, turn_at}
+use Rattle.suit_tree.specs.Nodes.{children_of, move_of, turn_at}
 use Rattle.suit_reply.specs.NodeReplies.{NodeReplyView}
 use Rattle.suit_reply.specs.Turns.{TurnView, finished, gathered}
 use Rattle.suit_reply.specs.AgainstDefence.{most_gathers, shared_masses}
-use Rattle.suit_reply.specs.NodeMoves.{move_of}
 use Rattle.suit_reply.proofs.NodesAt.{at_itself, no_node, node_at}
 use Rattle.suit_reply.proofs.MostWalks.AskedNodes.{asked_below, node_order, node_payoff, node_indices, node_positive}
 use Rattle.suit_reply.proofs.MostWalks.AskedNodes.{room_falls, step_from}
@@ -84,9 +83,9 @@ below-requires t c =
     let step =
     step_from layouts rows history masses node index child c.push.new.self.items c.deref-in-loop-child.result.now
     c.children-child-items.result.now c.loop-child.history.items c.deref.result.now
-    c.move_of-mv.result c.children-child-items.ensures c.loop-child-test.true
+    c.mv-mv.result c.children-child-items.ensures c.loop-child-test.true
     (sym (at_itself c.children-child-items.result.now c.loop-child.child-index no_node))
-    c.loop-child.invariant.kept c.deref.ensures.value c.move_of-mv.ensures c.in_ok-push.ensures.items
+    c.loop-child.invariant.kept c.deref.ensures.value c.mv-mv.ensures c.in_ok-push.ensures.items
     share in
     let gathers : Some c.in-Some.rule ≡ most_gathers (turn_at node) =
     c.in-Some.ensures ∙ ap most_gathers c.turn.ensures in (
@@ -114,9 +113,9 @@ join-requires-clause-sum t c =
     let step =
     step_from layouts rows history masses node index child c.push.new.self.items c.deref-in-loop-child.result.now
     c.children-child-items.result.now c.loop-child.history.items c.deref.result.now
-    c.move_of-mv.result c.children-child-items.ensures c.loop-child-test.true
+    c.mv-mv.result c.children-child-items.ensures c.loop-child-test.true
     (sym (at_itself c.children-child-items.result.now c.loop-child.child-index no_node))
-    c.loop-child.invariant.kept c.deref.ensures.value c.move_of-mv.ensures c.in_ok-push.ensures.items
+    c.loop-child.invariant.kept c.deref.ensures.value c.mv-mv.ensures c.in_ok-push.ensures.items
     share in
     let gathers : Some c.in-Some.rule ≡ most_gathers (turn_at node) =
     c.in-Some.ensures ∙ ap most_gathers c.turn.ensures in
@@ -139,22 +138,22 @@ loop-child-preserved t c =
     let step =
     step_from layouts rows history masses node index child c.push.new.self.items c.deref-in-loop-child.result.now
     c.children-child-items.result.now c.loop-child.history.items c.deref.result.now
-    c.move_of-mv.result c.children-child-items.ensures c.loop-child-test.true
+    c.mv-mv.result c.children-child-items.ensures c.loop-child-test.true
     (sym (at_itself c.children-child-items.result.now c.loop-child.child-index no_node))
-    c.loop-child.invariant.kept c.deref.ensures.value c.move_of-mv.ensures c.in_ok-push.ensures.items
+    c.loop-child.invariant.kept c.deref.ensures.value c.mv-mv.ensures c.in_ok-push.ensures.items
     share in
     let before = c.loop-child.so_far in
     let pushed : c.below.new.history.items ≡ history ++ move_of child ∷ [] = c.in_ok-reply.ensures.kept ∙ step.after in
     record {
       so_far =
           joined_is layouts rows history masses node c.in-Some.rule index child c.push.new.self.items
-          c.deref-in-loop-child.result.now before c.in_ok-so_far.so_far c.move_of-mv.result c.in_ok-reply.reply
-          step c.in_ok-reply.ensures.reply c.loop-child.invariant.so_far c.move_of-mv.ensures c.in_ok-so_far.ensures;
+          c.deref-in-loop-child.result.now before c.in_ok-so_far.so_far c.mv-mv.result c.in_ok-reply.reply
+          step c.in_ok-reply.ensures.reply c.loop-child.invariant.so_far c.mv-mv.ensures c.in_ok-so_far.ensures;
       many = omega (
         arith,
         c.loop-child.invariant.many,
         ap (λ (all : TurnView). all.many) c.in_ok-so_far.ensures,
-        joined_many c.in-Some.rule before c.move_of-mv.result c.in_ok-reply.reply,
+        joined_many c.in-Some.rule before c.mv-mv.result c.in_ok-reply.reply,
       );
       kept = one_off history c.below.new.history.items c.pop.new.self.items (move_of child) _ pushed
           c.below.new.history.ok.0 c.pop.ensures.rest;

@@ -86,29 +86,29 @@ below-requires t c =
     let still : SFits w128 c.share-share.result = search rules in
     let on : Goes c.match-turn.rule rows c.args.index history mass node c.loop-child.child-index
     (node_at c.children-child-items.result.now c.loop-child.child-index)
-    c.move_of-mv.result part =
+    c.mv-mv.result part =
     goes_at c.match-turn.rule rows c.args.index history mass c.args.mass node c.loop-child.child-index
-    (node_at c.children-child-items.result.now c.loop-child.child-index) c.move_of-mv.result part c.share-share.result
+    (node_at c.children-child-items.result.now c.loop-child.child-index) c.mv-mv.result part c.share-share.result
     c.children-child-items.result.now c.turn-in-loop-child.result c.deref.result.now c.loop-child.history.items
     c.requires (to_z-of_z w128 c.args.mass fits) c.loop-child.invariant.gathers
     c.children-child-items.ensures c.loop-child-test.true
     (sym (at_itself c.children-child-items.result.now c.loop-child.child-index no_node))
     c.turn-in-loop-child.ensures
-    c.if-goes_to.ensures c.move_of-mv.ensures (to_z-of_z w128 c.share-share.result still)
+    c.if-goes_to.ensures c.mv-mv.ensures (to_z-of_z w128 c.share-share.result still)
     c.share-share.ensures c.deref.ensures.value c.loop-child.invariant.kept in
-    let pushed : c.push.new.self.items ≡ history ++ c.move_of-mv.result ∷ [] =
-    added_to history c.loop-child.history.items c.push.new.self.items c.move_of-mv.result c.in_ok-push.ensures.items
+    let pushed : c.push.new.self.items ≡ history ++ c.mv-mv.result ∷ [] =
+    added_to history c.loop-child.history.items c.push.new.self.items c.mv-mv.result c.in_ok-push.ensures.items
     c.loop-child.invariant.kept in (
       omega (
         arith,
         c.decreases,
         goes_shorter c.match-turn.rule rows c.args.index history mass node
             c.loop-child.child-index (node_at c.children-child-items.result.now c.loop-child.child-index)
-            c.move_of-mv.result part on c.push.new.self.items pushed,
+            c.mv-mv.result part on c.push.new.self.items pushed,
       ),
       goes_asked c.match-turn.rule rows c.args.index history mass node c.loop-child.child-index
           (node_at c.children-child-items.result.now c.loop-child.child-index)
-          c.move_of-mv.result part on c.push.new.self.items pushed,
+          c.mv-mv.result part on c.push.new.self.items pushed,
     )
 
 pub join-requires-clause-many : goal.join-requires-clause-many
@@ -134,26 +134,26 @@ join-requires-clause-sum t c =
     let still : SFits w128 c.share-share.result = search rules in
     let on : Goes c.match-turn.rule rows c.args.index history mass node c.loop-child.child-index
     (node_at c.children-child-items.result.now c.loop-child.child-index)
-    c.move_of-mv.result part =
+    c.mv-mv.result part =
     goes_at c.match-turn.rule rows c.args.index history mass c.args.mass node c.loop-child.child-index
-    (node_at c.children-child-items.result.now c.loop-child.child-index) c.move_of-mv.result part c.share-share.result
+    (node_at c.children-child-items.result.now c.loop-child.child-index) c.mv-mv.result part c.share-share.result
     c.children-child-items.result.now c.turn-in-loop-child.result c.deref.result.now c.loop-child.history.items
     c.requires (to_z-of_z w128 c.args.mass fits) c.loop-child.invariant.gathers
     c.children-child-items.ensures c.loop-child-test.true
     (sym (at_itself c.children-child-items.result.now c.loop-child.child-index no_node))
     c.turn-in-loop-child.ensures
-    c.if-goes_to.ensures c.move_of-mv.ensures (to_z-of_z w128 c.share-share.result still)
+    c.if-goes_to.ensures c.mv-mv.ensures (to_z-of_z w128 c.share-share.result still)
     c.share-share.ensures c.deref.ensures.value c.loop-child.invariant.kept in
-    let pushed : c.push.new.self.items ≡ history ++ c.move_of-mv.result ∷ [] =
-    added_to history c.loop-child.history.items c.push.new.self.items c.move_of-mv.result c.in_ok-push.ensures.items
+    let pushed : c.push.new.self.items ≡ history ++ c.mv-mv.result ∷ [] =
+    added_to history c.loop-child.history.items c.push.new.self.items c.mv-mv.result c.in_ok-push.ensures.items
     c.loop-child.invariant.kept in
     let told =
     goes_told c.match-turn.rule rows c.args.index history mass node c.loop-child.child-index
     (node_at c.children-child-items.result.now c.loop-child.child-index)
-    c.move_of-mv.result part on c.push.new.self.items c.in_ok-reply.reply pushed c.in_ok-reply.ensures.reply in
+    c.mv-mv.result part on c.push.new.self.items c.in_ok-reply.reply pushed c.in_ok-reply.ensures.reply in
     goes_sum c.match-turn.rule rows c.args.index history mass node c.loop-child.child-index
     (node_at c.children-child-items.result.now c.loop-child.child-index)
-    c.move_of-mv.result part c.loop-child.so_far c.in_ok-reply.reply on
+    c.mv-mv.result part c.loop-child.so_far c.in_ok-reply.reply on
     (subst (λ (l : List Node). c.loop-child.so_far
     ≡ first_gathered c.match-turn.rule rows c.args.index history mass node l c.loop-child.child-index)
     c.children-child-items.ensures c.loop-child.invariant.so_far) told
@@ -185,26 +185,26 @@ loop-child-preserved t c =
           let part = to_z w128 (of_z w128 w.share-share.result) in
           let still : SFits w128 w.share-share.result = search rules in
           let on : Goes c.match-turn.rule rows c.args.index history mass node c.loop-child.child-index
-          (node_at c.children-child-items.result.now c.loop-child.child-index) w.move_of-mv.result part =
+          (node_at c.children-child-items.result.now c.loop-child.child-index) w.mv-mv.result part =
           goes_at c.match-turn.rule rows c.args.index history mass c.args.mass node c.loop-child.child-index
-          (node_at c.children-child-items.result.now c.loop-child.child-index) w.move_of-mv.result part
+          (node_at c.children-child-items.result.now c.loop-child.child-index) w.mv-mv.result part
           w.share-share.result
           c.children-child-items.result.now c.turn-in-loop-child.result w.deref.result.now c.loop-child.history.items
           c.requires (to_z-of_z w128 c.args.mass fits) c.loop-child.invariant.gathers
           c.children-child-items.ensures c.loop-child-test.true
           (sym (at_itself c.children-child-items.result.now c.loop-child.child-index no_node))
           c.turn-in-loop-child.ensures
-          w.if-goes_to.ensures w.move_of-mv.ensures (to_z-of_z w128 w.share-share.result still)
+          w.if-goes_to.ensures w.mv-mv.ensures (to_z-of_z w128 w.share-share.result still)
           w.share-share.ensures w.deref.ensures.value c.loop-child.invariant.kept in
-          let pushed : w.push.new.self.items ≡ history ++ w.move_of-mv.result ∷ [] =
-          added_to history c.loop-child.history.items w.push.new.self.items w.move_of-mv.result
+          let pushed : w.push.new.self.items ≡ history ++ w.mv-mv.result ∷ [] =
+          added_to history c.loop-child.history.items w.push.new.self.items w.mv-mv.result
           w.in_ok-push.ensures.items c.loop-child.invariant.kept in
           let told =
           goes_told c.match-turn.rule rows c.args.index history mass node c.loop-child.child-index
           (node_at c.children-child-items.result.now c.loop-child.child-index)
-          w.move_of-mv.result part on w.push.new.self.items w.in_ok-reply.reply pushed w.in_ok-reply.ensures.reply in
+          w.mv-mv.result part on w.push.new.self.items w.in_ok-reply.reply pushed w.in_ok-reply.ensures.reply in
           let joins : w.in_ok-so_far.so_far
-          ≡ joined c.match-turn.rule c.loop-child.so_far w.move_of-mv.result w.in_ok-reply.reply =
+          ≡ joined c.match-turn.rule c.loop-child.so_far w.mv-mv.result w.in_ok-reply.reply =
           w.in_ok-so_far.ensures in
           record {
             gathers = c.loop-child.invariant.gathers;
@@ -213,17 +213,17 @@ loop-child-preserved t c =
                 ≡ first_gathered c.match-turn.rule rows c.args.index history mass node l (c.loop-child.child-index + 1))
                 (sym c.children-child-items.ensures)
                 (goes_joined c.match-turn.rule rows c.args.index history mass node c.loop-child.child-index
-                (node_at c.children-child-items.result.now c.loop-child.child-index) w.move_of-mv.result part on
+                (node_at c.children-child-items.result.now c.loop-child.child-index) w.mv-mv.result part on
                 c.loop-child.so_far w.in_ok-so_far.so_far
                 w.in_ok-reply.reply was told joins);
             many = omega (
               arith,
               ap (λ (so_far : TurnView). so_far.many) (w.so_far-is ∙ joins),
-              joined_many c.match-turn.rule c.loop-child.so_far w.move_of-mv.result w.in_ok-reply.reply,
+              joined_many c.match-turn.rule c.loop-child.so_far w.mv-mv.result w.in_ok-reply.reply,
               c.loop-child.invariant.many,
             );
             kept = ap (λ v. v.items) w.history-is
-                ∙ one_off history w.below.new.history.items w.pop.new.self.items w.move_of-mv.result _
+                ∙ one_off history w.below.new.history.items w.pop.new.self.items w.mv-mv.result _
                 (w.in_ok-reply.ensures.kept ∙ pushed) w.below.new.history.ok.0 w.pop.ensures.rest;
           }
       | else-goes_to w ↦
