@@ -65,7 +65,8 @@ added_more before cells factor count now other sum less inside h e = let cell : 
                 ∙ get_or-set_same now cell.index sum (pos 0) inside
                 ∙ step_here (number_at now cell.index) (number_at before cell.index) factor cell.number
                 (number_in (take count cells) cell.index) sum (h.numbers cell.index) e
-                ∙ ap (λ (n : ℕ). number_at before n +ℤ factor *ℤ (cell.number +ℤ number_in (take count cells) n)) (sym here)
+                ∙ ap (λ (n : ℕ). number_at before n +ℤ factor *ℤ (cell.number +ℤ number_in (take count cells) n))
+                (sym here)
                 ∙ ap (λ (z : ℤ). number_at before index +ℤ factor *ℤ z)
                 (ap (λ (z : ℤ). z +ℤ number_in (take count cells) index)
                 (sym (cond-true (index == cell.index) cell.number (pos 0) (eq-eqb index cell.index here)))

@@ -1,5 +1,6 @@
 -- The cells of sparse rows by their columns hold the columns of the program that is meant (`columns_whole`).
-use Rattle.std.proofs.Common.{◌≡◌, ◌≢◌, inl, inr, ℕ, zero, suc, ◌+◌, ◌<◌, ◌≤◌, List, [], ◌∷◌, ◌++◌, length, take, get_or}
+use Rattle.std.proofs.Common.{◌≡◌, ◌≢◌, inl, inr, ℕ, zero, suc, ◌+◌, ◌<◌, ◌≤◌, List, [], ◌∷◌, ◌++◌, length, take}
+use Rattle.std.proofs.Common.{get_or}
 use Rattle.std.proofs.Common.{subst, refl, sym, ap, ◌∙◌, arith, cond, nat_lt, Bool, Some, Vec, Global, replicate}
 use Rattle.std.specs.Prelude.{ℤ, pos, ◌+ℤ◌, ◌==◌, true, false, map, set, slice_get}
 use Rattle.std.proofs.lemmas.Int.{ints}
@@ -65,7 +66,8 @@ entry_added index count entries other before now after less within h e =
           elim (cases_eq column (get_or entries count other).column) [
             | inl here ↦
                 ap (λ (xs : List (List Cell)). number_in (get_or xs column []) place) e
-                ∙ ap (λ (n : ℕ). number_in (get_or (set now entry.column (get_or now entry.column [] ++ cell ∷ [])) n [])
+                ∙ ap (λ (n : ℕ). number_in (get_or (set now entry.column (get_or now entry.column [] ++ cell ∷ [])) n
+                [])
                 place) here
                 ∙ ap (λ (cells : List Cell). number_in cells place) (get_or-set_same now entry.column _ [] within)
                 ∙ number_in_push (get_or now entry.column []) cell place

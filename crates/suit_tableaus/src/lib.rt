@@ -11,4 +11,4 @@ mod sparse;
 pub use ends::{Optimum, SimplexEnd};
 pub use lists::{Entries, Fracs, Numbers, ProgramRows, SparseRows};
 pub use program::{Program, ProgramRow};
-pub use sparse::{Entry, SparseProgram, SparseRow};
+pub use sparse::{Entry, SparseProgram, SparseRow, numbers_of};

@@ -60,7 +60,8 @@ fn row_of(alloc: Global, row: &SparseRow, columns: usize) -> Result<ProgramRow, 
     })
 }
 
-fn numbers_of(alloc: Global, entries: &[Entry], columns: usize) -> Result<Vec<i128>, AllocError>
+/// What each of so many columns adds to the row of some entries. The only error is want of memory.
+pub fn numbers_of(alloc: Global, entries: &[Entry], columns: usize) -> Result<Vec<i128>, AllocError>
     ensures { IfOk result (λ numbers. numbers.items ≡ dense_entries columns entries.now) }
 {
     let mut numbers = vec![in alloc; 0; columns]?;

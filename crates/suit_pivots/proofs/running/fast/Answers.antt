@@ -24,7 +24,8 @@ loop-made-preserved c =
     let state : IsStateOf (dense c.args.program.now) c.deref_mut.result.now c.deref_mut-in-loop-made.result.now
     c.loop-made.invariant.tableau =
     rw (c.deref_mut.ensures.value, c.deref_mut-in-loop-made.ensures.value) c.loop-made.invariant.state in
-    let step = rw c.in-Pivoted.is at (c.in_ok-advance.ensures.value (dense c.args.program.now) c.loop-made.invariant.tableau
+    let step = rw c.in-Pivoted.is at (c.in_ok-advance.ensures.value
+    (dense c.args.program.now) c.loop-made.invariant.tableau
     sparse state) in
     let lines = written c.loop-made.lines c.advance.new.lines c.deref_mut.result.now c.advance.ensures.lines
     c.deref_mut.ensures.len in
@@ -40,7 +41,8 @@ read_end-requires c =
     let state : IsStateOf (dense c.args.program.now) c.deref_mut.result.now c.deref_mut-in-loop-made.result.now
     c.loop-made.invariant.tableau =
     rw (c.deref_mut.ensures.value, c.deref_mut-in-loop-made.ensures.value) c.loop-made.invariant.state in
-    let step = rw c.in-Last.is at (c.in_ok-advance.ensures.value (dense c.args.program.now) c.loop-made.invariant.tableau
+    let step = rw c.in-Last.is at (c.in_ok-advance.ensures.value
+    (dense c.args.program.now) c.loop-made.invariant.tableau
     sparse state) in
     let objective = written c.loop-made.objective c.advance.new.objective c.deref_mut-in-loop-made.result.now
     c.advance.ensures.objective c.deref_mut-in-loop-made.ensures.len in
@@ -52,7 +54,8 @@ returns-in-Last c =
     let state : IsStateOf (dense c.args.program.now) c.deref_mut.result.now c.deref_mut-in-loop-made.result.now
     c.loop-made.invariant.tableau =
     rw (c.deref_mut.ensures.value, c.deref_mut-in-loop-made.ensures.value) c.loop-made.invariant.state in
-    let step = rw c.in-Last.is at (c.in_ok-advance.ensures.value (dense c.args.program.now) c.loop-made.invariant.tableau
+    let step = rw c.in-Last.is at (c.in_ok-advance.ensures.value
+    (dense c.args.program.now) c.loop-made.invariant.tableau
     sparse state) in
     let lines = written c.loop-made.lines c.advance.new.lines c.deref_mut.result.now c.advance.ensures.lines
     c.deref_mut.ensures.len in
@@ -63,7 +66,8 @@ returns-in-Last c =
     rw (c.deref.ensures.value ∙ lines, c.deref-in-Last.ensures.value ∙ objective) step.1 in
     read_tells (dense c.args.program.now) c.deref.result.now c.deref-in-Last.result.now c.loop-made.invariant.tableau
     (run_end (dense c.args.program.now) c.args.pivots) c.read_end.result last
-    (ends_last (dense c.args.program.now) c.args.pivots c.loop-made.invariant.tableau c.loop-made.made c.loop-made-test.true
+    (ends_last (dense c.args.program.now) c.args.pivots c.loop-made.invariant.tableau c.loop-made.made
+    c.loop-made-test.true
     c.loop-made.invariant.running (next_last c.loop-made.invariant.tableau step.0)) c.read_end.ensures
 
 pub returns-then-is_some : goal.returns-then-is_some
@@ -81,9 +85,11 @@ returns c =
     enters_test (dense c.args.program.now) c.loop-made.lines.items c.loop-made.objective.items c.deref-2.result.now
     c.loop-made.invariant.tableau c.entering.result c.loop-made.invariant.state c.deref-2.ensures.value
     c.entering.ensures ∙ sym c.if-is_some.ensures in
-    let last : IsStateOf (dense c.args.program.now) c.deref-3.result.now c.deref-4.result.now c.loop-made.invariant.tableau =
+    let last : IsStateOf (dense c.args.program.now) c.deref-3.result.now c.deref-4.result.now
+    c.loop-made.invariant.tableau =
     rw (c.deref-3.ensures.value, c.deref-4.ensures.value) c.loop-made.invariant.state in
     read_tells (dense c.args.program.now) c.deref-3.result.now c.deref-4.result.now c.loop-made.invariant.tableau
     (run_end (dense c.args.program.now) c.args.pivots) c.read_end-2.result last
-    (ends_done (dense c.args.program.now) c.args.pivots c.loop-made.invariant.tableau c.loop-made.made c.loop-made-test.false
+    (ends_done (dense c.args.program.now) c.args.pivots c.loop-made.invariant.tableau c.loop-made.made
+    c.loop-made-test.false
     c.loop-made.invariant.running enters) c.read_end-2.ensures
