@@ -6,6 +6,7 @@ pub mod MoveWords
 pub mod NumberBack
 pub mod NumberWords
 pub mod Numerals
+pub mod ReducedFractions
 pub mod RowLoops
 pub mod RowBack
 pub mod RowWords

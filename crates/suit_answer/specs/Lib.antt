@@ -6,6 +6,8 @@ pub mod Lines
 pub mod LowestTerms
 pub mod Numbers
 pub mod Reading
+pub mod Reduced
+pub mod ReducedTerms
 pub mod Results
 pub mod Rows
 pub mod Writable

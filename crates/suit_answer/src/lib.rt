@@ -15,12 +15,14 @@ mod sharing;
 #[cfg(test)]
 mod tests;
 mod values;
+mod worth;
 mod writing;
 
 pub use answer::Answer;
 pub use faults::AnswerFault;
 pub use letters::ClassLetters;
 pub use reading::{MOST_TEXT, read_answer};
+pub use worth::value_over;
 pub use writing::{answer_text, write_move, write_number};
 
 /// Memory ran out.

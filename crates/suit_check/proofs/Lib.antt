@@ -1,4 +1,2 @@
-pub mod LowestTerms
 pub mod ToldFindings
 pub mod VerdictsMet
-pub mod Wholes

@@ -1,11 +1,11 @@
 -- valid_is_met, found_are_exact: what a finding says of an answer.
-use Rattle.std.proofs.Common.{◌≡◌, ℕ, ◌<◌, ◌^◌, Bool, true, false, Ok, Err, ap, ◌∙◌, subst, refl, arith}
-use Rattle.std.specs.Prelude.{⊤, Result, if◌then◌else◌, ℤ, pos, ◌*ℤ◌, ◌<ℤ◌, ◌≤ℤ◌}
+use Rattle.std.proofs.Common.{◌≡◌, ◌^◌, Bool, true, false, Ok, Err, ap, sym, ◌∙◌, subst, refl}
+use Rattle.std.specs.Prelude.{⊤, Result, if◌then◌else◌, ℤ, pos, ◌*ℤ◌, ◌≤ℤ◌}
 use Rattle.std.specs.Ordering.{int_eq}
 use Rattle.std.proofs.lemmas.Bool.{and_from, and_parts}
 use Rattle.std.proofs.lemmas.Bool.Decides.{Decides-int_eq}
-use Rattle.std.proofs.lemmas.Int.{ints}
-use Rattle.suit_num.proofs.IntegerLaws.{mul_positive, int_le-true}
+use Rattle.suit_num.proofs.IntegerLaws.{int_le-true}
+use Rattle.suit_num.specs.declared.fraction.Frac.{Frac}
 use Rattle.suit_game.specs.declared.question.Question.{Question}
 use Rattle.suit_game.specs.Layouts.{total}
 use Rattle.suit_game.specs.Validity.{IsValid}
@@ -15,10 +15,11 @@ use Rattle.suit_plans.specs.declared.faults.PlanFault.{PlanFault}
 use Rattle.suit_plans.proofs.ProperDefences.{proper_defence}
 use Rattle.suit_plans.proofs.ProperPlans.{proper_plan}
 use Rattle.suit_answer.specs.declared.answer.Answer.{Answer}
+use Rattle.suit_answer.specs.Reduced.{value_over}
+use Rattle.suit_answer.proofs.ReducedFractions.{fraction_exact, made_fraction, some_from_one, whole_over}
 use Rattle.suit_check.specs.Verdicts.{Defence, Least, Most, Parts, Plan, Valid, parts_of, same_parts, unless_fault}
 use Rattle.suit_check.specs.Verdicts.{unless_other, value_of, verdict_of}
 use Rattle.suit_check.specs.VerdictLaws.{ComesTo, FoundAreExact, IsExact, IsMet, IsTold, ValidIsMet}
-use Rattle.suit_check.proofs.LowestTerms.{lowest_coprime, lowest_exact, lowest_is, lowest_positive}
 use Rattle.suit_check.proofs.ToldFindings.{earned, found_met, given_up, told_valid}
 
 -- ---- fractions
@@ -36,28 +37,16 @@ parts_same here there is =
     ((Decides-int_eq here.0 there.0).1 (ap (λ (parts : Parts). parts.0) is))
     ((Decides-int_eq here.1 there.1).1 (ap (λ (parts : Parts). parts.1) is))
 
-some_from_one : (den : ℤ) → pos 1 ≤ℤ den → pos 0 <ℤ den
-some_from_one den one = omega (arith, ints)
-
--- the denominators of proper plans and defences are positive, and so is the total weight
-pub whole_positive : (question : Question) (den : ℤ) → IsValid question → pos 1 ≤ℤ den
-    → pos 0 <ℤ (den *ℤ pos (total question))
-whole_positive question den valid one =
-    mul_positive den (pos (total question)) (some_from_one den one) (weight (total question) valid.has_weight)
-  where
-    weight : (n : ℕ) → 0 < n → pos 0 <ℤ pos n
-    weight n some = omega (arith, ints)
-
 module _ (question : Question) (valid : IsValid question) (number den : ℤ) (one : pos 1 ≤ℤ den) where
   -- the fraction that is found is exact
   value_exact : IsExact question number den (value_of question number den)
   value_exact =
-      let whole : ℤ = den *ℤ pos (total question) in
-      let some : pos 0 <ℤ whole = whole_positive question den valid one in
+      let found : Frac = value_over question number den in
       record {
-        exact = lowest_exact number whole some;
-        positive = lowest_positive number whole some;
-        lowest = lowest_coprime number whole some;
+        exact = fraction_exact number (den *ℤ pos (total question))
+            (whole_over question den valid (some_from_one den one));
+        positive = found.positive;
+        lowest = found.coprime;
       }
 
   -- it is the value of an answer exactly where the number comes to this
@@ -71,8 +60,8 @@ module _ (question : Question) (valid : IsValid question) (number den : ℤ) (on
       → same_parts (value_of question number den) (parts_of answer.value) ≡ true
   met_value answer comes =
       parts_same (value_of question number den) (parts_of answer.value)
-      (lowest_is number (den *ℤ pos (total question)) (whole_positive question den valid one) (parts_of answer.value)
-      answer.value.positive answer.value.coprime comes)
+      (ap parts_of (sym (made_fraction answer.value number (den *ℤ pos (total question))
+      (whole_over question den valid (some_from_one den one)) comes)))
 
 -- ---- findings
 

@@ -1,14 +1,13 @@
 -- The verdict over an answer to a question: the first of its faults, else that it is valid.
-use Rattle.std.specs.Prelude.{⊤, ◌&&◌, Bool, Result, Ok, Err, if◌then◌else◌, ℤ, pos, ◌*ℤ◌, int_div, unsigned_abs}
+use Rattle.std.specs.Prelude.{⊤, ◌&&◌, Bool, Result, Ok, Err, if◌then◌else◌, ℤ}
 use Rattle.std.specs.Ordering.{int_eq}
-use Rattle.suit_num.specs.Divisors.{gcd_of}
 use Rattle.suit_num.specs.declared.fraction.Frac.{Frac}
 use Rattle.suit_game.specs.declared.question.Question.{Question}
-use Rattle.suit_game.specs.Layouts.{total}
 use Rattle.suit_plans.specs.BestReplies.{least, most}
 use Rattle.suit_plans.specs.Properness.{defence_verdict, plan_verdict}
 use Rattle.suit_plans.specs.declared.faults.PlanFault.{PlanFault}
 use Rattle.suit_answer.specs.declared.answer.Answer.{Answer}
+use Rattle.suit_answer.specs.Reduced.{value_over}
 use Rattle.suit_check.specs.declared.verdict.Verdict.{Verdict}
 use Rattle.suit_check.specs.declared.verdict.Verdict.TheVariants as verdicts
 
@@ -19,14 +18,9 @@ Parts = ℤ × ℤ
 abbrev pub parts_of : Frac → Parts
 parts_of fraction = (fraction.num, fraction.den)
 
--- a fraction in lowest terms
-abbrev pub lowest_terms : ℤ → ℤ → Parts
-lowest_terms num den =
-    let divisor : ℤ = pos (gcd_of (unsigned_abs num) (unsigned_abs den)) in (int_div num divisor, int_div den divisor)
-
--- a number over a denominator and the total weight
+-- a number over a denominator and the total weight, in lowest terms
 abbrev pub value_of : Question → ℤ → ℤ → Parts
-value_of question number den = lowest_terms number (den *ℤ pos (total question))
+value_of question number den = parts_of (value_over question number den)
 
 -- whether two fractions have the same parts
 abbrev pub same_parts : Parts → Parts → Bool

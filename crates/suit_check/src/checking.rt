@@ -1,18 +1,16 @@
 //! The check of an answer.
-ghost use Rattle.std.specs.Prelude.{◌≡◌, ◌*ℤ◌, ◌≤◌, ◌≤ℤ◌, ◌<ℤ◌, ◌^◌, pos, IfErr, IfOk, OnOk};
-ghost use Rattle.suit_game.specs.Layouts.{total};
+ghost use Rattle.std.specs.Prelude.{◌≡◌, ◌≤◌, IfErr, IfOk, OnOk};
 ghost use Rattle.suit_game.specs.Validity.{IsValid};
 ghost use Rattle.suit_tree.specs.CountedHistories.{node_count};
 ghost use Rattle.suit_check.specs.Ends.{IsEnd};
-ghost use Rattle.suit_check.specs.Verdicts.{parts_of, seen, value_of, verdict_of};
+ghost use Rattle.suit_check.specs.Verdicts.{seen, verdict_of};
 
 use super::{CheckEnd, Verdict};
 use bumpalo::Bump;
 use std::alloc::Global;
 use std::thread::Threads;
-use suit_answer::Answer;
-use suit_game::{Gate, Question, total};
-use suit_num::Frac;
+use suit_answer::{Answer, value_over};
+use suit_game::{Gate, Question};
 use suit_plans::{proper_defence, proper_plan};
 use suit_reply::{least_on, most};
 use suit_tree::grow;
@@ -48,24 +46,14 @@ pub fn check<R: Threads + Sync, G: Gate + Sync>(
         return Ok(Verdict::Defence(fault));
     }
     let (earned, _) = least_on(rt, gate, alloc, &tree, &answer.plan)?;
-    let found = value_of(question, earned, answer.plan.den);
+    let found = value_over(question, earned, answer.plan.den);
     if found != answer.value {
         return Ok(Verdict::Least { found });
     }
     let (given_up, _) = most(alloc, &tree, &answer.defence)?;
-    let found = value_of(question, given_up, answer.defence.den);
+    let found = value_over(question, given_up, answer.defence.den);
     if found != answer.value {
         return Ok(Verdict::Most { found });
     }
     Ok(Verdict::Valid)
-}
-
-// A number over a denominator and the total weight, in lowest terms.
-fn value_of(question: &Question, number: i128, den: i128) -> Frac
-    requires valid { IsValid question.now }
-    requires number { (pos 0 ≤ℤ number) × (number <ℤ pos (2 ^ 118)) }
-    requires den { (pos 1 ≤ℤ den) × (den ≤ℤ pos (2 ^ 90)) }
-    ensures { parts_of result ≡ value_of question.now number den }
-{
-    Frac::reduced(number, den * total(question) as i128)
 }

@@ -1,13 +1,13 @@
 -- The optimum that the last tableau of a run holds (`holds_optimum`, `last_proves`).
 use Rattle.std.proofs.Common.{◌≡◌, ℕ, zero, suc, ◌+◌, ◌==◌, Bool, true, false, List, [], ◌∷◌, length, map, refl, sym}
 use Rattle.std.proofs.Common.{ap, ◌∙◌, subst, Some, None, Option, cond, arith, Ok}
-use Rattle.std.specs.Prelude.{find, slice_get, ℤ, pos, ◌*ℤ◌, ◌<ℤ◌, ◌≤ℤ◌, int_lt}
+use Rattle.std.specs.Prelude.{find, slice_get, ℤ, pos, ◌*ℤ◌, ◌<ℤ◌}
 use Rattle.std.specs.List.{AllByRecursion, range_with_len}
 use Rattle.std.proofs.lemmas.Bool.Decides.{nat_tests}
 use Rattle.std.proofs.lemmas.Int.{ints}
 use Rattle.std.proofs.lemmas.List.Elements.{recursion_from_All}
 use Rattle.suit_num.specs.declared.fraction.Frac.{Frac}
-use Rattle.suit_num.proofs.IntegerLaws.{int_lt-false, mul-one}
+use Rattle.suit_num.proofs.IntegerLaws.{mul-one}
 use Rattle.suit_tableaus.specs.declared.program.Program.{Program}
 use Rattle.suit_tableaus.specs.declared.ends.Optimum.{Optimum}
 use Rattle.suit_tableaus.specs.Programs.{IsWellFormed}
@@ -18,36 +18,11 @@ use Rattle.suit_tableaus.specs.Optima.{IsDualOptimum, IsPrimalOptimum}
 use Rattle.suit_tableaus.proofs.SoundTableaus.{IsSound}
 use Rattle.suit_simplex.proofs.FastAnswers.{last_of, told_dual, told_primal}
 use Rattle.suit_simplex.proofs.OneOptimum.{one_optimum}
-use Rattle.suit_solve.specs.Fractions.{fraction, fraction_by}
+use Rattle.suit_answer.specs.Reduced.{fraction}
+use Rattle.suit_answer.proofs.ReducedFractions.{fraction_exact}
 use Rattle.suit_solve.specs.LastTableaus.{basic_value, optimum_at, value_at}
-use Rattle.suit_solve.specs.LowestTerms.{lowest_den, lowest_exact, lowest_num}
 
 -- ---- fractions
-
-by_exact : (num den : ℤ) (b : Bool) (told : int_lt (pos 0) den ≡ b) → pos 0 <ℤ den
-    → num *ℤ (fraction_by num den b told).den ≡ (fraction_by num den b told).num *ℤ den
-by_exact num den true told some = lowest_exact num den told
-by_exact num den false told some =
-    let low : den ≤ℤ pos 0 = int_lt-false (pos 0) den told in absurd (omega (arith, ints))
-
--- a fraction is its number over the other
-pub fraction_exact : (num den : ℤ) → pos 0 <ℤ den → num *ℤ (fraction num den).den ≡ (fraction num den).num *ℤ den
-unfolding fraction
-fraction_exact num den some = by_exact num den (int_lt (pos 0) den) (λ i. int_lt (pos 0) den) some
-
-by_small : (num den : ℤ) (b : Bool) (told : int_lt (pos 0) den ≡ b) → pos 0 <ℤ den → pos 0 ≤ℤ num
-    → (pos 0 ≤ℤ (fraction_by num den b told).num) × ((fraction_by num den b told).num ≤ℤ num)
-    × ((fraction_by num den b told).den ≤ℤ den)
-by_small num den true told some low =
-    let small = lowest_num num den told low in (small.0, small.1, lowest_den num den told)
-by_small num den false told some low =
-    let none : den ≤ℤ pos 0 = int_lt-false (pos 0) den told in absurd (omega (arith, ints))
-
--- and no part of it is larger
-pub fraction_small : (num den : ℤ) → pos 0 <ℤ den → pos 0 ≤ℤ num
-    → (pos 0 ≤ℤ (fraction num den).num) × ((fraction num den).num ≤ℤ num) × ((fraction num den).den ≤ℤ den)
-unfolding fraction
-fraction_small num den some low = by_small num den (int_lt (pos 0) den) (λ i. int_lt (pos 0) den) some low
 
 one_positive : pos 0 <ℤ pos 1
 one_positive = omega (arith, ints)

@@ -9,7 +9,6 @@ pub mod ReplyPlaces
 pub mod Rounds
 pub mod ShownAnswers
 pub mod SolvedRounds
-pub mod WholeNumbers
 pub mod WholeSupports
 pub mod WritableAnswers
 pub mod WritableRows

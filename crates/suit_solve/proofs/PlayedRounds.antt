@@ -1,5 +1,6 @@
 -- How a round ends by what was played of it (`played_past`, `played_read`, `met_so`, `apart_so`).
-use Rattle.std.proofs.Common.{◌≡◌, ℕ, ◌<◌, ◌≤◌, ◌-◌, ◌^◌, Bool, true, false, Result, Ok, Err, length, refl, sym, ap, ◌∙◌, subst}
+use Rattle.std.proofs.Common.{◌≡◌, ℕ, ◌<◌, ◌≤◌, ◌-◌, ◌^◌, Bool, true, false, Result, Ok, Err, length, refl, sym, ap}
+use Rattle.std.proofs.Common.{◌∙◌, subst}
 use Rattle.std.proofs.Common.{min, nat_lt, arith}
 use Rattle.std.specs.Prelude.{◌&&◌, ℤ, pos, ◌*ℤ◌, ◌<ℤ◌, ◌≤ℤ◌, if◌then◌else◌, unsigned_abs}
 use Rattle.std.specs.Ordering.{int_eq}
@@ -29,13 +30,15 @@ use Rattle.suit_program.specs.Readings.{is_wide, parts_of}
 use Rattle.suit_program.specs.Supports.{Support}
 use Rattle.suit_program.proofs.FormedPrograms.{programs_are_well_formed}
 use Rattle.suit_solve.specs.Comparing.{answer_of, are_met}
-use Rattle.suit_solve.specs.Fractions.{fraction}
+use Rattle.suit_answer.specs.Reduced.{fraction}
 use Rattle.suit_solve.specs.LastTableaus.{optimum_at}
 use Rattle.suit_solve.specs.Limits.{most_size}
 use Rattle.suit_solve.specs.Rounds.{RoundEnd, PastSize, PastPivots, PastWidth, Met, Apart, compared, ran_end, read_end}
 use Rattle.suit_solve.specs.Rounds.{round_end}
-use Rattle.suit_solve.proofs.LastTableaus.{fraction_exact, last_is}
-use Rattle.suit_solve.proofs.ShownAnswers.{defence_over, plan_over, whole_over}
+use Rattle.suit_answer.proofs.ReducedFractions.{fraction_exact}
+use Rattle.suit_solve.proofs.LastTableaus.{last_is}
+use Rattle.suit_answer.proofs.ReducedFractions.{whole_over}
+use Rattle.suit_solve.proofs.ShownAnswers.{defence_over, plan_over}
 
 -- ---- the size
 

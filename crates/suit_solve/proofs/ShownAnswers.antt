@@ -18,16 +18,10 @@ use Rattle.suit_program.specs.Supports.{Support}
 use Rattle.suit_program.proofs.DefenceLaws.{read_defences_are_proper}
 use Rattle.suit_program.proofs.PlanLaws.{read_plans_are_proper}
 use Rattle.suit_answer.specs.declared.answer.Answer.{Answer}
+use Rattle.suit_answer.specs.Reduced.{fraction}
+use Rattle.suit_answer.proofs.ReducedFractions.{fraction_exact, some_from_one, whole_over}
 use Rattle.suit_solve.specs.Comparing.{IsShown, answer_of, are_met}
-use Rattle.suit_solve.specs.Fractions.{fraction}
-use Rattle.suit_solve.proofs.LastTableaus.{fraction_exact}
 use Rattle.suit_solve.proofs.Rounds.{IsMetAt}
-
-some_weight : (n : ℕ) → 0 < n → pos 0 <ℤ pos n
-some_weight n some = omega (arith, ints, some)
-
-pub some_from_one : (den : ℤ) → pos 1 ≤ℤ den → pos 0 <ℤ den
-some_from_one den one = omega (arith, ints)
 
 -- the denominator of a proper plan is positive
 pub plan_over : (question : Question) (plan : Plan) → IsProperPlan question plan → pos 0 <ℤ plan.den
@@ -39,12 +33,6 @@ pub defence_over : (question : Question) (defence : Defence) → IsProperDefence
     → pos 0 <ℤ defence.den
 defence_over question defence proper =
     some_from_one defence.den (int_le-true (pos 1) defence.den (proper_defence question defence proper).0)
-
--- a denominator times the total weight of a valid question is positive
-pub whole_over : (question : Question) (den : ℤ) → IsValid question → pos 0 <ℤ den
-    → pos 0 <ℤ (den *ℤ pos (total question))
-whole_over question den valid some =
-    mul_positive den (pos (total question)) some (some_weight (total question) valid.has_weight)
 
 -- where a proper plan and a proper defence meet, their answer shows its value
 pub shown_of : (question : Question) (plan : Plan) (defence : Defence) → IsValid question

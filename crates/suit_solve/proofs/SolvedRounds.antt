@@ -1,5 +1,6 @@
 -- A question on its way through the rounds (`first_round`, `next_round`).
-use Rattle.std.proofs.Common.{◌≡◌, ℕ, zero, suc, ◌+◌, ◌*◌, ◌-◌, ◌^◌, ◌<◌, ◌≤◌, Bool, true, false, List, [], ◌∷◌, length, refl}
+use Rattle.std.proofs.Common.{◌≡◌, ℕ, zero, suc, ◌+◌, ◌*◌, ◌-◌, ◌^◌, ◌<◌, ◌≤◌, Bool, true, false, List, [], ◌∷◌, length}
+use Rattle.std.proofs.Common.{refl}
 use Rattle.std.proofs.Common.{sym, ap, ◌∙◌, subst, Ok, Err, Result, nat_lt, arith, filter, map}
 use Rattle.std.specs.Prelude.{Contains, get_or, not, sum_by, if◌then◌else◌}
 use Rattle.std.specs.List.{AllByRecursion}

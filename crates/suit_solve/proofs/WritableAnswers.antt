@@ -60,12 +60,12 @@ use Rattle.suit_answer.specs.Writable.{IsWritable, IsWritableDefenceRow, IsWrita
 use Rattle.suit_answer.specs.Writable.{IsWritableRow}
 use Rattle.suit_answer.specs.Writable.{IsWritableShare, IsWritableTurn}
 use Rattle.suit_solve.specs.Comparing.{answer_of}
-use Rattle.suit_solve.specs.Fractions.{fraction}
+use Rattle.suit_answer.specs.Reduced.{fraction}
 use Rattle.suit_solve.proofs.ClassesWithin.{history_writable, move_writable, within_after}
-use Rattle.suit_solve.proofs.LastTableaus.{fraction_small}
+use Rattle.suit_answer.proofs.ReducedFractions.{fraction_small, whole_over}
 use Rattle.suit_solve.proofs.LayoutCounts.{layout_small}
 use Rattle.suit_solve.proofs.Rounds.{AreRead, IsMetAt}
-use Rattle.suit_solve.proofs.ShownAnswers.{defence_over, plan_over, whole_over}
+use Rattle.suit_solve.proofs.ShownAnswers.{defence_over, plan_over}
 use Rattle.suit_solve.proofs.WritableRows.{defence_few, plan_few, plan_row_some, read_row}
 
 -- ---- numbers

@@ -8,7 +8,7 @@ use Rattle.suit_plans.specs.declared.plan.Plan.{Plan}
 use Rattle.suit_plans.specs.declared.defence.Defence.{Defence}
 use Rattle.suit_plans.specs.Properness.{IsProperDefence, IsProperPlan}
 use Rattle.suit_answer.specs.declared.answer.Answer.{Answer}
-use Rattle.suit_solve.specs.Fractions.{fraction}
+use Rattle.suit_answer.specs.Reduced.{fraction}
 
 -- whether what the plan earns at least is what the defence lets declarer earn at most, each over its own denominator;
 -- the total weight is the same for both

@@ -5,7 +5,7 @@ use Rattle.suit_num.specs.declared.fraction.Frac.{Frac}
 use Rattle.suit_tableaus.specs.declared.program.Program.{Program}
 use Rattle.suit_tableaus.specs.declared.ends.Optimum.{Optimum}
 use Rattle.suit_tableaus.specs.Tableaus.{TableauRow, Tableau, bound, entry, scale, value}
-use Rattle.suit_solve.specs.Fractions.{fraction}
+use Rattle.suit_answer.specs.Reduced.{fraction}
 
 -- the value of a column by the row in which it is basic: the row's bound over its entry there, and 0 where there is no
 -- such row

@@ -2,9 +2,7 @@ pub mod Comparing
 pub mod Ends
 pub mod FateLaws
 pub mod Fates
-pub mod Fractions
 pub mod LastTableaus
 pub mod Limits
-pub mod LowestTerms
 pub mod Plays
 pub mod Rounds

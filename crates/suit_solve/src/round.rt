@@ -1,6 +1,5 @@
 //! One round: the game of a support, and what a plan and a defence that are read from it show.
-ghost use Rattle.std.specs.Prelude.{◌≡◌, ◌≤◌, IfErr, IfOk, ◌*ℤ◌, ◌≤ℤ◌, ◌<ℤ◌, ◌^◌, pos};
-ghost use Rattle.suit_game.specs.Layouts.{total};
+ghost use Rattle.std.specs.Prelude.{◌≡◌, ◌≤◌, IfErr, IfOk};
 ghost use Rattle.suit_game.specs.Validity.{IsValid};
 ghost use Rattle.suit_plans.specs.Properness.{IsProperDefence, IsProperPlan};
 ghost use Rattle.suit_program.specs.Marks.{support_seen};
@@ -9,16 +8,14 @@ ghost use Rattle.suit_tableaus.specs.Ends.{Tells};
 ghost use Rattle.suit_tableaus.specs.Optima.{IsDualOptimum, IsPrimalOptimum};
 ghost use Rattle.suit_tableaus.specs.Runs.{run_end};
 ghost use Rattle.suit_tree.specs.Trees.{IsTreeOf};
-ghost use Rattle.suit_solve.specs.Fractions.{fraction};
 ghost use Rattle.suit_solve.specs.Limits.{most_size};
 ghost use Rattle.suit_solve.specs.Plays.{IsRoundEnd, ended_so};
 ghost use Rattle.suit_solve.specs.Rounds.{compared, round_end};
 
 use super::{SolveEnd, most_size};
 use std::alloc::{AllocError, Global};
-use suit_answer::Answer;
-use suit_game::{Question, total};
-use suit_num::Frac;
+use suit_answer::{Answer, value_over};
+use suit_game::Question;
 use suit_plans::{DeclarerMoves, Defence, DefenceMoves, Plan};
 use suit_program::{PlanEnd, Support, plans_of, size, sparse_program};
 use suit_reply::{least, most};
@@ -100,8 +97,8 @@ fn compare(
 {
     let (earned, theirs) = least(alloc, tree, &plan)?;
     let (allowed, own) = most(alloc, tree, &defence)?;
-    let value = value_of(question, earned, plan.den);
-    if value_of(question, allowed, defence.den) == value {
+    let value = value_over(question, earned, plan.den);
+    if value_over(question, allowed, defence.den) == value {
         return Ok(Round::Met(Answer {
             value,
             plan,
@@ -109,14 +106,4 @@ fn compare(
         }));
     }
     Ok(Round::Apart(own, theirs))
-}
-
-/// A number over a denominator and the total weight, in lowest terms.
-fn value_of(question: &Question, number: i128, den: i128) -> Frac
-    requires valid { IsValid question.now }
-    requires number { (pos 0 ≤ℤ number) × (number <ℤ pos (2 ^ 118)) }
-    requires den { (pos 1 ≤ℤ den) × (den ≤ℤ pos (2 ^ 90)) }
-    ensures { result ≡ fraction number (den *ℤ pos (total question.now)) }
-{
-    Frac::reduced(number, den * total(question) as i128)
 }

@@ -18,7 +18,8 @@ use suit_tree::grow;
 /// The tree of the question is grown first. Then there are rounds, from the support of first moves on. In each the
 /// program of the support is solved, and a plan and a defence are read from its optimum. Where what the plan earns at
 /// least is what the defence lets declarer earn at most, that is the value; else the moves of both best replies are
-/// added to the support.
+/// added to the support. This is the double oracle of H. B. McMahan, G. J. Gordon and A. Blum (2003), here over the
+/// sequence form of D. Koller, N. Megiddo and B. von Stengel (1994).
 ///
 /// # Errors
 ///

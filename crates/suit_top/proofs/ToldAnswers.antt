@@ -1,16 +1,16 @@
 -- An answer that is told with Done is certified (`told_reply`): `check` finds it valid, and then it can be told
 -- (`done_proper`, `done_tellable`).
-use Rattle.std.proofs.Common.{◌≡◌, ℕ, zero, suc, ◌+◌, ◌*◌, ◌^◌, ◌<◌, ◌≤◌, Bool, true, false, [], Result, Ok, Err, refl, sym}
+use Rattle.std.proofs.Common.{◌≡◌, ℕ, zero, suc, ◌+◌, ◌*◌, ◌^◌, ◌<◌, ◌≤◌, Bool, true, false, [], Result, Ok, Err, refl}
+use Rattle.std.proofs.Common.{sym}
 use Rattle.std.proofs.Common.{ap, ◌∙◌, subst, arith}
 use Rattle.std.proofs.Math.IntN.{*ℤ_comm}
-use Rattle.std.proofs.Math.Nat.{mul-le-mul_right, pos_of_dvd_of_pos}
+use Rattle.std.proofs.Math.Nat.{mul-le-mul_right}
 use Rattle.std.proofs.lemmas.Bool.{false≢true}
 use Rattle.std.proofs.lemmas.Int.{ints}
 use Rattle.std.proofs.lemmas.Nat.{div-mul-add, le-div}
 use Rattle.std.specs.Prelude.{ℤ, pos, negsuc, ◌*ℤ◌, ◌≤ℤ◌, ◌<ℤ◌, IfOk, nat_lt, unsigned_abs, if◌then◌else◌}
-use Rattle.suit_num.specs.Divisors.{gcd_of}
-use Rattle.suit_num.proofs.DivisorLaws.{IsGcd-gcd_of}
-use Rattle.suit_num.proofs.IntegerLaws.{div-mul, int_le-true}
+use Rattle.suit_num.proofs.IntegerLaws.{int_le-true}
+use Rattle.suit_num.specs.declared.fraction.Frac.{Frac}
 use Rattle.suit_cards.specs.Cards.{Counts, Text}
 use Rattle.suit_game.specs.declared.question.Question.{Question}
 use Rattle.suit_game.specs.Layouts.{total}
@@ -30,12 +30,13 @@ use Rattle.suit_plans.proofs.ProperPlans.{proper_plan}
 use Rattle.suit_answer.specs.declared.answer.Answer.{Answer}
 use Rattle.suit_answer.specs.declared.faults.AnswerFault.{AnswerFault}
 use Rattle.suit_answer.specs.Reading.{answer_read}
+use Rattle.suit_answer.specs.Reduced.{fraction}
+use Rattle.suit_answer.proofs.ReducedFractions.{fraction_small, made_fraction, some_from_one, whole_over}
 use Rattle.suit_lines.specs.Lines.{lines_of}
 use Rattle.suit_lines.specs.Values.{IsTellable}
 use Rattle.suit_check.specs.Verdicts.{Finding, Valid, Plan as PlanFound, Defence, Least, Most, verdict_of}
 use Rattle.suit_check.specs.VerdictLaws.{IsMet}
-use Rattle.suit_check.proofs.LowestTerms.{lowest_is}
-use Rattle.suit_check.proofs.VerdictsMet.{valid_is_met, whole_positive}
+use Rattle.suit_check.proofs.VerdictsMet.{valid_is_met}
 use Rattle.suit_top.specs.declared.reply.Reply.{Reply}
 use Rattle.suit_top.specs.declared.status.Status.{Status}
 use Rattle.suit_top.specs.declared.status.Status.TheVariants.{Done, Nodes, Usage}
@@ -124,24 +125,14 @@ few_value (negsuc a) num den whole low few positive some same = absurd (omega (a
 few_value (pos a) num (negsuc d) whole low few positive some same = absurd (omega (arith, ints, positive))
 few_value (pos a) num (pos d) (negsuc w) low few positive some same = absurd (omega (arith, ints, some))
 
--- a part of a product
-part_below : (d g w : ℕ) → 0 < g → d * g ≡ w → d ≤ w
-part_below d zero w some is = absurd (omega (arith, some))
-part_below d (suc g) w some is = omega (arith, is)
-
--- a denominator that divides a plan's denominator times the total weight is not large
-fine_den : (den part : ℤ) (t g : ℕ) → pos 1 ≤ℤ part → part ≤ℤ MOST_DEN → t ≤ 10400600 → 0 < g → pos 0 <ℤ den
-    → den *ℤ pos g ≡ part *ℤ pos t → den ≤ℤ pos (2 ^ 114)
-fine_den (pos d) (pos p) t g one most few some positive is =
-    let below : d ≤ p * t = part_below d g (p * t) some (ap unsigned_abs is) in
+-- a denominator that is no larger than a plan's times the total weight is not large
+fine_den : (den part : ℤ) (t : ℕ) → pos 1 ≤ℤ part → part ≤ℤ MOST_DEN → t ≤ 10400600 → den ≤ℤ (part *ℤ pos t)
+    → den ≤ℤ pos (2 ^ 114)
+fine_den den (pos p) t one most few within =
+    let below : den ≤ℤ pos (p * t) = within in
     let scaled : p * t ≤ 2 ^ 90 * t = mul-le-mul_right t (omega (arith, ints, most)) in
     omega (arith, ints, below, scaled, few)
-fine_den (pos d) (negsuc p) t g one most few some positive is = absurd (omega (arith, ints, one))
-fine_den (negsuc d) part t g one most few some positive is = absurd (omega (arith, ints, positive))
-
-some_size : (z : ℤ) → pos 0 <ℤ z → 0 < unsigned_abs z
-some_size (pos n) some = omega (arith, ints, some)
-some_size (negsuc n) some = absurd (omega (arith, ints, some))
+fine_den den (negsuc p) t one most few within = absurd (omega (arith, ints, one))
 
 pub done_tellable : (question : Question) (answer : Answer) → IsValid question
     → (due_of_answer question answer).status ≡ Done → IsTellable answer.value
@@ -151,24 +142,19 @@ done_tellable question answer valid is =
     let one : pos 1 ≤ℤ answer.plan.den = int_le-true (pos 1) answer.plan.den bounds.0 in
     let number : ℤ = least question answer.plan in
     let whole : ℤ = answer.plan.den *ℤ pos (total question) in
-    let some : pos 0 <ℤ whole = whole_positive question answer.plan.den valid one in
+    let some : pos 0 <ℤ whole = whole_over question answer.plan.den valid (some_from_one answer.plan.den one) in
     let paid = plan_paid question answer.plan valid met.plan in
     let few : number ≤ℤ (pos 13 *ℤ whole) =
     subst (λ (z : ℤ). number ≤ℤ (pos 13 *ℤ z)) (*ℤ_comm (pos (total question)) answer.plan.den) paid.few in
     let small = few_value number answer.value.num answer.value.den whole paid.some few answer.value.positive some
     met.least in
-    let g : ℕ = gcd_of (unsigned_abs number) (unsigned_abs whole) in
-    let greatest = IsGcd-gcd_of (unsigned_abs number) (unsigned_abs whole) in
-    let lowest = lowest_is number whole some (answer.value.num, answer.value.den) answer.value.positive
-    answer.value.coprime met.least in
-    let den_back : answer.value.den *ℤ pos g ≡ whole =
-    ap (λ (parts : ℤ × ℤ). parts.1 *ℤ pos g) (sym lowest) ∙ div-mul whole (pos g) greatest.1 in
+    let lowest : answer.value ≡ fraction number whole = made_fraction answer.value number whole some met.least in
     record {
       least = small.least;
       most = small.most;
-      fine = fine_den answer.value.den answer.plan.den (total question) g one
+      fine = fine_den answer.value.den answer.plan.den (total question) one
           (int_le-true answer.plan.den MOST_DEN bounds.1) (total_at_most question valid)
-          (pos_of_dvd_of_pos greatest.1 (some_size whole some)) answer.value.positive den_back;
+          (subst (λ (f : Frac). f.den ≤ℤ whole) (sym lowest) (fraction_small number whole some paid.some).2);
     }
 
 -- ---- what is told
@@ -209,6 +195,7 @@ pub told_reply : {E : Type 0} (question : Question) (rest : Text) (answer : Answ
     ≡ (due_telling_of question answer (due_of_answer question answer)).text)
     → IfOk result (λ reply. reply.status ≡ Done → Tells question rest (text_bytes reply.text))
 told_reply question rest answer (Ok reply) valid read status text =
-    λ done. certified_lines (is_done (due_of_answer question answer).status) question rest (text_bytes reply.text) answer
+    λ done. certified_lines (is_done (due_of_answer question answer).status) question rest
+    (text_bytes reply.text) answer
     valid read refl (sym status ∙ done) text
 told_reply question rest answer (Err end) valid read status text = tt

@@ -60,108 +60,111 @@ fn answers(rt: HostRuntime) -> Result<(), Fail> {
     Ok(())
 }
 
+/// Commands, inputs, the status that is due, and the text.
+const CASES: [(&str, &str, u8, &str); 17] = [
+    (
+        "weigh",
+        "north AJT98765432\nsouth -\nstart N\ngoal 11\nend\n",
+        0,
+        "weights 3\nwest 0 : 2496144\nwest 1 : 5408312\nwest 2 : 2496144\ntotal 10400600\nend\n",
+    ),
+    (
+        "weigh",
+        "north AKQJT98765432\nsouth -\nstart N\ngoal 13\nnodes 53\nend\n",
+        0,
+        "weights 1\nwest : 10400600\ntotal 10400600\nend\n",
+    ),
+    (
+        "weigh",
+        "north AQJT987654\nsouth 3\nstart S\nentries 0 0\ngoal 10\nend\n",
+        0,
+        "weights 4\nwest 0 0 : 2496144\nwest 0 1 : 2704156\nwest 1 0 : 2704156\nwest 1 1 : 2496144\n\
+         total 10400600\nend\n",
+    ),
+    ("solve", "", 3, "malformed 1 at line 1\n"),
+    (
+        "weigh",
+        "north A\nsouth A\ngoal 1\nend\n",
+        3,
+        "malformed 6 at line 4\n",
+    ),
+    (
+        "solve",
+        "north A\nsouth 2\nstart W\ngoal 1\nend\n",
+        3,
+        "malformed 2 at line 3\n",
+    ),
+    (
+        "solve",
+        "north A\nnorth A\nsouth 2\ngoal 1\nend\n",
+        3,
+        "malformed 3 at line 2\n",
+    ),
+    (
+        "solve",
+        "north Ax\nsouth 2\ngoal 1\nend\n",
+        3,
+        "malformed 4 at line 1\n",
+    ),
+    (
+        "solve",
+        "north AKA\nsouth 2\ngoal 1\nend\n",
+        3,
+        "malformed 5 at line 1\n",
+    ),
+    (
+        "solve",
+        "north A\nsouth A\ngoal 1\nend\n",
+        3,
+        "malformed 6 at line 4\n",
+    ),
+    (
+        "solve",
+        "north -\nsouth -\ngoal 0\nend\n",
+        3,
+        "malformed 7 at line 4\n",
+    ),
+    (
+        "solve",
+        "north A\nsouth 2\ngoal x\nend\n",
+        3,
+        "malformed 8 at line 3\n",
+    ),
+    (
+        "solve",
+        "north A\nsouth 2\ngoal 14\nend\n",
+        3,
+        "malformed 9 at line 3\n",
+    ),
+    (
+        "solve",
+        "north A\nsouth 2\ngoal 1\nnodes 4000001\nend\n",
+        3,
+        "malformed 9 at line 4\n",
+    ),
+    (
+        "solve",
+        "north A\nsouth 2\nvacant 5 5\ngoal 1\nend\n",
+        3,
+        "malformed 10 at line 5\n",
+    ),
+    (
+        "solve",
+        "north AJT98765432\nsouth -\nstart N\ngoal 11\nwest 3 13\nend\n",
+        3,
+        "malformed 11 at line 6\n",
+    ),
+    (
+        "solve",
+        "north A\nsouth 2\ngoal 1\nend\nx\n",
+        3,
+        "malformed 12 at line 5\n",
+    ),
+];
+
 #[test]
 fn weights_and_refusals(rt: HostRuntime) -> Result<(), Fail> {
-    let cases = [
-        (
-            "weigh",
-            "north AJT98765432\nsouth -\nstart N\ngoal 11\nend\n",
-            0,
-            "weights 3\nwest 0 : 2496144\nwest 1 : 5408312\nwest 2 : 2496144\ntotal 10400600\nend\n",
-        ),
-        (
-            "weigh",
-            "north AKQJT98765432\nsouth -\nstart N\ngoal 13\nnodes 53\nend\n",
-            0,
-            "weights 1\nwest : 10400600\ntotal 10400600\nend\n",
-        ),
-        (
-            "weigh",
-            "north AQJT987654\nsouth 3\nstart S\nentries 0 0\ngoal 10\nend\n",
-            0,
-            "weights 4\nwest 0 0 : 2496144\nwest 0 1 : 2704156\nwest 1 0 : 2704156\nwest 1 1 : 2496144\ntotal 10400600\nend\n",
-        ),
-        ("solve", "", 3, "malformed 1 at line 1\n"),
-        (
-            "weigh",
-            "north A\nsouth A\ngoal 1\nend\n",
-            3,
-            "malformed 6 at line 4\n",
-        ),
-        (
-            "solve",
-            "north A\nsouth 2\nstart W\ngoal 1\nend\n",
-            3,
-            "malformed 2 at line 3\n",
-        ),
-        (
-            "solve",
-            "north A\nnorth A\nsouth 2\ngoal 1\nend\n",
-            3,
-            "malformed 3 at line 2\n",
-        ),
-        (
-            "solve",
-            "north Ax\nsouth 2\ngoal 1\nend\n",
-            3,
-            "malformed 4 at line 1\n",
-        ),
-        (
-            "solve",
-            "north AKA\nsouth 2\ngoal 1\nend\n",
-            3,
-            "malformed 5 at line 1\n",
-        ),
-        (
-            "solve",
-            "north A\nsouth A\ngoal 1\nend\n",
-            3,
-            "malformed 6 at line 4\n",
-        ),
-        (
-            "solve",
-            "north -\nsouth -\ngoal 0\nend\n",
-            3,
-            "malformed 7 at line 4\n",
-        ),
-        (
-            "solve",
-            "north A\nsouth 2\ngoal x\nend\n",
-            3,
-            "malformed 8 at line 3\n",
-        ),
-        (
-            "solve",
-            "north A\nsouth 2\ngoal 14\nend\n",
-            3,
-            "malformed 9 at line 3\n",
-        ),
-        (
-            "solve",
-            "north A\nsouth 2\ngoal 1\nnodes 4000001\nend\n",
-            3,
-            "malformed 9 at line 4\n",
-        ),
-        (
-            "solve",
-            "north A\nsouth 2\nvacant 5 5\ngoal 1\nend\n",
-            3,
-            "malformed 10 at line 5\n",
-        ),
-        (
-            "solve",
-            "north AJT98765432\nsouth -\nstart N\ngoal 11\nwest 3 13\nend\n",
-            3,
-            "malformed 11 at line 6\n",
-        ),
-        (
-            "solve",
-            "north A\nsouth 2\ngoal 1\nend\nx\n",
-            3,
-            "malformed 12 at line 5\n",
-        ),
-    ];
-    for (word, input, code, text) in cases {
+    for (word, input, code, text) in CASES {
         let (status, written) = ran(&rt, rt.alloc(), &[word], input.as_bytes())?;
         assert_eq!(rt; status, code, "at {input:?}");
         assert_eq!(rt; written.as_slice(), text.as_bytes(), "at {input:?}");

@@ -23,8 +23,8 @@ returns-in-Err-proper_defence-clause-verdict g c =
     sym (told_defence question answer c.in-Err-proper_defence.fault proper
     (sym c.proper_defence.ensures ∙ c.in-Err-proper_defence.is))
 
-pub value_of-found-requires-clause-number : goal.value_of-found-requires-clause-number
-value_of-found-requires-clause-number g c =
+pub value_over-found-requires-clause-number : goal.value_over-found-requires-clause-number
+value_over-found-requires-clause-number g c =
     let question = c.args.question.now in
     let answer = c.args.answer.now in
     let proper : IsProperPlan question answer.plan = sym c.proper_plan.ensures ∙ c.in_default.is in
@@ -36,8 +36,8 @@ value_of-found-requires-clause-number g c =
     subst (λ (z : ℤ). (pos 0 ≤ℤ z) × (z <ℤ pos (2 ^ 118))) (sym earns)
     (leasts_bounded question answer.plan c.requires proper)
 
-pub value_of-found-requires-clause-den : goal.value_of-found-requires-clause-den
-value_of-found-requires-clause-den g c =
+pub value_over-found-requires-clause-den : goal.value_over-found-requires-clause-den
+value_over-found-requires-clause-den g c =
     let question = c.args.question.now in
     let answer = c.args.answer.now in
     let proper : IsProperPlan question answer.plan = sym c.proper_plan.ensures ∙ c.in_default.is in
@@ -61,18 +61,18 @@ returns-then-ne-clause-verdict g c =
     let plan_den_fits : FitsSigned w128 answer.plan.den = search rules in
     let plan_den : to_z w128 (of_z w128 answer.plan.den) ≡ answer.plan.den =
     to_z-of_z w128 answer.plan.den plan_den_fits in
-    let found : parts_of c.value_of-found.result ≡ earned question answer =
-    c.value_of-found.ensures
+    let found : parts_of c.value_over-found.result ≡ earned question answer =
+    ap parts_of c.value_over-found.ensures
     ∙ ap (λ (z : ℤ). value_of question z (to_z w128 (of_z w128 answer.plan.den))) earns
     ∙ ap (λ (z : ℤ). value_of question (least question answer.plan) z) plan_den in
     let other : same_parts (earned question answer) (parts_of answer.value) ≡ false =
     ap (λ parts. same_parts parts (parts_of answer.value)) (sym found)
-    ∙ denied (same_parts (parts_of c.value_of-found.result) (parts_of answer.value)) (sym c.ne.ensures
+    ∙ denied (same_parts (parts_of c.value_over-found.result) (parts_of answer.value)) (sym c.ne.ensures
     ∙ c.if-ne.true) in
     ap Least found ∙ sym (told_least question answer proper held other)
 
-pub value_of-found-requires-2-clause-number : goal.value_of-found-requires-2-clause-number
-value_of-found-requires-2-clause-number g c =
+pub value_over-found-requires-2-clause-number : goal.value_over-found-requires-2-clause-number
+value_over-found-requires-2-clause-number g c =
     let question = c.args.question.now in
     let answer = c.args.answer.now in
     let held : IsProperDefence question answer.defence =
@@ -85,8 +85,8 @@ value_of-found-requires-2-clause-number g c =
     subst (λ (z : ℤ). (pos 0 ≤ℤ z) × (z <ℤ pos (2 ^ 118))) (sym gives)
     (mosts_bounded question answer.defence c.requires held)
 
-pub value_of-found-requires-2-clause-den : goal.value_of-found-requires-2-clause-den
-value_of-found-requires-2-clause-den g c =
+pub value_over-found-requires-2-clause-den : goal.value_over-found-requires-2-clause-den
+value_over-found-requires-2-clause-den g c =
     let question = c.args.question.now in
     let answer = c.args.answer.now in
     let held : IsProperDefence question answer.defence =
@@ -111,8 +111,8 @@ returns-then-ne-2-clause-verdict g c =
     let plan_den_fits : FitsSigned w128 answer.plan.den = search rules in
     let plan_den : to_z w128 (of_z w128 answer.plan.den) ≡ answer.plan.den =
     to_z-of_z w128 answer.plan.den plan_den_fits in
-    let found : parts_of c.value_of-found.result ≡ earned question answer =
-    c.value_of-found.ensures
+    let found : parts_of c.value_over-found.result ≡ earned question answer =
+    ap parts_of c.value_over-found.ensures
     ∙ ap (λ (z : ℤ). value_of question z (to_z w128 (of_z w128 answer.plan.den))) earns
     ∙ ap (λ (z : ℤ). value_of question (least question answer.plan) z) plan_den in
     let given_fits : FitsSigned w128 c.in_ok-given_up.given_up = search rules in
@@ -123,17 +123,17 @@ returns-then-ne-2-clause-verdict g c =
     let defence_den_fits : FitsSigned w128 answer.defence.den = search rules in
     let defence_den : to_z w128 (of_z w128 answer.defence.den) ≡ answer.defence.den =
     to_z-of_z w128 answer.defence.den defence_den_fits in
-    let also : parts_of c.value_of-found-2.result ≡ given_up question answer =
-    c.value_of-found-2.ensures
+    let also : parts_of c.value_over-found-2.result ≡ given_up question answer =
+    ap parts_of c.value_over-found-2.ensures
     ∙ ap (λ (z : ℤ). value_of question z (to_z w128 (of_z w128 answer.defence.den))) gives
     ∙ ap (λ (z : ℤ). value_of question (most question answer.defence) z) defence_den in
     let same : same_parts (earned question answer) (parts_of answer.value) ≡ true =
     ap (λ parts. same_parts parts (parts_of answer.value)) (sym found)
-    ∙ granted (same_parts (parts_of c.value_of-found.result) (parts_of answer.value)) (sym c.ne.ensures
+    ∙ granted (same_parts (parts_of c.value_over-found.result) (parts_of answer.value)) (sym c.ne.ensures
     ∙ c.if-ne.false) in
     let other : same_parts (given_up question answer) (parts_of answer.value) ≡ false =
     ap (λ parts. same_parts parts (parts_of answer.value)) (sym also)
-    ∙ denied (same_parts (parts_of c.value_of-found-2.result) (parts_of answer.value)) (sym c.ne-2.ensures
+    ∙ denied (same_parts (parts_of c.value_over-found-2.result) (parts_of answer.value)) (sym c.ne-2.ensures
     ∙ c.if-ne-2.true) in
     ap Most also ∙ sym (told_most question answer proper held same other)
 
@@ -152,8 +152,8 @@ returns-clause-verdict g c =
     let plan_den_fits : FitsSigned w128 answer.plan.den = search rules in
     let plan_den : to_z w128 (of_z w128 answer.plan.den) ≡ answer.plan.den =
     to_z-of_z w128 answer.plan.den plan_den_fits in
-    let found : parts_of c.value_of-found.result ≡ earned question answer =
-    c.value_of-found.ensures
+    let found : parts_of c.value_over-found.result ≡ earned question answer =
+    ap parts_of c.value_over-found.ensures
     ∙ ap (λ (z : ℤ). value_of question z (to_z w128 (of_z w128 answer.plan.den))) earns
     ∙ ap (λ (z : ℤ). value_of question (least question answer.plan) z) plan_den in
     let given_fits : FitsSigned w128 c.in_ok-given_up.given_up = search rules in
@@ -164,16 +164,16 @@ returns-clause-verdict g c =
     let defence_den_fits : FitsSigned w128 answer.defence.den = search rules in
     let defence_den : to_z w128 (of_z w128 answer.defence.den) ≡ answer.defence.den =
     to_z-of_z w128 answer.defence.den defence_den_fits in
-    let also : parts_of c.value_of-found-2.result ≡ given_up question answer =
-    c.value_of-found-2.ensures
+    let also : parts_of c.value_over-found-2.result ≡ given_up question answer =
+    ap parts_of c.value_over-found-2.ensures
     ∙ ap (λ (z : ℤ). value_of question z (to_z w128 (of_z w128 answer.defence.den))) gives
     ∙ ap (λ (z : ℤ). value_of question (most question answer.defence) z) defence_den in
     let same : same_parts (earned question answer) (parts_of answer.value) ≡ true =
     ap (λ parts. same_parts parts (parts_of answer.value)) (sym found)
-    ∙ granted (same_parts (parts_of c.value_of-found.result) (parts_of answer.value)) (sym c.ne.ensures
+    ∙ granted (same_parts (parts_of c.value_over-found.result) (parts_of answer.value)) (sym c.ne.ensures
     ∙ c.if-ne.false) in
     let last : same_parts (given_up question answer) (parts_of answer.value) ≡ true =
     ap (λ parts. same_parts parts (parts_of answer.value)) (sym also)
-    ∙ granted (same_parts (parts_of c.value_of-found-2.result) (parts_of answer.value)) (sym c.ne-2.ensures
+    ∙ granted (same_parts (parts_of c.value_over-found-2.result) (parts_of answer.value)) (sym c.ne-2.ensures
     ∙ c.if-ne-2.false) in
     sym (told_valid question answer proper held same last)

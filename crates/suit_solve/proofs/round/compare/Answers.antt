@@ -12,13 +12,13 @@ use Rattle.suit_plans.specs.declared.moves.DeclarerMove.{DeclarerMove}
 use Rattle.suit_plans.specs.declared.moves.DefenceMove.{DefenceMove}
 use Rattle.suit_reply.specs.AgainstDefence.{IsDefenceFor}
 use Rattle.suit_reply.specs.AgainstPlan.{IsPlanFor}
-use Rattle.suit_solve.specs.Fractions.{fraction}
+use Rattle.suit_answer.specs.Reduced.{fraction}
 use Rattle.suit_solve.specs.Rounds.{Apart}
 use Rattle.suit_solve.proofs.PlayedRounds.{compared_apart, compared_met}
 use Rattle.suit_solve.proofs.round.compare.Goals as goal
 
-pub value_of-value-requires-clause-number : goal.value_of-value-requires-clause-number
-value_of-value-requires-clause-number c =
+pub value_over-value-requires-clause-number : goal.value_over-value-requires-clause-number
+value_over-value-requires-clause-number c =
     let question = c.args.question.now in
     let fits : FitsSigned w128 c.in_ok-earned.earned = search rules in
     let earns : to_z w128 (of_z w128 c.in_ok-earned.earned) ≡ least question c.args.plan =
@@ -28,15 +28,15 @@ value_of-value-requires-clause-number c =
     subst (λ (z : ℤ). (pos 0 ≤ℤ z) × (z <ℤ pos (2 ^ 118))) (sym earns)
     (leasts_bounded question c.args.plan c.requires.valid c.requires.plan)
 
-pub value_of-value-requires-clause-den : goal.value_of-value-requires-clause-den
-value_of-value-requires-clause-den c =
+pub value_over-value-requires-clause-den : goal.value_over-value-requires-clause-den
+value_over-value-requires-clause-den c =
     let fits : FitsSigned w128 c.args.plan.den = search rules in
     let parts = proper_plan c.args.question.now c.args.plan c.requires.plan in
     subst (λ (z : ℤ). (pos 1 ≤ℤ z) × (z ≤ℤ pos (2 ^ 90))) (sym (to_z-of_z w128 c.args.plan.den fits))
     (int_le-true (pos 1) c.args.plan.den parts.0, int_le-true c.args.plan.den (pos (2 ^ 90)) parts.1)
 
-pub value_of-requires-clause-number : goal.value_of-requires-clause-number
-value_of-requires-clause-number c =
+pub value_over-requires-clause-number : goal.value_over-requires-clause-number
+value_over-requires-clause-number c =
     let question = c.args.question.now in
     let fits : FitsSigned w128 c.in_ok-allowed.allowed = search rules in
     let allows : to_z w128 (of_z w128 c.in_ok-allowed.allowed) ≡ most question c.args.defence =
@@ -46,8 +46,8 @@ value_of-requires-clause-number c =
     subst (λ (z : ℤ). (pos 0 ≤ℤ z) × (z <ℤ pos (2 ^ 118))) (sym allows)
     (mosts_bounded question c.args.defence c.requires.valid c.requires.defence)
 
-pub value_of-requires-clause-den : goal.value_of-requires-clause-den
-value_of-requires-clause-den c =
+pub value_over-requires-clause-den : goal.value_over-requires-clause-den
+value_over-requires-clause-den c =
     let fits : FitsSigned w128 c.args.defence.den = search rules in
     let parts = proper_defence c.args.question.now c.args.defence c.requires.defence in
     subst (λ (z : ℤ). (pos 1 ≤ℤ z) × (z ≤ℤ pos (2 ^ 90))) (sym (to_z-of_z w128 c.args.defence.den fits))
@@ -73,19 +73,19 @@ returns-then-eq c =
       grown = c.requires.grown;
       proper = c.requires.defence;
     } in
-    let value_is : c.value_of-value.result ≡ fraction c.in_ok-earned.earned (c.args.plan.den *ℤ weight) =
-    c.value_of-value.ensures
+    let value_is : c.value_over-value.result ≡ fraction c.in_ok-earned.earned (c.args.plan.den *ℤ weight) =
+    c.value_over-value.ensures
     ∙ ap (λ (z : ℤ). fraction z (to_z w128 (of_z w128 c.args.plan.den) *ℤ weight))
     (to_z-of_z w128 c.in_ok-earned.earned earned_fits)
     ∙ ap (λ (z : ℤ). fraction c.in_ok-earned.earned (z *ℤ weight)) (to_z-of_z w128 c.args.plan.den plan_fits) in
-    let other_is : c.value_of.result ≡ fraction c.in_ok-allowed.allowed (c.args.defence.den *ℤ weight) =
-    c.value_of.ensures
+    let other_is : c.value_over.result ≡ fraction c.in_ok-allowed.allowed (c.args.defence.den *ℤ weight) =
+    c.value_over.ensures
     ∙ ap (λ (z : ℤ). fraction z (to_z w128 (of_z w128 c.args.defence.den) *ℤ weight))
     (to_z-of_z w128 c.in_ok-allowed.allowed allowed_fits)
     ∙ ap (λ (z : ℤ). fraction c.in_ok-allowed.allowed (z *ℤ weight))
     (to_z-of_z w128 c.args.defence.den defence_fits) in
     compared_met question c.args.plan c.args.defence c.requires.valid c.requires.plan c.requires.defence
-    c.value_of-value.result c.value_of.result c.in_ok-earned.earned c.in_ok-allowed.allowed
+    c.value_over-value.result c.value_over.result c.in_ok-earned.earned c.in_ok-allowed.allowed
     (c.in_ok-earned.ensures.number plan_for) (c.in_ok-allowed.ensures.number defence_for) value_is other_is
     (sym c.eq.ensures ∙ c.if-eq.true)
 
@@ -109,19 +109,19 @@ returns c =
       grown = c.requires.grown;
       proper = c.requires.defence;
     } in
-    let value_is : c.value_of-value.result ≡ fraction c.in_ok-earned.earned (c.args.plan.den *ℤ weight) =
-    c.value_of-value.ensures
+    let value_is : c.value_over-value.result ≡ fraction c.in_ok-earned.earned (c.args.plan.den *ℤ weight) =
+    c.value_over-value.ensures
     ∙ ap (λ (z : ℤ). fraction z (to_z w128 (of_z w128 c.args.plan.den) *ℤ weight))
     (to_z-of_z w128 c.in_ok-earned.earned earned_fits)
     ∙ ap (λ (z : ℤ). fraction c.in_ok-earned.earned (z *ℤ weight)) (to_z-of_z w128 c.args.plan.den plan_fits) in
-    let other_is : c.value_of.result ≡ fraction c.in_ok-allowed.allowed (c.args.defence.den *ℤ weight) =
-    c.value_of.ensures
+    let other_is : c.value_over.result ≡ fraction c.in_ok-allowed.allowed (c.args.defence.den *ℤ weight) =
+    c.value_over.ensures
     ∙ ap (λ (z : ℤ). fraction z (to_z w128 (of_z w128 c.args.defence.den) *ℤ weight))
     (to_z-of_z w128 c.in_ok-allowed.allowed allowed_fits)
     ∙ ap (λ (z : ℤ). fraction c.in_ok-allowed.allowed (z *ℤ weight))
     (to_z-of_z w128 c.args.defence.den defence_fits) in
     compared_apart question c.args.plan c.args.defence c.requires.valid c.requires.plan c.requires.defence
-    c.value_of-value.result c.value_of.result c.in_ok-earned.earned c.in_ok-allowed.allowed
+    c.value_over-value.result c.value_over.result c.in_ok-earned.earned c.in_ok-allowed.allowed
     (c.in_ok-earned.ensures.number plan_for) (c.in_ok-allowed.ensures.number defence_for) value_is other_is
     (sym c.eq.ensures ∙ c.if-eq.false)
     ∙ ap (λ (own : List DeclarerMove). Apart own (least_reply question c.args.plan))

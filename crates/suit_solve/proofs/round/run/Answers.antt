@@ -14,29 +14,34 @@ use Rattle.suit_solve.proofs.round.run.Goals as goal
 
 pub sparse_optimum-requires-clause-formed : goal.sparse_optimum-requires-clause-formed
 sparse_optimum-requires-clause-formed c =
-    let is : dense c.in_ok-program.program ≡ program_of c.args.question.now (support_seen c.args.question.now c.args.support.now) =
+    let is : dense c.in_ok-program.program ≡ program_of c.args.question.now
+    (support_seen c.args.question.now c.args.support.now) =
     c.in_ok-program.ensures (record {
       question = c.args.question.now;
       valid = c.requires.valid;
       grown = c.requires.grown;
       few = c.requires.few;
     }) in
-    subst IsWellFormed (sym is) (programs_are_well_formed c.args.question.now (support_seen c.args.question.now c.args.support.now) c.requires.valid)
+    subst IsWellFormed (sym is) (programs_are_well_formed c.args.question.now
+    (support_seen c.args.question.now c.args.support.now) c.requires.valid)
 
 pub sparse_optimum-requires-clause-bounded : goal.sparse_optimum-requires-clause-bounded
 sparse_optimum-requires-clause-bounded c =
-    let is : dense c.in_ok-program.program ≡ program_of c.args.question.now (support_seen c.args.question.now c.args.support.now) =
+    let is : dense c.in_ok-program.program ≡ program_of c.args.question.now
+    (support_seen c.args.question.now c.args.support.now) =
     c.in_ok-program.ensures (record {
       question = c.args.question.now;
       valid = c.requires.valid;
       grown = c.requires.grown;
       few = c.requires.few;
     }) in
-    subst IsBounded (sym is) (programs_are_bounded c.args.question.now (support_seen c.args.question.now c.args.support.now) c.requires.valid)
+    subst IsBounded (sym is) (programs_are_bounded c.args.question.now
+    (support_seen c.args.question.now c.args.support.now) c.requires.valid)
 
 pub returns-clause-run : goal.returns-clause-run
 returns-clause-run c =
-    let is : dense c.in_ok-program.program ≡ program_of c.args.question.now (support_seen c.args.question.now c.args.support.now) =
+    let is : dense c.in_ok-program.program ≡ program_of c.args.question.now
+    (support_seen c.args.question.now c.args.support.now) =
     c.in_ok-program.ensures (record {
       question = c.args.question.now;
       valid = c.requires.valid;
@@ -48,7 +53,8 @@ returns-clause-run c =
 
 pub returns-clause-primal : goal.returns-clause-primal
 returns-clause-primal c =
-    let is : dense c.in_ok-program.program ≡ program_of c.args.question.now (support_seen c.args.question.now c.args.support.now) =
+    let is : dense c.in_ok-program.program ≡ program_of c.args.question.now
+    (support_seen c.args.question.now c.args.support.now) =
     c.in_ok-program.ensures (record {
       question = c.args.question.now;
       valid = c.requires.valid;
@@ -60,7 +66,8 @@ returns-clause-primal c =
 
 pub returns-clause-dual : goal.returns-clause-dual
 returns-clause-dual c =
-    let is : dense c.in_ok-program.program ≡ program_of c.args.question.now (support_seen c.args.question.now c.args.support.now) =
+    let is : dense c.in_ok-program.program ≡ program_of c.args.question.now
+    (support_seen c.args.question.now c.args.support.now) =
     c.in_ok-program.ensures (record {
       question = c.args.question.now;
       valid = c.requires.valid;

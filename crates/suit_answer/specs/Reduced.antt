@@ -1,8 +1,10 @@
--- Fractions in lowest terms.
-use Rattle.std.specs.Prelude.{◌≡◌, Bool, true, false, ℤ, pos, int_div, int_lt, unsigned_abs}
+-- A number over another, in lowest terms.
+use Rattle.std.specs.Prelude.{◌≡◌, Bool, true, false, ℤ, pos, ◌*ℤ◌, int_div, int_lt, unsigned_abs}
 use Rattle.suit_num.specs.Divisors.{gcd_of}
 use Rattle.suit_num.specs.declared.fraction.Frac.{Frac}
-use Rattle.suit_solve.specs.LowestTerms.{lowest_coprime, lowest_positive, one_positive, one_coprime}
+use Rattle.suit_game.specs.declared.question.Question.{Question}
+use Rattle.suit_game.specs.Layouts.{total}
+use Rattle.suit_answer.specs.ReducedTerms.{lowest_coprime, lowest_positive, one_positive, one_coprime}
 
 -- the greatest common divisor of two whole numbers
 abbrev pub divisor_of : ℤ → ℤ → ℤ
@@ -21,3 +23,7 @@ fraction_by num den false told = record { num = pos 0; den = pos 1; positive = o
 -- a number over a positive number, in lowest terms
 unfoldable pub fraction : ℤ → ℤ → Frac
 fraction num den = fraction_by num den (int_lt (pos 0) den) (λ i. int_lt (pos 0) den)
+
+-- a number over a denominator and the total weight
+abbrev pub value_over : Question → ℤ → ℤ → Frac
+value_over question number den = fraction number (den *ℤ pos (total question))

@@ -4,9 +4,8 @@ use Rattle.std.specs.Int.{w128}
 use Rattle.std.proofs.lemmas.Int.{to_z-of_z, to_z_pos}
 use Rattle.suit_game.specs.Layouts.{total}
 use Rattle.suit_game.proofs.FilledPlaces.{total_at_most}
-use Rattle.suit_solve.proofs.ShownAnswers.{some_from_one, whole_over}
-use Rattle.suit_solve.proofs.WholeNumbers.{made_fraction, whole_fits}
-use Rattle.suit_solve.proofs.round.value_of.Goals as goal
+use Rattle.suit_answer.proofs.ReducedFractions.{made_fraction, some_from_one, whole_fits, whole_over}
+use Rattle.suit_answer.proofs.worth.value_over.Goals as goal
 
 pub overflow_mul-den : goal.overflow_mul-den
 overflow_mul-den c =
