@@ -136,7 +136,8 @@ module _ (question : Question) (valid : IsValid question) where
         (subst (Contains (piece move)) same
         (all_listed more (start ++ move ∷ []) rest (omega (arith, short))
         (subst (Allows question layout.0) (sym same) allows)
-        (subst (λ (v : ClassView). goes_undecided v rest ≡ true) (sym (class_after_move question start move)) parts.1))))
+        (subst (λ (v : ClassView). goes_undecided v rest ≡ true)
+        (sym (class_after_move question start move)) parts.1))))
 
   -- ---- those of which a plan is told
 

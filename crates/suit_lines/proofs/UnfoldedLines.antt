@@ -50,7 +50,8 @@ flat_map_same : {X Y : Type 0} (f g : X → List Y) (xs : List X) → ((x : X) �
 flat_map_same f g [] same = refl
 flat_map_same f g (x ∷ xs) same =
     let first : f x ≡ g x = same x (Contains-first x xs) in
-    let others : flat_map f xs ≡ flat_map g xs = flat_map_same f g xs (λ y found. same y (Contains-later x xs y found)) in
+    let others : flat_map f xs ≡ flat_map g xs = flat_map_same f g xs
+    (λ y found. same y (Contains-later x xs y found)) in
     cc
 
 flat_map_none : {X Y : Type 0} (f : X → List Y) (xs : List X) → ((x : X) → Contains xs x → f x ≡ [])
@@ -192,7 +193,8 @@ module _ (question : Question) (plan : Plan) (valid : IsValid question) (proper 
 
   pub lines_unfold : (history : ClassHistory) → length history ≤ 52
       → lines_from question plan history
-      ≡ own_line question plan history ++ flat_map (next_lines question plan history) (live_shares question plan history)
+      ≡ own_line question plan history ++ flat_map (next_lines question plan history)
+      (live_shares question plan history)
   unfolding lines_from
   lines_unfold history short =
       unfold_at (52 - length history) history (omega arith)

@@ -1,8 +1,10 @@
 -- A walk through the class histories that some mass comes to: where it starts (`stands_first`), how it goes on
 -- (`stands_next`), and which moves it finds (`moves_found`).
-use Rattle.std.proofs.Common.{◌≡◌, ℕ, ◌+◌, ◌-◌, ◌<◌, ◌≤◌, Bool, true, false, cond, List, [], ◌∷◌, ◌++◌, length, get_or, take, map, refl, sym, ap}
+use Rattle.std.proofs.Common.{◌≡◌, ℕ, ◌+◌, ◌-◌, ◌<◌, ◌≤◌, Bool, true, false, cond, List, [], ◌∷◌, ◌++◌, length, get_or}
+use Rattle.std.proofs.Common.{take, map, refl, sym, ap}
 use Rattle.std.proofs.Common.{◌∙◌, subst, arith}
-use Rattle.std.specs.Prelude.{codes, Contains, filter, ◌&&◌, ◌||◌, not, nat_lt, All, if◌then◌else◌, ℤ, pos, ◌≤ℤ◌, ◌<ℤ◌, int_lt, FitsSigned}
+use Rattle.std.specs.Prelude.{codes, Contains, filter, ◌&&◌, ◌||◌, not, nat_lt, All, if◌then◌else◌, ℤ, pos, ◌≤ℤ◌, ◌<ℤ◌}
+use Rattle.std.specs.Prelude.{int_lt, FitsSigned}
 use Rattle.std.specs.List.{flat_map, list_any}
 use Rattle.std.specs.Int.{w128}
 use Rattle.std.proofs.lemmas.Bool.{false≢true}
@@ -42,7 +44,8 @@ use Rattle.suit_lines.specs.Lines.{history_line, lines_of}
 use Rattle.suit_lines.specs.Sentences.{choice_words, opening}
 use Rattle.suit_lines.specs.Told.{is_live, is_told, live_shares, share_of}
 use Rattle.suit_lines.specs.Values.{value_line}
-use Rattle.suit_lines.specs.Walks.{StandsAt, allowing_counts, having, lines_from, moves_for, next_lines, own_line, some_have}
+use Rattle.suit_lines.specs.Walks.{StandsAt, allowing_counts, having, lines_from, moves_for, next_lines, own_line}
+use Rattle.suit_lines.specs.Walks.{some_have}
 use Rattle.suit_lines.proofs.UnfoldedLines.{lines_first, lines_unfold, mass_less}
 use Rattle.suit_lines.proofs.WrittenMoves.{public_writable}
 
@@ -247,7 +250,8 @@ choice_told question plan history view mass all moves stands goes =
     let here : ClassView = class_after question history in
     ap (λ (v : ClassView). is_declarers (class_turn v) && nat_lt 1 (length moves)) stands.place
     ∙ ap (λ (l : List ClassMove). is_declarers (class_turn here) && nat_lt 1 (length l)) goes
-    ∙ told_case (class_decided here) (is_declarers (class_turn here)) (nat_lt 1 (length (public_moves question history)))
+    ∙ told_case (class_decided here) (is_declarers (class_turn here))
+    (nat_lt 1 (length (public_moves question history)))
     (int_lt (pos 0) (plan_mass question plan history))
     (live_is (plan_mass question plan history) (subst (λ (z : ℤ). pos 0 <ℤ z) stands.mass_is stands.live))
     (λ on. undecided_turn is_declarers (class_decided here) (turn_of here.trick) refl on)

@@ -32,4 +32,5 @@ share_of question plan history move = (move, plan_mass question plan (history ++
 
 -- the moves by which some mass is let through from a class history, in their order, each with how much
 unfoldable pub live_shares : Question → Plan → ClassHistory → Shares
-live_shares question plan history = filter is_live (map (share_of question plan history) (public_moves question history))
+live_shares question plan history = filter is_live
+    (map (share_of question plan history) (public_moves question history))

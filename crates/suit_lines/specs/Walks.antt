@@ -1,5 +1,6 @@
 -- What is written from a class history on, and what a walk knows there, for the contracts of private functions.
-use Rattle.std.specs.Prelude.{◌≡◌, ℕ, ◌-◌, ◌<◌, Bool, List, [], ◌∷◌, ◌++◌, length, filter, map, All, ℤ, pos, ◌<ℤ◌, if◌then◌else◌}
+use Rattle.std.specs.Prelude.{◌≡◌, ℕ, ◌-◌, ◌<◌, Bool, List, [], ◌∷◌, ◌++◌, length, filter, map, All, ℤ, pos, ◌<ℤ◌}
+use Rattle.std.specs.Prelude.{if◌then◌else◌}
 use Rattle.std.specs.List.{flat_map, list_any}
 use Rattle.suit_cards.specs.Cards.{Counts, Text}
 use Rattle.suit_game.specs.declared.question.Question.{Question}

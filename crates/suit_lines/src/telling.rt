@@ -1,5 +1,6 @@
 //! The walk through the choices that a plan comes to, and the text that is written on it.
-ghost use Rattle.std.specs.Prelude.{◌≡◌, ◌&&◌, nat_lt, ◌-◌, ◌++◌, ◌∷◌, [], ◌≤◌, ℤ, length, filter, map, All, IfOk, OnOk};
+ghost use Rattle.std.specs.Prelude.{◌≡◌, ◌&&◌, nat_lt, ◌-◌, ◌++◌, ◌∷◌, [], ◌≤◌, ℤ, length, filter, map, All, IfOk};
+ghost use Rattle.std.specs.Prelude.{OnOk};
 ghost use Rattle.suit_game.specs.declared.question.Question.{Question};
 ghost use Rattle.suit_game.specs.Validity.{IsValid};
 ghost use Rattle.suit_classes.specs.Classes.{hands_of};
@@ -7,7 +8,7 @@ ghost use Rattle.suit_classes.specs.ClassPlaces.{class_after, class_turn};
 ghost use Rattle.suit_answer.specs.Letters.{class_letters};
 ghost use Rattle.suit_answer.specs.Writable.{IsWritableMove};
 ghost use Rattle.suit_plans.specs.BestReplies.{public_moves};
-ghost use Rattle.suit_plans.specs.Masses.{declarer, is_declarers, is_first, let_through, plan_mass};
+ghost use Rattle.suit_plans.specs.Masses.{declarer, is_declarers, let_through, plan_mass};
 ghost use Rattle.suit_plans.specs.Orders.{InOrder, plan_row_before};
 ghost use Rattle.suit_plans.specs.Properness.{IsProperPlan};
 ghost use Rattle.suit_lines.specs.Lines.{lines_of};
@@ -24,7 +25,7 @@ use suit_answer::{Answer, ClassLetters};
 use suit_classes::{ClassMove, ClassPlace, ClassTurn, Classes};
 use suit_game::Question;
 use suit_layouts::{ClassLayout, class_layouts};
-use suit_plans::{Plan, Row, plan_shares_at, share};
+use suit_plans::{Plan, Row, is_declarers, is_first, plan_shares_at, share};
 
 /// An answer told in sentences: a line with the value, and then one for each class history that some mass of the plan
 /// comes to and where declarer, who is on turn, has two moves or more. It says what was played, and what the plan does:
@@ -174,26 +175,6 @@ fn is_choice(turn: ClassTurn, moves: usize) -> bool
     ensures { result ≡ (is_declarers turn && nat_lt 1 moves) }
 {
     is_declarers(turn) && moves > 1
-}
-
-// Whether declarer is on turn.
-fn is_declarers(turn: ClassTurn) -> bool
-    ensures { result ≡ is_declarers turn }
-{
-    match turn {
-        ClassTurn::Lead | ClassTurn::Declarer(_) => true,
-        ClassTurn::Defence(_) | ClassTurn::Decided => false,
-    }
-}
-
-// Whether a move is the first of some.
-fn is_first(moves: &[ClassMove], mv: ClassMove) -> bool
-    ensures { result ≡ is_first moves.now mv }
-{
-    match moves {
-        [first, ..] => *first == mv,
-        [] => false,
-    }
 }
 
 // The mass that the rows of a plan let through by a move from a class history.

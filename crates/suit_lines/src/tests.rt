@@ -70,87 +70,89 @@ const TENACE: Hands = ("AQ", "32", Goal::AtLeast(2));
 
 const TENACE_TRICKS: Hands = ("AQ", "32", Goal::Tricks);
 
+// Answers to questions, and what is told of them.
+const CASES: [Case; 11] = [
+    (
+        TEN,
+        Some(LeadAt::S),
+        "answer 1\nvalue 13/25\nplan 1 0\ndefence 1 2\nwest 0 0 at S3 - A : 2 2496144\n\
+         west 1 1 at S3 : 2 2496144\nend\n",
+        "Value 13/25, 52.00 percent.\nAfter South leads 3, West plays K: North plays A.\n\
+         After South leads 3, West plays 2: North plays A.\n\
+         After South leads 3, West shows out: North plays A.\nend\n",
+    ),
+    (
+        ELEVEN,
+        Some(LeadAt::N),
+        "answer 1\nvalue 13/25\nplan 1 0\ndefence 1 0\nend\n",
+        "Value 13/25, 52.00 percent.\nAt the start: North leads A.\nend\n",
+    ),
+    (
+        ELEVEN,
+        Some(LeadAt::N),
+        "answer 1\nvalue 1/3\nplan 1 0\ndefence 1 0\nend\n",
+        "Value 1/3, 33.33 percent.\n",
+    ),
+    (
+        ELEVEN,
+        Some(LeadAt::N),
+        "answer 1\nvalue 0/1\nplan 1 0\ndefence 1 0\nend\n",
+        "Value 0/1, 0.00 percent.\n",
+    ),
+    (
+        ELEVEN,
+        Some(LeadAt::N),
+        "answer 1\nvalue 2/3\nplan 1 0\ndefence 1 0\nend\n",
+        "Value 2/3, 66.66 percent.\n",
+    ),
+    (
+        ("AKT9876", "54", Goal::AtLeast(7)),
+        Some(LeadAt::S),
+        "answer 1\nvalue 533/1150\nplan 1 0\ndefence 1 0\nend\n",
+        "Value 533/1150, 46.34 percent.\n",
+    ),
+    (
+        TENACE_TRICKS,
+        Some(LeadAt::S),
+        "answer 1\nvalue 3/2\nplan 1 0\ndefence 1 0\nend\n",
+        "Value 3/2, 1.50 tricks.\n",
+    ),
+    (
+        TENACE_TRICKS,
+        Some(LeadAt::S),
+        "answer 1\nvalue 1000/1\nplan 1 0\ndefence 1 0\nend\n",
+        "Value 1000/1, 1000.00 tricks.\n",
+    ),
+    // The mass is split after the jack, which stands for any card below the king.
+    (
+        TENACE,
+        Some(LeadAt::S),
+        "answer 1\nvalue 1/20\nplan 3 1\nat S3 J : A 1 Q 2\ndefence 1 0\nend\n",
+        "Value 1/20, 5.00 percent.\nAfter South leads 3, West plays K: North plays A.\n\
+         After South leads 3, West plays J: North plays A 1 of 3; North plays Q 2 of 3.\n\
+         After South leads 3, West shows out: North plays A.\nend\n",
+    ),
+    // Declarer leads from either hand, and then one trick is won whatever comes.
+    (
+        ("A", "2", Goal::AtLeast(1)),
+        None,
+        "answer 1\nvalue 1/1\nplan 2 1\nat : NA 1 S2 1\ndefence 1 0\nend\n",
+        "Value 1/1, 100.00 percent.\nAt the start: North leads A 1 of 2; South leads 2 1 of 2.\nend\n",
+    ),
+    // East plays before South, and a row puts all of the mass on the second move.
+    (
+        ("32", "AQ", Goal::AtLeast(2)),
+        Some(LeadAt::N),
+        "answer 1\nvalue 1/2\nplan 1 1\nat N3 J : Q 1\ndefence 1 0\nend\n",
+        "Value 1/2, 50.00 percent.\nAfter North leads 3, East plays K: South plays A.\n\
+         After North leads 3, East plays J: South plays Q.\n\
+         After North leads 3, East shows out: South plays A.\nend\n",
+    ),
+];
+
 #[test]
 fn tells_answers(rt: HostRuntime) -> Result<(), Fail> {
-    let cases: [Case; 11] = [
-        (
-            TEN,
-            Some(LeadAt::S),
-            "answer 1\nvalue 13/25\nplan 1 0\ndefence 1 2\nwest 0 0 at S3 - A : 2 2496144\n\
-             west 1 1 at S3 : 2 2496144\nend\n",
-            "Value 13/25, 52.00 percent.\nAfter South leads 3, West plays K: North plays A.\n\
-             After South leads 3, West plays 2: North plays A.\n\
-             After South leads 3, West shows out: North plays A.\nend\n",
-        ),
-        (
-            ELEVEN,
-            Some(LeadAt::N),
-            "answer 1\nvalue 13/25\nplan 1 0\ndefence 1 0\nend\n",
-            "Value 13/25, 52.00 percent.\nAt the start: North leads A.\nend\n",
-        ),
-        (
-            ELEVEN,
-            Some(LeadAt::N),
-            "answer 1\nvalue 1/3\nplan 1 0\ndefence 1 0\nend\n",
-            "Value 1/3, 33.33 percent.\n",
-        ),
-        (
-            ELEVEN,
-            Some(LeadAt::N),
-            "answer 1\nvalue 0/1\nplan 1 0\ndefence 1 0\nend\n",
-            "Value 0/1, 0.00 percent.\n",
-        ),
-        (
-            ELEVEN,
-            Some(LeadAt::N),
-            "answer 1\nvalue 2/3\nplan 1 0\ndefence 1 0\nend\n",
-            "Value 2/3, 66.66 percent.\n",
-        ),
-        (
-            ("AKT9876", "54", Goal::AtLeast(7)),
-            Some(LeadAt::S),
-            "answer 1\nvalue 533/1150\nplan 1 0\ndefence 1 0\nend\n",
-            "Value 533/1150, 46.34 percent.\n",
-        ),
-        (
-            TENACE_TRICKS,
-            Some(LeadAt::S),
-            "answer 1\nvalue 3/2\nplan 1 0\ndefence 1 0\nend\n",
-            "Value 3/2, 1.50 tricks.\n",
-        ),
-        (
-            TENACE_TRICKS,
-            Some(LeadAt::S),
-            "answer 1\nvalue 1000/1\nplan 1 0\ndefence 1 0\nend\n",
-            "Value 1000/1, 1000.00 tricks.\n",
-        ),
-        // The mass is split after the jack, which stands for any card below the king.
-        (
-            TENACE,
-            Some(LeadAt::S),
-            "answer 1\nvalue 1/20\nplan 3 1\nat S3 J : A 1 Q 2\ndefence 1 0\nend\n",
-            "Value 1/20, 5.00 percent.\nAfter South leads 3, West plays K: North plays A.\n\
-             After South leads 3, West plays J: North plays A 1 of 3; North plays Q 2 of 3.\n\
-             After South leads 3, West shows out: North plays A.\nend\n",
-        ),
-        // Declarer leads from either hand, and then one trick is won whatever comes.
-        (
-            ("A", "2", Goal::AtLeast(1)),
-            None,
-            "answer 1\nvalue 1/1\nplan 2 1\nat : NA 1 S2 1\ndefence 1 0\nend\n",
-            "Value 1/1, 100.00 percent.\nAt the start: North leads A 1 of 2; South leads 2 1 of 2.\nend\n",
-        ),
-        // East plays before South, and a row puts all of the mass on the second move.
-        (
-            ("32", "AQ", Goal::AtLeast(2)),
-            Some(LeadAt::N),
-            "answer 1\nvalue 1/2\nplan 1 1\nat N3 J : Q 1\ndefence 1 0\nend\n",
-            "Value 1/2, 50.00 percent.\nAfter North leads 3, East plays K: South plays A.\n\
-             After North leads 3, East plays J: South plays Q.\n\
-             After North leads 3, East shows out: South plays A.\nend\n",
-        ),
-    ];
-    for (hands, lead, answer, wanted) in cases {
+    for (hands, lead, answer, wanted) in CASES {
         let question = question(hands, lead)?;
         assert!(rt; question.is_valid());
         let mut found = told(rt.alloc(), &question, answer)?;

@@ -64,4 +64,5 @@ pub returns : goal.returns
 unfolding every_move class_numbers
 returns c =
     let thirteen : c.loop-follow.follow ≡ 13 = omega arith in
-    c.push-2.ensures.items ∙ ap (λ (l : List ClassMove). l ++ ShowOut ∷ []) (rw thirteen at c.loop-follow.invariant.so_far)
+    c.push-2.ensures.items ∙ ap (λ (l : List ClassMove). l ++ ShowOut ∷ [])
+    (rw thirteen at c.loop-follow.invariant.so_far)
