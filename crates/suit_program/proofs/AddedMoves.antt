@@ -1,4 +1,5 @@
--- A support with more moves: which are new is told by the nodes of the tree (`own_told`, `theirs_told`), and it names them
+-- A support with more moves: which are new is told by the nodes of the tree (`own_told`, `theirs_told`), and it names
+-- them
 -- and what it did (`with_seen`).
 use Rattle.std.proofs.Common.{◌≡◌, ℕ, zero, suc, ◌+◌, ◌-◌, ◌<◌, ◌≤◌}
 use Rattle.std.proofs.Common.{Bool, true, false, List, [], ◌∷◌, ◌++◌, Option, Some}
@@ -34,7 +35,7 @@ use Rattle.suit_plans.proofs.TurnMoves.{declarers_moves}
 use Rattle.suit_plans.proofs.WhoseTurns.{own_turn, their_turn}
 use Rattle.suit_tree.specs.declared.node.Node.{Node}
 use Rattle.suit_tree.specs.declared.tree.Tree.{Tree}
-use Rattle.suit_tree.specs.Nodes.{children_of, holds_index}
+use Rattle.suit_tree.specs.Nodes.{children_of, holds_index, move_of}
 use Rattle.suit_tree.specs.Trees.{IsTreeAt, IsTreeOf, allowing, layout_indices}
 use Rattle.suit_tree.proofs.CountedNodes.{in_range_below}
 use Rattle.suit_tree.proofs.MovesOn.{Contains-moves_on, allowing_start}
@@ -43,7 +44,6 @@ use Rattle.suit_program.specs.declared.support.Support.{Support as MarkedSupport
 use Rattle.suit_program.specs.Additions.{are_theirs, children_at, children_by, has_own, has_theirs}
 use Rattle.suit_program.specs.Marks.{IsOwnMove, IsTheirMove, NamesMore, defence_mark, defence_named, named_on}
 use Rattle.suit_program.specs.Marks.{support_seen}
-use Rattle.suit_program.specs.Reaches.{move_of}
 use Rattle.suit_program.specs.Supports.{Support, are_new, has_declarers, has_defences, layouts_of, legal_moves, names}
 use Rattle.suit_program.specs.Supports.{supported_moves, whole_support, with_moves}
 use Rattle.suit_program.proofs.ReachedMoves.{among_kept, any_kept, any_same}
@@ -235,7 +235,8 @@ some_allows_at question history =
     ∙ ap (λ (l : List (Counts × ℕ)). nat_lt 0 (length (filter may l))) (sym (by_indices (layouts_of question) ([], 0)))
     ∙ ap (λ (l : List (Counts × ℕ)). nat_lt 0 (length l))
     (filter_of_map may (layout_at question) (layout_indices (layouts_of question)))
-    ∙ ap (nat_lt 0) (length-map (filter (λ index. may (layout_at question index)) (layout_indices (layouts_of question)))
+    ∙ ap (nat_lt 0) (length-map (filter (λ index. may (layout_at question index))
+    (layout_indices (layouts_of question)))
     (layout_at question))
 
 cons_some : (move : ClassMove) (moves : List ClassMove) → move ∷ moves ≡ [] → ⊥

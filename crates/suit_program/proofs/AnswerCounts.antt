@@ -5,7 +5,8 @@ use Rattle.std.proofs.Common.{drop, get_or, sym, ap, ◌∙◌, subst, arith, ap
 use Rattle.std.specs.Prelude.{Contains, cond, filter, if◌then◌else◌}
 use Rattle.std.specs.List.{flat_map}
 use Rattle.std.proofs.lemmas.Grind.{flat_map-append}
-use Rattle.std.proofs.lemmas.List.{drop_all, drop_more, length-map, map-append, take-append-drop, take-map, take_all, take_more}
+use Rattle.std.proofs.lemmas.List.{drop_all, drop_more, length-map, map-append, take-append-drop, take-map, take_all}
+use Rattle.std.proofs.lemmas.List.{take_more}
 use Rattle.suit_cards.specs.Cards.{Counts}
 use Rattle.suit_game.specs.declared.question.Question.{Question}
 use Rattle.suit_classes.specs.declared.class_moves.ClassMove.{ClassMove}
@@ -99,7 +100,8 @@ module _ (question : Question) (support : Support) (history : ClassHistory) wher
     unfolding reached_layouts
     reached_few =
         let most = layouts_few question in
-        let fewer = kept_few (λ (layout : Counts × ℕ). is_reached question support layout.0 history) (layouts_of question) in
+        let fewer = kept_few (λ (layout : Counts × ℕ). is_reached question support layout.0 history)
+        (layouts_of question) in
         let same = ap (λ (l : List (Counts × ℕ)). length l) all_layouts in
         let one = length-map (map index_of reach.layouts.items) (layout_at question) in
         let other = length-map reach.layouts.items index_of in
@@ -180,10 +182,12 @@ module _ (question : Question) (support : Support) (history : ClassHistory) wher
   unfolding limits_at
   shared_row chooses =
       ap (λ (b : Bool). length (if b then Shared history ∷ []
-      else flat_map (answered_limits question support history) (reached_layouts question support history))) (sym chooses)
+      else flat_map (answered_limits question support history) (reached_layouts question support history)))
+      (sym chooses)
 
   -- the answers in a class layout
-  pub answers_chosen : (index : ℕ) (moves : List ClassMove) → defence_chooses question (counts_at question index) history ≡ true
+  pub answers_chosen : (index : ℕ) (moves : List ClassMove)
+      → defence_chooses question (counts_at question index) history ≡ true
       → moves ≡ supported_moves question support (counts_at question index) history
       → answered_limits question support history (layout_at question index)
       ≡ map (Answered (counts_at question index) history) moves

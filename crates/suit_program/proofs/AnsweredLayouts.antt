@@ -1,14 +1,13 @@
 -- What is written at a turn of the defence for a class layout in the reach's list (`layout_writes`, `layout_keeps`).
-use Rattle.std.proofs.Common.{◌≡◌, ℕ, zero, suc, ◌+◌, ◌<◌, ◌≤◌, Bool, true, false, List, [], ◌∷◌, ◌++◌, length, get_or, map}
+use Rattle.std.proofs.Common.{◌≡◌, ℕ, zero, suc, ◌+◌, ◌<◌, ◌≤◌, Bool, true, false, List, [], ◌∷◌, ◌++◌, length, get_or}
+use Rattle.std.proofs.Common.{map}
 use Rattle.std.proofs.Common.{refl, sym, ap, ◌∙◌, subst, append-nil, arith}
 use Rattle.std.specs.Prelude.{Contains, if◌then◌else◌, negsuc, ◌+ℤ◌}
 use Rattle.std.proofs.lemmas.List.{length-map}
 use Rattle.std.proofs.lemmas.List.Elements.{Contains-get_or}
 use Rattle.suit_cards.specs.Cards.{Counts}
-use Rattle.suit_game.specs.declared.question.Question.{Question}
 use Rattle.suit_game.proofs.EachElement.{Contains-map}
 use Rattle.suit_classes.specs.declared.class_moves.ClassMove.{ClassMove}
-use Rattle.suit_classes.specs.ClassMoves.{ClassHistory}
 use Rattle.suit_classes.specs.ClassPlaces.{class_after, class_turn}
 use Rattle.suit_plans.specs.Masses.{is_defences}
 use Rattle.suit_plans.specs.ReplyLaws.{counts_at}
@@ -18,11 +17,11 @@ use Rattle.suit_program.specs.declared.reach.Reach.{Reach}
 use Rattle.suit_program.specs.declared.reach.ReachedLayout.{ReachedLayout}
 use Rattle.suit_program.specs.declared.turn.Answer.{Answer}
 use Rattle.suit_program.specs.Drafts.{Adds, Extends, credit, in_each}
-use Rattle.suit_program.specs.Points.{Column, Held}
+use Rattle.suit_program.specs.Points.{Held}
 use Rattle.suit_program.specs.Programs.{Answered, Limit, answered_limits, held_column}
-use Rattle.suit_program.specs.Reaches.{IsReach, IsSomeReach, Reached, reached_indices}
-use Rattle.suit_program.specs.Supports.{Support, defence_chooses, supported_moves}
-use Rattle.suit_program.specs.DraftWalks.{AreAnswered, IsAnswerAsked, answered_rows, held_columns, layout_of}
+use Rattle.suit_program.specs.Reaches.{IsSomeReach, Reached, reached_indices}
+use Rattle.suit_program.specs.Supports.{defence_chooses, supported_moves}
+use Rattle.suit_program.specs.DraftWalks.{AreAnswered, IsAnswerAsked, answered_rows, layout_of}
 use Rattle.suit_program.proofs.WrittenAnswers.{answered_held, answered_kept}
 
 mapped_index : (layouts : List ReachedLayout) (place : ℕ) (none : ReachedLayout) → place < length layouts

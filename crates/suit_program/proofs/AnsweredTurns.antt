@@ -1,32 +1,31 @@
 -- A turn of the defence: its columns and rows, and what is handed on, make up for what is owed (`theirs_told`).
-use Rattle.std.proofs.Common.{◌≡◌, ℕ, zero, suc, ◌+◌, ◌<◌, ◌≤◌, Bool, true, false, List, [], ◌∷◌, ◌++◌, length, map, refl}
-use Rattle.std.proofs.Common.{sym, ap, ◌∙◌, subst, inl, inr, arith}
-use Rattle.std.specs.Prelude.{Contains, ◌==◌, filter, if◌then◌else◌, nat_lt, ℤ, pos, negsuc, ◌+ℤ◌, ◌-ℤ◌, ◌*ℤ◌, ◌≤ℤ◌}
-use Rattle.std.specs.List.{AllByRecursion, flat_map}
-use Rattle.std.proofs.lemmas.Bool.{and_parts, cond-false, false≢true, false_from_ne_true}
+use Rattle.std.proofs.Common.{◌≡◌, ℕ, suc, ◌+◌, ◌≤◌, Bool, true, false, List, [], ◌∷◌, ◌++◌, length, map}
+use Rattle.std.proofs.Common.{refl}
+use Rattle.std.proofs.Common.{sym, ap, ◌∙◌, subst, arith}
+use Rattle.std.specs.Prelude.{Contains, ◌==◌, if◌then◌else◌, nat_lt, ℤ, pos, negsuc, ◌+ℤ◌, ◌-ℤ◌, ◌*ℤ◌}
+use Rattle.std.proofs.lemmas.Bool.{and_parts, false≢true, false_from_ne_true}
 use Rattle.std.proofs.lemmas.Int.{ints}
-use Rattle.std.proofs.lemmas.List.{length-append, length-map}
 use Rattle.suit_cards.specs.Cards.{Counts}
 use Rattle.suit_game.specs.declared.question.Question.{Question}
 use Rattle.suit_game.specs.Validity.{IsValid}
 use Rattle.suit_game.proofs.DistinctElements.{IsOnce}
-use Rattle.suit_game.proofs.EachElement.{Contains-cons_cases, Contains-first, Contains-later, Contains-nil, each_at}
+use Rattle.suit_game.proofs.EachElement.{Contains-first, Contains-later, each_at}
 use Rattle.suit_game.proofs.EachElement.{map_same}
 use Rattle.suit_classes.specs.declared.class_moves.ClassMove.{ClassMove}
-use Rattle.suit_classes.specs.AllowedHistories.{is_among}
 use Rattle.suit_classes.specs.ClassMoves.{same_class_move}
-use Rattle.suit_classes.specs.ClassPlaces.{class_after, class_decided, class_moves, class_turn}
-use Rattle.suit_classes.proofs.SameMoves.{among-Contains, same_move-itself, same_move_is}
-use Rattle.suit_classes.proofs.UndecidedMoves.{HasFirst, some_move}
-use Rattle.suit_plans.specs.Masses.{is_declarers, is_defences}
+use Rattle.suit_classes.specs.ClassPlaces.{class_after, class_decided, class_turn}
+use Rattle.suit_classes.proofs.SameMoves.{same_move-itself, same_move_is}
+use Rattle.suit_classes.proofs.UndecidedMoves.{some_move}
+use Rattle.suit_plans.specs.Masses.{is_declarers}
 use Rattle.suit_plans.specs.Properness.{sum_of}
 use Rattle.suit_plans.specs.ReplyLaws.{counts_at}
 use Rattle.suit_program.specs.declared.draft.Account.{Account}
-use Rattle.suit_program.specs.Drafts.{IsFit, credit}
+use Rattle.suit_program.specs.Drafts.{credit}
 use Rattle.suit_program.specs.Points.{Held, Point}
 use Rattle.suit_program.specs.Programs.{Answered, Limit, answered_limits, excess}
 use Rattle.suit_program.specs.Supports.{Support, declarer_chooses, defence_chooses, legal_moves, supported_moves}
-use Rattle.suit_program.specs.DraftWalks.{AnswerView, advanced, answered_rows, held_at, held_in, layout_of, opened, owed}
+use Rattle.suit_program.specs.DraftWalks.{AnswerView, advanced, answered_rows, held_at, held_in, layout_of, opened}
+use Rattle.suit_program.specs.DraftWalks.{owed}
 use Rattle.suit_program.specs.DraftWalks.{place_in, told}
 use Rattle.suit_program.specs.Worths.{worth_at}
 use Rattle.suit_program.proofs.ReachedAccounts.{IsThere}
@@ -99,7 +98,8 @@ placed_rows west history held worth row before after starts ends (move ∷ moves
 -- where play is not decided there is a legal move
 pub some_legal : (question : Question) (support : Support) (history : List ClassMove) → IsValid question
     → class_decided (class_after question history) ≡ false → (account : Account)
-    → IsThere question support history account → legal_moves question (counts_at question account.index) history ≡ [] → ⊥
+    → IsThere question support history account → legal_moves question (counts_at question account.index) history ≡ []
+    → ⊥
 some_legal question support history valid not_over account there none =
     let west : Counts = counts_at question account.index in
     let some = some_move question west history
@@ -149,7 +149,8 @@ module _ (question : Question) (support : Support) (point : Point) (history : Li
       (sym (worth_held question support point west history short chooses))
 
   forced_told : (account : Account) (first : ℕ) (move : ClassMove) (moves : List ClassMove) → moves ≡ move ∷ []
-      → worth_at question support point (counts_at question account.index) history ≡ sum_of (map (worth_in account) moves)
+      → worth_at question support point (counts_at question account.index) history
+      ≡ sum_of (map (worth_in account) moves)
       → one_before account first moves false ≡ one_after account first moves false
   unfolding told sum_of
   forced_told account first move moves only is =
@@ -180,7 +181,8 @@ module _ (question : Question) (support : Support) (point : Point) (history : Li
         ≡ one_after account first (supported_moves question support (counts_at question account.index) history)
         (defence_chooses question (counts_at question account.index) history)
     unfolding declarer_chooses
-    one_told account first there (Ended none nothing not) = absurd (some_legal question support history valid not_over account there none)
+    one_told account first there (Ended none nothing not) = absurd
+        (some_legal question support history valid not_over account there none)
     one_told account first there (Forced move alone only not same) =
         let west : Counts = counts_at question account.index in
         let moves : List ClassMove = supported_moves question support west history in

@@ -1,20 +1,18 @@
--- What a walk may count on: the class histories that go on, and room for their columns and rows (`go_on`, `child_asked`).
-use Rattle.std.proofs.Common.{◌≡◌, ℕ, zero, suc, ◌+◌, ◌-◌, ◌<◌, ◌≤◌, Bool, true, false, List, [], ◌∷◌, ◌++◌, length, get_or}
+-- What a walk may count on: the class histories that go on, and room for their columns and rows (`go_on`,
+-- `child_asked`).
+use Rattle.std.proofs.Common.{◌≡◌, ℕ, zero, suc, ◌+◌, ◌-◌, ◌<◌, ◌≤◌, true, List, [], ◌∷◌, ◌++◌, length}
+use Rattle.std.proofs.Common.{get_or}
 use Rattle.std.proofs.Common.{map, take, drop, refl, sym, ap, ◌∙◌, subst, arith}
 use Rattle.std.specs.Prelude.{Contains}
 use Rattle.std.specs.List.{flat_map}
 use Rattle.std.proofs.lemmas.List.{length-append, length-map, take-append-drop, take_more}
 use Rattle.std.proofs.lemmas.List.Concat.{flat_map-append}
 use Rattle.std.proofs.lemmas.List.Elements.{Contains-get_or}
-use Rattle.suit_cards.specs.Cards.{Counts}
 use Rattle.suit_game.specs.declared.question.Question.{Question}
-use Rattle.suit_game.specs.declared.limits.TheConstants.{MOST_MOVES}
-use Rattle.suit_game.proofs.EachElement.{Contains-first}
 use Rattle.suit_classes.specs.declared.class_moves.ClassMove.{ClassMove}
 use Rattle.suit_classes.specs.ClassMoves.{ClassHistory}
 use Rattle.suit_classes.specs.ClassPlaces.{class_after, class_turn}
-use Rattle.suit_plans.specs.Masses.{is_declarers, is_defences}
-use Rattle.suit_plans.specs.ReplyLaws.{counts_at}
+use Rattle.suit_plans.specs.Masses.{is_defences}
 use Rattle.suit_tree.specs.Nodes.{turn_at}
 use Rattle.suit_program.specs.declared.draft.Account.{Account}
 use Rattle.suit_program.specs.declared.draft.Draft.{Draft}
@@ -22,11 +20,10 @@ use Rattle.suit_program.specs.declared.reach.Reach.{Reach}
 use Rattle.suit_program.specs.declared.reach.ReachedLayout.{ReachedLayout}
 use Rattle.suit_program.specs.declared.turn.Answer.{Answer}
 use Rattle.suit_program.specs.declared.turn.Turn.{Turn}
-use Rattle.suit_program.specs.Drafts.{Extends, IsFit}
 use Rattle.suit_program.specs.Points.{Column}
 use Rattle.suit_program.specs.Programs.{Limit, columns_at, limits_at}
-use Rattle.suit_program.specs.Reaches.{IsReach, reached_indices}
-use Rattle.suit_program.specs.Supports.{Support, histories_from, next_moves, reached_layouts}
+use Rattle.suit_program.specs.Reaches.{IsReach}
+use Rattle.suit_program.specs.Supports.{Support, histories_from, next_moves}
 use Rattle.suit_program.specs.DraftWalks.{AreAccounts, AreAnswered, IsAnswerAsked, IsAsked, IsOpened, accounts_after}
 use Rattle.suit_program.specs.DraftWalks.{answered_rows, columns_from, held_columns, limits_from}
 use Rattle.suit_program.proofs.DraftSteps.{fit_later}
@@ -79,7 +76,8 @@ module _ (draft : Draft) (reach : Reach) (accounts : List Account) (case : IsAsk
   turn_same = turn_is case.question case.support case.history reach case.reached
 
   -- a walk from a class history with a move more may be asked for
-  unfoldable pub child_asked : (mass : ℕ) (turn : Turn) (opened now : Draft) (done rest : List ClassMove) (move : ClassMove)
+  unfoldable pub child_asked : (mass : ℕ) (turn : Turn) (opened now : Draft) (done rest : List ClassMove)
+      (move : ClassMove)
       (other : Reach) (after : List Account)
       → IsOpened case.question case.support case.history mass accounts draft opened turn
       → ArePassed case.question case.support case.history mass accounts turn opened now done
@@ -106,7 +104,8 @@ module _ (draft : Draft) (reach : Reach) (accounts : List Account) (case : IsAsk
         support = case.support;
         history = case.history ++ move ∷ [];
         reached = reached;
-        are = subst (λ (l : List Account). AreAccounts case.question case.support (case.history ++ move ∷ []) now.rows l)
+        are = subst (λ (l : List Account). AreAccounts case.question case.support
+            (case.history ++ move ∷ []) now.rows l)
             (sym by)
             (record {
               indices = are.indices;
@@ -123,7 +122,8 @@ module _ (draft : Draft) (reach : Reach) (accounts : List Account) (case : IsAsk
     theirs_there = ap is_defences (sym turn_same) ∙ theirs
 
     -- what is written for the class layout at a place may be asked for
-    unfoldable pub answer_asked : (now : Draft) (place : ℕ) (none : Account) (answers : List Answer) → place < length accounts
+    unfoldable pub answer_asked : (now : Draft) (place : ℕ) (none : Account) (answers : List Answer)
+        → place < length accounts
         → AreAnswered case.question case.support case.history (take place accounts) draft now answers
         → IsAnswerAsked now reach place (get_or accounts place none)
     answer_asked now place none answers below answered =

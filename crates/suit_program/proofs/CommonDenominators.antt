@@ -11,7 +11,7 @@ use Rattle.std.proofs.lemmas.List.{at_drop_more, drop_all}
 use Rattle.std.proofs.lemmas.Nat.Gcd.{dvd_antisymm, dvd_trans}
 use Rattle.std.proofs.Math.Nat.{dvd-mul_left, dvd-mul_right, le_of_dvd, mul-pos, one-dvd, pos_of_dvd_of_pos}
 use Rattle.suit_num.specs.declared.fraction.Frac.{Frac}
-use Rattle.suit_num.specs.Divisors.{IsLcm, lcm_of}
+use Rattle.suit_num.specs.Divisors.{lcm_of}
 use Rattle.suit_num.proofs.DivisorLaws.{IsLcm-lcm_of, same_from_IsLcm}
 use Rattle.suit_program.specs.Points.{Column}
 use Rattle.suit_program.specs.Readings.{Part, common_den, is_passed, parts_of}

@@ -1,8 +1,7 @@
 -- Shares of a mass as a loop makes them: one move more (`counted_more`, `one_filled`, `one_less`), and a part of a
 -- denominator as a product (`scaled_is`).
-use Rattle.std.proofs.Common.{◌≡◌, ℕ, ◌+◌, ◌<◌, ◌≤◌, List, [], ◌∷◌, ◌++◌, length, get_or, drop, refl, sym, ap, ◌∙◌}
-use Rattle.std.proofs.Common.{subst}
-use Rattle.std.proofs.Common.{arith, append_assoc, append-nil, map, zero, suc, SFits}
+use Rattle.std.proofs.Common.{◌≡◌, ℕ, ◌+◌, ◌<◌, ◌≤◌, List, [], ◌∷◌, ◌++◌, length, get_or, drop, sym, ap, ◌∙◌}
+use Rattle.std.proofs.Common.{arith, append_assoc, append-nil, zero, suc, SFits}
 use Rattle.std.specs.Prelude.{All, ℤ, pos, negsuc, ◌+ℤ◌, ◌-ℤ◌, ◌*ℤ◌, ◌≤ℤ◌, ◌<ℤ◌, ◌^◌, int_div, unsigned_abs}
 use Rattle.std.specs.Int.{int_min, ◌∣◌, w128}
 use Rattle.std.proofs.lemmas.Int.{clamps, ints}
@@ -12,7 +11,7 @@ use Rattle.suit_num.proofs.IntegerLaws.{mul-div, mul-one, mul_left_comm}
 use Rattle.suit_classes.specs.declared.class_moves.ClassMove.{ClassMove}
 use Rattle.suit_plans.specs.Masses.{Shares}
 use Rattle.suit_plans.specs.Properness.{sum_of}
-use Rattle.suit_program.specs.Readings.{Part, filled, scaled, sum_counts}
+use Rattle.suit_program.specs.Readings.{filled, scaled, sum_counts}
 use Rattle.suit_program.specs.Shares.{counted}
 use Rattle.suit_program.proofs.SharedCounts.{AreLow, counts_low}
 

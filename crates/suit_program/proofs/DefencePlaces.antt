@@ -46,7 +46,8 @@ cut_length xs start count within =
     let dropped = length-drop start xs in
     omega (arith, taken, dropped, within)
 
-module _ (reader : DefenceReader) (reach : Reach) (row : ℕ) (mass : ℤ) (turn : IsDefenceTurn reader reach row mass) where
+module _ (reader : DefenceReader) (reach : Reach) (row : ℕ) (mass : ℤ)
+    (turn : IsDefenceTurn reader reach row mass) where
   abbrev q : Question
   q = turn.question
 
@@ -146,7 +147,8 @@ module _ (reader : DefenceReader) (reach : Reach) (row : ℕ) (mass : ℤ) (turn
             ap (counted moves) (is_cut ∙ ap (λ (n : ℕ). take (length moves) (drop n prices)) starts)
             ∙ prices_here (limits q s) prices west h moves (row + before) stood.rest (limits_once q s) turn.long
             stood.from
-            (subst (λ (n : ℕ). row + before + n ≤ length (limits q s)) (length-map moves (Answered west h)) stood.within)
+            (subst (λ (n : ℕ). row + before + n ≤ length (limits q s))
+            (length-map moves (Answered west h)) stood.within)
             ∙ ap (map (λ move. (move, price_of (limits q s) prices west h move))) is
             ∙ ap (λ (w : Counts). map (λ move. (move, price_of (limits q s) prices w h move)) (supported_moves q s w h))
             (sym turn.west)

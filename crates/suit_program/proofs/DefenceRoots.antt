@@ -1,12 +1,11 @@
--- How a defence's reader begins in a class layout (`root_stop`), and that the rows of all class layouts are those of the
--- defence (`rows_more`, `rows_all`).
-use Rattle.std.proofs.Common.{◌≡◌, ℕ, zero, suc, ◌+◌, ◌<◌, ◌≤◌, List, [], ◌∷◌, ◌++◌, length, take}
+-- How a defence's readers begin (`root_stop`, `root_stops`), and that the rows of all class layouts are those of the
+-- defence (`all_rows`).
+use Rattle.std.proofs.Common.{◌≡◌, ℕ, suc, ◌<◌, ◌≤◌, List, [], ◌∷◌, ◌++◌, length, map}
 use Rattle.std.proofs.Common.{get_or, refl, sym, ap, ◌∙◌, subst, arith, append-nil}
 use Rattle.std.specs.Prelude.{All, ◌&&◌, ℤ, pos, ◌*ℤ◌, ◌≤ℤ◌}
 use Rattle.std.specs.List.{flat_map}
-use Rattle.std.proofs.lemmas.Grind.{flat_map-append}
 use Rattle.std.proofs.lemmas.Int.{ints}
-use Rattle.std.proofs.lemmas.List.{take_all, take_more}
+use Rattle.std.proofs.lemmas.List.{get_or-map, get_or_default, length-map}
 use Rattle.std.proofs.lemmas.List.Elements.{Contains-get_or}
 use Rattle.suit_cards.specs.Cards.{Counts}
 use Rattle.suit_num.proofs.IntegerLaws.{mul_not_negative}
@@ -19,14 +18,17 @@ use Rattle.suit_plans.proofs.BoundedReplies.{weight_listed}
 use Rattle.suit_plans.proofs.RowLimits.{weight_at_most}
 use Rattle.suit_tree.specs.declared.tree.Tree.{Tree}
 use Rattle.suit_program.specs.declared.defence_reader.DefenceReader.{DefenceReader}
+use Rattle.suit_program.specs.declared.defence_walk.DefenceWalk.{DefenceWalk}
 use Rattle.suit_program.specs.declared.reach.Reach.{Reach}
 use Rattle.suit_program.specs.declared.support.Support.{Support as MarkedSupport}
 use Rattle.suit_program.specs.AnswerRows.{layout_at}
+use Rattle.suit_program.specs.DefenceLists.{AreDefenceStops, AreEmptyLists, AreRead, AreReaders, RowList, rows_of}
 use Rattle.suit_program.specs.DefenceWalks.{IsDefenceStop, IsPricedTree, their_row}
 use Rattle.suit_program.specs.Marks.{support_seen}
 use Rattle.suit_program.specs.Programs.{limits, limits_at}
 use Rattle.suit_program.specs.Reaches.{IsReach}
-use Rattle.suit_program.specs.Readings.{Reading, defence_reading, defence_rows_in, has_row, read_from, read_mass, row_counts}
+use Rattle.suit_program.specs.Readings.{Reading, defence_reading, defence_rows_in, has_row, read_from, read_mass}
+use Rattle.suit_program.specs.Readings.{row_counts}
 use Rattle.suit_program.specs.Supports.{Support, is_reached, layouts_of, reached_histories}
 use Rattle.suit_program.specs.Walks.{StandsIn, walked}
 use Rattle.suit_program.proofs.DefenceTurns.{rows_kept}
@@ -35,10 +37,22 @@ use Rattle.suit_program.proofs.DefenceTurns.{rows_kept}
 whole_stands : {X : Type 0} (xs : List X) → StandsIn xs 0 xs
 whole_stands xs = record { rest = []; from = sym (append-nil xs); within = omega arith }
 
-any_default : {X : Type 0} (xs : List X) (i : ℕ) (d e : X) → i < length xs → get_or xs i d ≡ get_or xs i e
-any_default [] i d e below = absurd (omega (arith, below))
-any_default (x ∷ xs) zero d e below = refl
-any_default (x ∷ xs) (suc i) d e below = any_default xs i d e (omega (arith, below))
+some_of : {X : Type 0} (xs : List X) → 0 < length xs → X
+some_of [] some = absurd (omega (arith, some))
+some_of (x ∷ xs) some = x
+
+-- two lists of which the pieces are the same, one by one
+same_pieces : {X Y Z : Type 0} (f : X → List Z) (g : Y → List Z) (xs : List X) (ys : List Y)
+    → length xs ≡ length ys
+    → ((i : ℕ) (d : X) (e : Y) → i < length ys → f (get_or xs i d) ≡ g (get_or ys i e))
+    → flat_map f xs ≡ flat_map g ys
+same_pieces f g [] [] long same = refl
+same_pieces f g [] (y ∷ ys) long same = absurd (omega (arith, long))
+same_pieces f g (x ∷ xs) [] long same = absurd (omega (arith, long))
+same_pieces {X} {Y} {Z} f g (x ∷ xs) (y ∷ ys) long same =
+    ap (λ (l : List Z). l ++ flat_map f xs) (same 0 x y (omega arith))
+    ∙ ap (λ (l : List Z). g y ++ l) (same_pieces f g xs ys (omega (arith, long))
+    (λ i d e below. same (suc i) d e (omega (arith, below))))
 
 -- the same prices, of which the scale is told otherwise
 abbrev pub with_scale : {tree : Tree} {support : MarkedSupport} {prices : List ℤ} {scale : ℤ}
@@ -60,17 +74,6 @@ module _ (tree : Tree) (support : MarkedSupport) (prices : List ℤ) (scale : �
 
   abbrev s : Support
   s = support_seen q support
-
-  -- the class layout at an index, as it is read
-  pub entry_is : (layouts : List (Counts × ℕ)) → layouts ≡ tree.layouts.items → (index : ℕ) → index < length layouts
-      → (d : Counts × ℕ) → get_or layouts index d ≡ layout_at q index
-  entry_is layouts same index below d =
-      any_default layouts index d ([], 0) below
-      ∙ ap (λ (l : List (Counts × ℕ)). get_or l index ([], 0)) (same ∙ case.grown.layouts)
-
-  pub layouts_long : (layouts : List (Counts × ℕ)) → layouts ≡ tree.layouts.items
-      → length layouts ≡ length (layouts_of q)
-  layouts_long layouts same = ap (λ (l : List (Counts × ℕ)). length l) (same ∙ case.grown.layouts)
 
   pub all_limits : StandsIn (limits q s) 0 (walked (limits_at q s) q s [])
   unfolding limits reached_histories
@@ -128,24 +131,60 @@ module _ (tree : Tree) (support : MarkedSupport) (prices : List ℤ) (scale : �
       rows_kept (λ history. record { west = west; history = history; counts = row_counts reading history })
       (λ history. is_reached q s west history && has_row reading history) (reached_histories q s)
 
-  -- a class layout more
-  pub rows_more : (old now : List DefenceRow) (index : ℕ) (west : Counts) → index < length (layouts_of q)
-      → west ≡ counts_at q index
-      → old ≡ flat_map (defence_rows_in q s prices scale) (take index (layouts_of q))
-      → now ≡ old ++ walked (their_row q s west (defence_reading q s prices scale west)) q s []
-      → now ≡ flat_map (defence_rows_in q s prices scale) (take (index + 1) (layouts_of q))
-  rows_more old now index west below is so_far more =
-      more
-      ∙ ap (λ (w : Counts). old ++ walked (their_row q s w (defence_reading q s prices scale w)) q s []) is
-      ∙ ap (λ (l : List DefenceRow). old ++ l)
-      (rows_walked index ∙ sym (append-nil (defence_rows_in q s prices scale (layout_at q index))))
-      ∙ ap (λ (l : List DefenceRow). l ++ flat_map (defence_rows_in q s prices scale) (layout_at q index ∷ [])) so_far
-      ∙ sym (flat_map-append (defence_rows_in q s prices scale) (take index (layouts_of q)) (layout_at q index ∷ []))
-      ∙ ap (flat_map (defence_rows_in q s prices scale)) (sym (take_more (layouts_of q) index ([], 0) below))
+  -- the stops in all class layouts
+  abbrev pub root_stops : (walk : DefenceWalk) (reach : Reach) (history : ClassHistory) (masses : List ℤ)
+      → walk.prices.now ≡ prices
+      → AreReaders tree.layouts.items prices (length tree.layouts.items) walk.readers.now
+      → masses ≡ map (λ (layout : Counts × ℕ). pos layout.1 *ℤ scale) tree.layouts.items → IsReach q s [] reach
+      → history ≡ [] → AreDefenceStops walk reach history 0 masses
+  root_stops walk reach history masses priced readers is reached none = record {
+    question = q;
+    support = s;
+    told = [];
+    reached = reached;
+    here = sym none;
+    long = ap (λ (l : List ℤ). length l) priced ∙ case.long;
+    rows = all_limits;
+    many = ap (λ (l : List ℤ). length l) is
+        ∙ length-map tree.layouts.items (λ (layout : Counts × ℕ). pos layout.1 *ℤ scale) ∙ sym readers.long;
+    each = λ index reader mass below.
+        let listed : index < length tree.layouts.items = subst (λ (n : ℕ). index < n) readers.long below in
+        let at = readers.each index reader listed in
+        root_stop (get_or walk.readers.now index reader) reach history (get_or masses index mass) index
+        (subst (λ (l : List (Counts × ℕ)). index < length l) case.grown.layouts listed) at.priced at.at
+        (at.west ∙ ap (λ (l : List (Counts × ℕ)). (get_or l index ([], 0)).0) case.grown.layouts) reached
+        (ap (λ (l : List ℤ). get_or l index mass) is
+        ∙ get_or-map (λ (layout : Counts × ℕ). pos layout.1 *ℤ scale) tree.layouts.items index ([], 0) mass listed
+        ∙ ap (λ (l : List (Counts × ℕ)). pos (get_or l index ([], 0)).1 *ℤ scale) case.grown.layouts) none;
+  }
 
-  -- all of them
-  pub rows_all : (rows : List DefenceRow) (index : ℕ) → length (layouts_of q) ≤ index
-      → rows ≡ flat_map (defence_rows_in q s prices scale) (take index (layouts_of q))
-      → rows ≡ flat_map (defence_rows_in q s prices scale) (layouts_of q)
-  rows_all rows index past is =
-      is ∙ ap (flat_map (defence_rows_in q s prices scale)) (take_all index (layouts_of q) past)
+  -- the rows of all class layouts
+  pub all_rows : (walk : DefenceWalk) (reach : Reach) (history : ClassHistory) (masses : List ℤ)
+      → walk.prices.now ≡ prices
+      → AreReaders tree.layouts.items prices (length tree.layouts.items) walk.readers.now
+      → masses ≡ map (λ (layout : Counts × ℕ). pos layout.1 *ℤ scale) tree.layouts.items → IsReach q s [] reach
+      → history ≡ [] → (old new : List RowList) → length new ≡ length old
+      → AreEmptyLists (length tree.layouts.items) old
+      → AreRead walk reach history 0 masses old new
+      → flat_map rows_of new ≡ flat_map (defence_rows_in q s prices scale) (layouts_of q)
+  all_rows walk reach history masses priced readers is reached none old new same empty read =
+      let long = ap (λ (l : List (Counts × ℕ)). length l) case.grown.layouts in
+      same_pieces rows_of (defence_rows_in q s prices scale) new (layouts_of q)
+      (same ∙ empty.long ∙ long)
+      (λ i d e below.
+      let under : i < length walk.readers.now = omega (arith, below, readers.long, long) in
+      let reader : DefenceReader = some_of walk.readers.now (omega (arith, under)) in
+      let at = readers.each i reader (omega (arith, below, long)) in
+      let west : (get_or walk.readers.now i reader).west.now ≡ counts_at q i =
+      at.west ∙ ap (λ (l : List (Counts × ℕ)). (get_or l i ([], 0)).0) case.grown.layouts in
+      let stops = root_stops walk reach history masses priced readers is reached none in
+      read i reader (pos 0) d under (stops.each i reader (pos 0) under)
+      ∙ ap (λ (l : List DefenceRow). l
+      ++ walked (their_row q s (get_or walk.readers.now i reader).west.now (defence_reading q s
+      (get_or walk.readers.now i reader).prices.now scale (get_or walk.readers.now i reader).west.now)) q s [])
+      (empty.each i d (omega (arith, below, long)))
+      ∙ ap (λ (l : List ℤ). walked (their_row q s (get_or walk.readers.now i reader).west.now (defence_reading q s l
+      scale (get_or walk.readers.now i reader).west.now)) q s []) at.priced
+      ∙ ap (λ (w : Counts). walked (their_row q s w (defence_reading q s prices scale w)) q s []) west
+      ∙ rows_walked i
+      ∙ ap (defence_rows_in q s prices scale) (get_or_default (layouts_of q) i ([], 0) e below))

@@ -1,5 +1,6 @@
 -- What is posted to a draft, step by step (`posted_extends`, `posted_adds`, `paid_more`, `passed_more`, `held_more`).
-use Rattle.std.proofs.Common.{◌≡◌, ℕ, zero, suc, ◌+◌, ◌<◌, ◌≤◌, Bool, true, false, List, [], ◌∷◌, ◌++◌, length, get_or, map}
+use Rattle.std.proofs.Common.{◌≡◌, ℕ, zero, suc, ◌+◌, ◌<◌, ◌≤◌, Bool, true, false, List, [], ◌∷◌, ◌++◌, length, get_or}
+use Rattle.std.proofs.Common.{map}
 use Rattle.std.proofs.Common.{take, refl, sym, ap, ◌∙◌, subst, inl, inr, arith}
 use Rattle.std.specs.Prelude.{Contains, ◌==◌, if◌then◌else◌, ℤ, pos, negsuc, ◌+ℤ◌, ◌-ℤ◌, ◌*ℤ◌}
 use Rattle.std.proofs.lemmas.Int.{ints}
@@ -7,7 +8,6 @@ use Rattle.std.proofs.lemmas.List.{take_all, take_more}
 use Rattle.suit_num.proofs.IntegerLaws.{mul_assoc}
 use Rattle.suit_game.proofs.EachElement.{Contains-cons_cases, Contains-first, Contains-later, Contains-nil}
 use Rattle.suit_plans.specs.Properness.{sum_of}
-use Rattle.suit_tableaus.specs.declared.sparse.Entry.{Entry}
 use Rattle.suit_program.specs.declared.draft.Account.{Account}
 use Rattle.suit_program.specs.declared.draft.Draft.{Draft}
 use Rattle.suit_program.specs.declared.draft.Posting.{Posting}

@@ -32,7 +32,8 @@ entry_added count entries column other now sum less here fits is h =
     let entry : Entry = get_or entries count other in
     record {
       is = turned sum now (part_of entry column) (sum_in (take count entries) column)
-          (is ∙ ap (λ (z : ℤ). now +ℤ z) (sym (cond-true (column == entry.column) entry.number (pos 0) (eq-eqb column entry.column (sym here))))) h.is
+          (is ∙ ap (λ (z : ℤ). now +ℤ z) (sym (cond-true (column == entry.column) entry.number (pos 0)
+          (eq-eqb column entry.column (sym here))))) h.is
           ∙ sym (sum_in_more entries count other column less);
       small = rw is (grown now entry.number count h.small fits);
     }

@@ -1,8 +1,9 @@
 -- The accounts that a turn of the defence hands on: those of the class layouts in which its moves are reached
 -- (`answered_are`), which share out what is handed on (`answered_owed`).
-use Rattle.std.proofs.Common.{◌≡◌, ℕ, zero, suc, ◌+◌, ◌<◌, ◌≤◌, Bool, true, false, cond, List, [], ◌∷◌, ◌++◌, length, map}
+use Rattle.std.proofs.Common.{◌≡◌, ℕ, suc, ◌+◌, ◌<◌, ◌≤◌, Bool, true, false, cond, List, [], ◌∷◌, ◌++◌, length}
+use Rattle.std.proofs.Common.{map}
 use Rattle.std.proofs.Common.{refl, sym, ap, ◌∙◌, subst, inl, inr, arith}
-use Rattle.std.specs.Prelude.{Contains, filter, if◌then◌else◌, nat_lt, ℤ, pos, negsuc, ◌≤ℤ◌}
+use Rattle.std.specs.Prelude.{Contains, filter, if◌then◌else◌, nat_lt, ℤ, negsuc}
 use Rattle.std.specs.List.{AllByRecursion}
 use Rattle.std.proofs.lemmas.Bool.{and_parts, false≢true}
 use Rattle.std.proofs.lemmas.Int.{ints}
@@ -24,14 +25,14 @@ use Rattle.suit_program.specs.declared.draft.Account.{Account}
 use Rattle.suit_program.specs.Drafts.{IsFit, credit}
 use Rattle.suit_program.specs.Points.{Point}
 use Rattle.suit_program.specs.Programs.{Answered, answered_limits}
-use Rattle.suit_program.specs.Reaches.{reached_indices}
 use Rattle.suit_program.specs.Supports.{Support, declarer_chooses, defence_chooses, legal_moves, next_moves}
 use Rattle.suit_program.specs.Supports.{supported_moves}
-use Rattle.suit_program.specs.DraftWalks.{AnswerView, AreAccounts, advanced, answered_by, answered_rows, layout_of, opened}
+use Rattle.suit_program.specs.DraftWalks.{AnswerView, AreAccounts, advanced, answered_by, answered_rows, layout_of}
+use Rattle.suit_program.specs.DraftWalks.{opened}
 use Rattle.suit_program.specs.DraftWalks.{owed, place_in}
 use Rattle.suit_program.specs.Worths.{worth_at}
 use Rattle.suit_program.proofs.AnsweredTurns.{handed, some_legal}
-use Rattle.suit_program.proofs.ReachedAccounts.{IsThere, account_there, indices_next, map_filter, map_twice}
+use Rattle.suit_program.proofs.ReachedAccounts.{account_there, indices_next, map_twice}
 use Rattle.suit_program.proofs.SupportedTurns.{Ended, Forced, Own, Theirs, TurnAt, turn_at}
 use Rattle.suit_program.proofs.TreeSums.{next_held}
 use Rattle.suit_program.proofs.WalkSums.{shared_out}
@@ -214,7 +215,8 @@ module _ (question : Question) (support : Support) (history : List ClassMove) wh
         let answers : List AnswerView = opened question support history rows accounts in
         let all : List ClassMove = next_moves question support history in
         let worth : ClassMove → Account → ℤ = λ move account.
-        credit row account (worth_at question support point (counts_at question account.index) (history ++ move ∷ [])) in
+        credit row account (worth_at question support point (counts_at question account.index) (history ++ move ∷ []))
+        in
         let g : ClassMove → AnswerView → ℤ = λ move answer. worth move (advanced move answer) in
         let listed : AllByRecursion (λ (answer : AnswerView). filter (is_among answer.1) all ≡ answer.1) answers =
         opened_each (λ (answer : AnswerView). filter (is_among answer.1) all ≡ answer.1) accounts rows

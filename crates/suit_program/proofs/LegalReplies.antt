@@ -1,14 +1,13 @@
 -- The class histories at which best replies have a choice go past no decided position (`choices_past`), so that their
 -- moves stand in the tree.
-use Rattle.std.proofs.Common.{◌≡◌, ℕ, zero, suc, Bool, true, false, List, [], ◌∷◌, ◌++◌, refl, sym, ap, ◌∙◌, subst, All}
+use Rattle.std.proofs.Common.{◌≡◌, ℕ, zero, suc, Bool, false, List, [], ◌∷◌, ◌++◌, sym, ap, ◌∙◌, subst}
 use Rattle.std.specs.Prelude.{◌&&◌, Contains, length, filter, if◌then◌else◌}
 use Rattle.std.specs.List.{AllByRecursion, range_with_len}
 use Rattle.std.proofs.lemmas.List.{append-nil, append_assoc}
-use Rattle.suit_cards.specs.Cards.{Counts}
 use Rattle.suit_game.specs.declared.question.Question.{Question}
 use Rattle.suit_game.specs.Validity.{IsValid}
 use Rattle.suit_game.proofs.DistinctElements.{each_flat_map}
-use Rattle.suit_game.proofs.EachElement.{Contains-map_from, Contains-nil, each_at, each_gives, kept_parts}
+use Rattle.suit_game.proofs.EachElement.{Contains-map_from, each_at, each_gives, kept_parts}
 use Rattle.suit_classes.specs.declared.class_moves.ClassMove.{ClassMove}
 use Rattle.suit_classes.specs.AllowedHistories.{every_move}
 use Rattle.suit_classes.specs.ClassMoves.{ClassHistory}

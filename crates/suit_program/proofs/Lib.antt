@@ -10,6 +10,7 @@ pub mod ColumnWalks
 pub mod CommonDenominators
 pub mod CountedShares
 pub mod DefenceLaws
+pub mod DefenceListSteps
 pub mod DefencePlaces
 pub mod DefenceRoots
 pub mod DefenceTurns

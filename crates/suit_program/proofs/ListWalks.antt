@@ -1,8 +1,9 @@
--- What a walk over a list has kept so far (`kept_one`, `kept_other`) or has still to come to (`kept_on`, `kept_past`).
+-- What a walk over a list has kept so far (`kept_one`, `kept_other`) or has still to come to (`kept_on`, `kept_past`,
+-- `any_on`, `any_past`).
 use Rattle.std.proofs.Common.{◌≡◌, ℕ, suc, ◌+◌, ◌<◌, ◌≤◌, Bool, true, false, cond, List, [], ◌∷◌, ◌++◌, length, get_or}
 use Rattle.std.proofs.Common.{drop, map, take, refl, sym, ap, ◌∙◌, arith}
-use Rattle.std.specs.Prelude.{filter}
-use Rattle.std.specs.List.{range_with_len}
+use Rattle.std.specs.Prelude.{◌||◌, filter}
+use Rattle.std.specs.List.{list_any, range_with_len}
 use Rattle.std.proofs.Math.Seq.{take-suc}
 use Rattle.std.proofs.lemmas.List.Elements.{filter-append}
 use Rattle.std.proofs.lemmas.List.{append-nil, at_drop_all, at_drop_more, map-append}
@@ -25,6 +26,18 @@ kept_past {X} p xs i d below is =
 -- past the end it keeps nothing
 pub kept_end : {X : Type 0} (p : X → Bool) (xs : List X) (i : ℕ) → length xs ≤ i → filter p (drop i xs) ≡ []
 kept_end p xs i past = at_drop_all (filter p) xs i past
+
+-- where a test holds of an element, it holds of one from its index on
+pub any_on : {X : Type 0} (p : X → Bool) (xs : List X) (i : ℕ) (d : X) → i < length xs → true ≡ p (get_or xs i d)
+    → list_any p (drop i xs) ≡ true
+any_on p xs i d below is =
+    at_drop_more (list_any p) xs i d below ∙ ap (λ (b : Bool). b || list_any p (drop (i + 1) xs)) (sym is)
+
+-- one of which it does not hold may be passed over
+pub any_past : {X : Type 0} (p : X → Bool) (xs : List X) (i : ℕ) (d : X) → i < length xs → false ≡ p (get_or xs i d)
+    → list_any p (drop i xs) ≡ list_any p (drop (i + 1) xs)
+any_past p xs i d below is =
+    at_drop_more (list_any p) xs i d below ∙ ap (λ (b : Bool). b || list_any p (drop (i + 1) xs)) (sym is)
 
 take_one : {X : Type 0} (xs : List X) (i : ℕ) (d : X) → i < length xs
     → take (i + 1) xs ≡ take i xs ++ get_or xs i d ∷ []

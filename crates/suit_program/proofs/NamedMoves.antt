@@ -333,8 +333,11 @@ pub placed : (marks : List Mark) (at : ℕ) (d : Mark) (move : ClassMove) → at
 unfolding IsPlaceOf
 placed [] at d move within before is = absurd (omega (arith, within))
 placed (mark ∷ marks) zero d move within before is = is
-placed (mark ∷ marks) (suc at) d move within before is =
-    (before 0 (omega arith), placed marks at d move (omega (arith, within)) (λ k less. before (suc k) (omega (arith, less))) is)
+placed (mark ∷ marks) (suc at) d move within before is = (
+  before 0 (omega arith),
+  placed marks at d move (omega (arith, within))
+      (λ k less. before (suc k) (omega (arith, less))) is,
+)
 
 -- behind marks of which none has it stands one that has
 pub placed_last : (marks sets : List Mark) (at : ℕ) (mark : Mark) (move : ClassMove) → at ≡ length marks

@@ -1,11 +1,11 @@
 -- The moves with which play goes on are those of the nodes below to which it does (`next_told`).
-use Rattle.std.proofs.Common.{◌≡◌, List, map, sym}
+use Rattle.std.proofs.Common.{◌≡◌, map, sym}
 use Rattle.std.specs.Prelude.{filter}
 use Rattle.suit_game.specs.declared.question.Question.{Question}
 use Rattle.suit_classes.specs.ClassMoves.{ClassHistory}
-use Rattle.suit_tree.specs.Nodes.{children_of}
+use Rattle.suit_tree.specs.Nodes.{children_of, move_of}
 use Rattle.suit_program.specs.declared.reach.Reach.{Reach}
-use Rattle.suit_program.specs.Reaches.{IsReach, goes_on, move_of}
+use Rattle.suit_program.specs.Reaches.{IsReach, goes_on}
 use Rattle.suit_program.specs.Supports.{Support, next_moves}
 use Rattle.suit_program.proofs.ReachedMoves.{next_below}
 

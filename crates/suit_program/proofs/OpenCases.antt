@@ -1,12 +1,13 @@
--- What the walk writes at a class history, turn by turn, is what is asked (`decided_case`, `waiting_case`, `passing_case`,
+-- What the walk writes at a class history, turn by turn, is what is asked (`decided_case`, `waiting_case`,
+-- `passing_case`,
 -- `answering_case`).
-use Rattle.std.proofs.Common.{◌≡◌, ℕ, zero, suc, ◌+◌, ◌-◌, ◌<◌, ◌≤◌, Bool, true, false, List, [], ◌∷◌, length, map, refl, sym}
+use Rattle.std.proofs.Common.{◌≡◌, ℕ, ◌+◌, ◌-◌, ◌<◌, ◌≤◌, Bool, true, false, List, [], ◌∷◌, length, map}
+use Rattle.std.proofs.Common.{refl, sym}
 use Rattle.std.proofs.Common.{ap, ◌∙◌, subst, arith}
 use Rattle.std.specs.Prelude.{Contains, ◌==◌, ◌^◌, if◌then◌else◌, pos, ◌-ℤ◌}
 use Rattle.std.specs.List.{flat_map}
 use Rattle.std.proofs.lemmas.Bool.{false≢true}
 use Rattle.std.proofs.lemmas.List.{length-map}
-use Rattle.suit_cards.specs.Cards.{Counts}
 use Rattle.suit_game.proofs.EachElement.{Contains-first}
 use Rattle.suit_classes.specs.declared.class_moves.ClassMove.{ClassMove}
 use Rattle.suit_classes.specs.declared.class_turn.ClassTurn.TheVariants as turn_kinds
@@ -27,8 +28,9 @@ use Rattle.suit_program.specs.Drafts.{Adds, Extends, given_in}
 use Rattle.suit_program.specs.Programs.{Shared, answered_limits, columns_at, held_column, limits_at}
 use Rattle.suit_program.specs.Points.{Passed}
 use Rattle.suit_program.specs.Reaches.{Reached}
-use Rattle.suit_program.specs.Supports.{Support, declarer_chooses, reached_layouts, supported_moves}
-use Rattle.suit_program.specs.DraftWalks.{AreAnswered, IsAsked, IsOpened, accounts_after, answer_seen, answered_by, layout_of}
+use Rattle.suit_program.specs.Supports.{declarer_chooses, reached_layouts, supported_moves}
+use Rattle.suit_program.specs.DraftWalks.{AreAnswered, IsAsked, IsOpened, accounts_after, answer_seen, answered_by}
+use Rattle.suit_program.specs.DraftWalks.{layout_of}
 use Rattle.suit_program.specs.DraftWalks.{mass_after}
 use Rattle.suit_program.proofs.AskedWalks.{room_columns, room_rows, theirs_there, turn_same}
 use Rattle.suit_program.proofs.DraftSteps.{paid}

@@ -1,10 +1,11 @@
 -- The turns of a walk: what is written at each and handed on (`over_opened`, `kept_opened`, `passed_opened`,
 -- `answered_opened`).
-use Rattle.std.proofs.Common.{◌≡◌, ℕ, zero, suc, ◌+◌, ◌<◌, ◌≤◌, Bool, true, false, List, [], ◌∷◌, ◌++◌, length, get_or, map}
+use Rattle.std.proofs.Common.{◌≡◌, ℕ, zero, suc, ◌+◌, ◌<◌, ◌≤◌, Bool, true, false, List, [], ◌∷◌, ◌++◌, length, get_or}
+use Rattle.std.proofs.Common.{map}
 use Rattle.std.proofs.Common.{refl, sym, ap, ◌∙◌, subst, inl, inr, arith}
-use Rattle.std.specs.Prelude.{Contains, ◌==◌, ◌^◌, ◌&&◌, filter, if◌then◌else◌, nat_lt, ℤ, pos, ◌+ℤ◌, ◌-ℤ◌, ◌*ℤ◌}
+use Rattle.std.specs.Prelude.{Contains, ◌==◌, ◌^◌, filter, if◌then◌else◌, ℤ, pos, ◌+ℤ◌, ◌-ℤ◌, ◌*ℤ◌}
 use Rattle.std.specs.List.{flat_map}
-use Rattle.std.proofs.lemmas.Bool.{and_parts, false≢true}
+use Rattle.std.proofs.lemmas.Bool.{false≢true}
 use Rattle.std.proofs.lemmas.Int.{ints}
 use Rattle.std.proofs.lemmas.List.{length-map}
 use Rattle.std.proofs.lemmas.List.Elements.{Contains-get_or, filter_agree}
@@ -29,22 +30,24 @@ use Rattle.suit_program.specs.declared.draft.Draft.{Draft}
 use Rattle.suit_program.specs.declared.turn.Answer.{Answer}
 use Rattle.suit_program.specs.declared.turn.Turn.{Turn}
 use Rattle.suit_program.specs.declared.turn.Turn.TheVariants as turns
-use Rattle.suit_program.specs.Drafts.{Adds, Extends, Given, IsFit, credit, given_in, value_of}
+use Rattle.suit_program.specs.Drafts.{Adds, Extends, Given, credit, given_in, value_of}
 use Rattle.suit_program.specs.Points.{Column, Held, Passed, Point}
 use Rattle.suit_program.specs.Programs.{Answered, Limit, Shared, answered_limits, columns_at, excess, held_column}
 use Rattle.suit_program.specs.Programs.{limits_at, sum_passed}
 use Rattle.suit_program.specs.Reaches.{reached_indices}
-use Rattle.suit_program.specs.Supports.{Support, declarer_chooses, defence_chooses, legal_moves, next_moves}
+use Rattle.suit_program.specs.Supports.{Support, declarer_chooses, defence_chooses, next_moves}
 use Rattle.suit_program.specs.Supports.{reached_layouts, supported_moves}
 use Rattle.suit_program.specs.DraftWalks.{AnswerView, AreAccounts, AreAnswered, AreGiven, IsOpened, accounts_after}
-use Rattle.suit_program.specs.DraftWalks.{answer_seen, answered_by, answered_rows, held_at, held_columns, held_in, layout_of}
+use Rattle.suit_program.specs.DraftWalks.{answer_seen, answered_by, answered_rows, held_at, held_columns, held_in}
+use Rattle.suit_program.specs.DraftWalks.{layout_of}
 use Rattle.suit_program.specs.DraftWalks.{mass_after, opened, owed, told}
 use Rattle.suit_program.specs.Worths.{mass_at, player, worth_at}
 use Rattle.suit_program.proofs.AnsweredTurns.{handed, some_legal, theirs_told}
 use Rattle.suit_program.proofs.HandedAccounts.{answered_are, answered_owed}
-use Rattle.suit_program.proofs.ReachedAccounts.{IsThere, account_there, columns_held, indices_next, rows_answered}
+use Rattle.suit_program.proofs.ReachedAccounts.{account_there, columns_held, indices_next, rows_answered}
 use Rattle.suit_program.proofs.SupportedTurns.{Ended, Forced, Own, Theirs, TurnAt, mass_passed, own_supported, turn_at}
-use Rattle.suit_program.proofs.TurnSteps.{declarer_waits, defence_waits, flat_none, over_next, over_supported, over_turn}
+use Rattle.suit_program.proofs.TurnSteps.{declarer_waits, defence_waits, flat_none, over_next, over_supported}
+use Rattle.suit_program.proofs.TurnSteps.{over_turn}
 use Rattle.suit_program.proofs.TurnSteps.{own_next, reached_short, worth_paid, worth_summed}
 
 -- ---- numbers
@@ -312,7 +315,8 @@ module _ (question : Question) (support : Support) (history : List ClassMove) wh
           else flat_map (held_column question history) (reached_layouts question support history)) chooses in
           let own_limits : limits_at question support history ≡ Shared history ∷ [] =
           ap (λ (b : Bool). if b then Shared history ∷ []
-          else flat_map (answered_limits question support history) (reached_layouts question support history)) chooses in
+          else flat_map (answered_limits question support history) (reached_layouts question support history)) chooses
+          in
           let grown = extends.rows in
           let wide = extends.columns in
           let count = ap (λ (l : List ClassMove). length l) mine_next in

@@ -1,13 +1,12 @@
 -- The walk of a plan's reader from the empty class history on (`start_stop`), and that its rows are those of the plan
 -- (`plan_whole`).
-use Rattle.std.proofs.Common.{◌≡◌, ℕ, ◌+◌, ◌≤◌, Bool, true, false, cond, List, [], ◌∷◌, ◌++◌, length, map, drop, refl}
+use Rattle.std.proofs.Common.{◌≡◌, Bool, true, false, cond, List, [], ◌∷◌, ◌++◌, map, refl}
 use Rattle.std.proofs.Common.{sym, ap}
-use Rattle.std.proofs.Common.{◌∙◌, subst, arith, append-nil}
+use Rattle.std.proofs.Common.{◌∙◌, arith, append-nil}
 use Rattle.std.specs.Prelude.{filter, if◌then◌else◌, ℤ}
 use Rattle.std.specs.List.{flat_map}
 use Rattle.suit_game.specs.declared.question.Question.{Question}
 use Rattle.suit_classes.specs.ClassMoves.{ClassHistory}
-use Rattle.suit_plans.specs.declared.plan.Plan.{Plan}
 use Rattle.suit_plans.specs.declared.plan.Row.{Row}
 use Rattle.suit_tableaus.specs.declared.ends.Optimum.{Optimum}
 use Rattle.suit_tree.specs.declared.tree.Tree.{Tree}
@@ -15,7 +14,6 @@ use Rattle.suit_program.specs.declared.plan_reader.PlanReader.{PlanReader}
 use Rattle.suit_program.specs.declared.reach.Reach.{Reach}
 use Rattle.suit_program.specs.declared.support.Support.{Support as MarkedSupport}
 use Rattle.suit_program.specs.Marks.{support_seen}
-use Rattle.suit_program.specs.Points.{Column}
 use Rattle.suit_program.specs.PlanWalks.{IsPlanStop, reading_of, row_here}
 use Rattle.suit_program.specs.Programs.{columns, columns_at}
 use Rattle.suit_program.specs.Reaches.{IsReach}

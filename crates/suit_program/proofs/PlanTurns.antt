@@ -1,17 +1,16 @@
 -- What stands in the columns of a class history where declarer chooses, as a plan's reader takes it (`turn_told`).
 use Rattle.std.proofs.Common.{◌≡◌, ℕ, zero, suc, ◌+◌, ◌<◌, ◌≤◌, Bool, true, false, List, [], ◌∷◌, ◌++◌, length}
 use Rattle.std.proofs.Common.{get_or, drop}
-use Rattle.std.proofs.Common.{take, map, refl, sym, ap, ◌∙◌, subst, arith, append_assoc, SFits}
-use Rattle.std.specs.Prelude.{All, Option, Some, None, if◌then◌else◌, ℤ, pos, negsuc, ◌+ℤ◌, ◌≤ℤ◌, ◌<ℤ◌, ◌^◌}
+use Rattle.std.proofs.Common.{take, map, refl, sym, ap, ◌∙◌, subst, arith, SFits}
+use Rattle.std.specs.Prelude.{All, Some, None, if◌then◌else◌, ℤ, pos, negsuc, ◌+ℤ◌, ◌≤ℤ◌, ◌^◌}
 use Rattle.std.specs.Prelude.{unsigned_abs}
 use Rattle.std.specs.Int.{w128, ◌∣◌}
 use Rattle.std.specs.List.{AllByRecursion, flat_map}
 use Rattle.std.proofs.lemmas.Int.{ints}
-use Rattle.std.proofs.lemmas.List.{at_drop_more, drop_more, get_or-map, length-append, length-drop, length-map}
+use Rattle.std.proofs.lemmas.List.{at_drop_more, drop_more, get_or-map, length-drop, length-map}
 use Rattle.std.proofs.lemmas.List.{length-take}
 use Rattle.std.proofs.lemmas.List.Elements.{All-from_recursion, Contains-get_or}
 use Rattle.std.proofs.lemmas.Nat.Gcd.{dvd_trans}
-use Rattle.suit_cards.specs.Cards.{Counts}
 use Rattle.suit_num.specs.declared.fraction.Frac.{Frac}
 use Rattle.suit_num.specs.Divisors.{lcm_of}
 use Rattle.suit_num.specs.Narrow.{IsNarrow}
@@ -21,13 +20,12 @@ use Rattle.suit_classes.specs.declared.class_moves.ClassMove.{ClassMove}
 use Rattle.suit_classes.specs.ClassMoves.{ClassHistory}
 use Rattle.suit_plans.specs.Masses.{Shares}
 use Rattle.suit_plans.specs.Properness.{sum_of}
-use Rattle.suit_plans.specs.ReplyLaws.{counts_at}
 use Rattle.suit_tableaus.specs.declared.ends.Optimum.{Optimum}
 use Rattle.suit_tableaus.proofs.CommonDenominators.{common_denominator}
 use Rattle.suit_program.specs.declared.plan_reader.PlanReader.{PlanReader}
 use Rattle.suit_program.specs.declared.reach.Reach.{Reach}
-use Rattle.suit_program.specs.Points.{Column, Held, Passed, Point, point_of, unit_point}
-use Rattle.suit_program.specs.Programs.{columns, columns_at, held_column, program_of, sum_passed}
+use Rattle.suit_program.specs.Points.{Column, Passed, Point, point_of, unit_point}
+use Rattle.suit_program.specs.Programs.{columns, columns_at, held_column, program_of}
 use Rattle.suit_program.specs.PlanWalks.{IsPlanTurn, reading_of, shares_here}
 use Rattle.suit_program.specs.Reaches.{IsReach, reached_indices}
 use Rattle.suit_program.specs.ReadingLaws.{IsReadable}
@@ -42,13 +40,13 @@ use Rattle.suit_program.proofs.ColumnWalks.{own_count}
 use Rattle.suit_program.proofs.CommonDenominators.{abs_positive, any_part}
 use Rattle.suit_program.proofs.DistinctColumns.{columns_are_given}
 use Rattle.suit_program.proofs.KeptWorths.{own_positive, own_within}
-use Rattle.suit_program.proofs.PlanPoints.{IsPartOf, plan_part}
+use Rattle.suit_program.proofs.PlanPoints.{plan_part}
 use Rattle.suit_program.proofs.PointsWithin.{IsWithin}
 use Rattle.suit_program.proofs.ReachedNodes.{index_parts, layout_at, layout_listed}
 use Rattle.suit_program.proofs.ReachedPairs.{IsSomewhere}
 use Rattle.suit_program.proofs.ReachedWalks.{stands_here}
 use Rattle.suit_program.proofs.ReadMasses.{masses_are_read}
-use Rattle.suit_program.proofs.SharedCounts.{AreLow, low_mapped, sum_mapped}
+use Rattle.suit_program.proofs.SharedCounts.{low_mapped, sum_mapped}
 use Rattle.suit_program.proofs.SummedOrders.{le_trans}
 
 -- ---- denominators

@@ -9,13 +9,13 @@ use Rattle.suit_classes.specs.ClassMoves.{ClassHistory}
 use Rattle.suit_plans.specs.declared.plan.Row.{Row}
 use Rattle.suit_plans.specs.Masses.{Shares, count_of}
 use Rattle.suit_tree.specs.declared.node.Node.{Node}
-use Rattle.suit_tree.specs.Nodes.{children_of}
+use Rattle.suit_tree.specs.Nodes.{children_of, move_of}
 use Rattle.suit_program.specs.declared.plan_reader.PlanReader.{PlanReader}
 use Rattle.suit_program.specs.declared.reach.Reach.{Reach}
-use Rattle.suit_program.specs.PlanWalks.{IsPlanStop, IsPlanTurn, reading_of, row_here, row_of_shares, shares_here}
+use Rattle.suit_program.specs.PlanWalks.{IsPlanStop, reading_of, row_here, row_of_shares, shares_here}
 use Rattle.suit_program.specs.Points.{Column}
 use Rattle.suit_program.specs.Programs.{columns, columns_at}
-use Rattle.suit_program.specs.Reaches.{IsReach, goes_on, move_of}
+use Rattle.suit_program.specs.Reaches.{IsReach, goes_on}
 use Rattle.suit_program.specs.Readings.{Reading, has_row, read_mass, read_shares, row_counts}
 use Rattle.suit_program.specs.Shares.{through, wants_row, without_nothing}
 use Rattle.suit_program.specs.Supports.{Support}

@@ -1,6 +1,7 @@
 -- The accounts of the class layouts in which a class history is reached (`accounts_layouts`, `account_there`).
-use Rattle.std.proofs.Common.{◌≡◌, ℕ, ◌<◌, Bool, true, false, cond, List, [], ◌∷◌, ◌++◌, length, get_or, map, refl, sym, ap}
-use Rattle.std.proofs.Common.{◌∙◌, subst, arith}
+use Rattle.std.proofs.Common.{◌≡◌, ℕ, Bool, true, false, cond, List, [], ◌∷◌, ◌++◌, length, get_or, map, refl, sym}
+use Rattle.std.proofs.Common.{ap}
+use Rattle.std.proofs.Common.{◌∙◌, subst}
 use Rattle.std.specs.Prelude.{Contains, ◌&&◌, filter}
 use Rattle.std.specs.List.{flat_map, range_with_len}
 use Rattle.std.proofs.lemmas.List.Elements.{filter_agree}
@@ -13,8 +14,7 @@ use Rattle.suit_classes.specs.declared.class_moves.ClassMove.{ClassMove}
 use Rattle.suit_classes.specs.AllowedHistories.{is_among}
 use Rattle.suit_plans.specs.ReplyLaws.{counts_at}
 use Rattle.suit_program.specs.declared.draft.Account.{Account}
-use Rattle.suit_program.specs.Programs.{held_column, answered_limits, Limit}
-use Rattle.suit_program.specs.Points.{Column}
+use Rattle.suit_program.specs.Programs.{held_column, answered_limits}
 use Rattle.suit_program.specs.Reaches.{reached_indices}
 use Rattle.suit_program.specs.Supports.{Support, is_reached, layouts_of, reached_layouts, supported_moves}
 use Rattle.suit_program.specs.DraftWalks.{AreAccounts, answered_rows, held_columns, layout_of}
@@ -81,7 +81,8 @@ module _ (question : Question) (support : Support) (history : List ClassMove) wh
 -- ---- accounts
 
 -- an account is of a class layout in which a class history is reached
-pub record IsThere (question : Question) (support : Support) (history : List ClassMove) (account : Account) : Type 0 where
+pub record IsThere (question : Question) (support : Support) (history : List ClassMove)
+    (account : Account) : Type 0 where
   pub held : Contains (reached_layouts question support history) (layout_of question account)
   pub listed : Contains (layouts_of question) (layout_of question account)
   pub reached : is_reached question support (counts_at question account.index) history ≡ true

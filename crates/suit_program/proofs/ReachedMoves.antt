@@ -1,13 +1,13 @@
 -- What a walk over reached class histories tells: the moves of the support (`own_kept`, `their_kept`), where it goes on
--- (`goes_in_is`, `child_some`), what it is there (`child_reach`), and that these are the class histories that go on
+-- (`goes_in_is`, `child_goes`, `child_some`), what it is there (`child_reach`), and that these are the class histories that go on
 -- (`next_below`, `histories_below`).
 use Rattle.std.proofs.Common.{◌≡◌, ℕ, zero, suc, ◌+◌, ◌-◌, ◌<◌, ◌≤◌}
 use Rattle.std.proofs.Common.{Bool, true, false, cond, List, [], ◌∷◌, ◌++◌, length}
 use Rattle.std.proofs.Common.{map, refl, sym, ap, ◌∙◌, subst, arith, get_or, Option, inl, inr}
-use Rattle.std.specs.Prelude.{◌==◌, ◌&&◌, ◌||◌, Contains, filter, nat_lt, if◌then◌else◌}
+use Rattle.std.specs.Prelude.{◌&&◌, ◌||◌, Contains, filter, nat_lt, if◌then◌else◌}
 use Rattle.std.specs.List.{flat_map, list_any}
 use Rattle.std.specs.Option.{option_copied}
-use Rattle.std.proofs.lemmas.Bool.{cases_Bool, false≢true, false_from_ne_true, lt-ltb}
+use Rattle.std.proofs.lemmas.Bool.{cases_Bool, false≢true, false_from_ne_true, lt-ltb, ltb-true}
 use Rattle.std.proofs.lemmas.List.{append-nil, append_assoc, length-append, length-map}
 use Rattle.std.proofs.lemmas.List.Elements.{Contains-get_or, filter_agree}
 use Rattle.std.proofs.lemmas.Simd.{map-map}
@@ -32,7 +32,7 @@ use Rattle.suit_plans.proofs.PublicMoves.{some_passing}
 use Rattle.suit_plans.proofs.TurnMoves.{declarers_moves}
 use Rattle.suit_plans.proofs.WhoseTurns.{Declarers, Defences, Over, WhoseTurn, own_turn, their_turn, whose_turn}
 use Rattle.suit_tree.specs.declared.node.Node.{Node}
-use Rattle.suit_tree.specs.Nodes.{children_of, holds_index, is_held, turn_at}
+use Rattle.suit_tree.specs.Nodes.{children_of, holds_index, is_held, move_of, turn_at}
 use Rattle.suit_tree.specs.Trees.{IsTreeAt, allowing, layout_indices, moves_on}
 use Rattle.suit_tree.proofs.HeldMoves.{going_on, held_is, index_goes_on, some_held}
 use Rattle.suit_tree.proofs.MovesOn.{moves_on-parts}
@@ -41,7 +41,7 @@ use Rattle.suit_program.specs.declared.mark.Mark.{Mark}
 use Rattle.suit_program.specs.declared.reach.Reach.{Reach}
 use Rattle.suit_program.specs.declared.reach.ReachedLayout.{ReachedLayout}
 use Rattle.suit_program.specs.Marks.{mark_after, named_on}
-use Rattle.suit_program.specs.Reaches.{IsReach, goes_in, goes_on, layout_after, layout_seen, layouts_after, move_of}
+use Rattle.suit_program.specs.Reaches.{IsReach, goes_in, goes_on, layout_after, layout_seen, layouts_after}
 use Rattle.suit_program.specs.Reaches.{nodes_in, own_has, own_named, reached_indices, their_has, their_named}
 use Rattle.suit_program.specs.Supports.{Support, declarer_chooses, defence_chooses, first_and, histories_from}
 use Rattle.suit_program.specs.Supports.{is_reached, layouts_of, legal_moves, names, next_moves, reached_layouts}
@@ -176,7 +176,8 @@ unfolding IsOnce
 first_kept named [] once = refl
 first_kept named (first ∷ moves) once =
     ap (λ (b : Bool). cond b (first ∷ filter test moves) (filter test moves)) (here (named first))
-    ∙ ap (λ (l : List ClassMove). first ∷ l) (filter_same test named moves (λ move found. later move found (named move)))
+    ∙ ap (λ (l : List ClassMove). first ∷ l) (filter_same test named moves
+    (λ move found. later move found (named move)))
   where
     test : ClassMove → Bool
     test move = named move || same_class_move first move
@@ -190,11 +191,6 @@ first_kept named (first ∷ moves) once =
     later move found false =
         false_from_ne_true (same_class_move first move)
         (λ same. each_at (λ other. first ≡ other → ⊥) moves move once.0 found (same_move_is first move same))
-
--- a number that is not 0
-pub some_from : (n : ℕ) → (n == 0) ≡ false → 0 < n
-some_from zero not = absurd (false≢true (sym not))
-some_from (suc n) not = omega arith
 
 -- ---- a walk at a class history
 
@@ -251,7 +247,8 @@ module _ (question : Question) (support : Support) (history : ClassHistory) (rea
   own_moves_are : is_declarers (class_turn view) ≡ true → map move_of children ≡ legal_moves question [] history
   own_moves_are own =
       let going = (own_turn view own).0 in
-      own_below question is.valid history reach.node is.tree first_index (index_allowed first_index first_held) going own
+      own_below question is.valid history reach.node is.tree first_index
+      (index_allowed first_index first_held) going own
       ∙ declarers_moves view (counts_at question first_index) [] own
       ∙ sym (legal_going question support [] history [] going)
 
@@ -493,26 +490,25 @@ module _ (question : Question) (support : Support) (history : ClassHistory) (rea
       ∙ both_second (is_among every_move move) (is_among all move) (listed_move move)
 
   -- to a node below it goes on where it does in some class layout
-  pub child_some : (child : Node) → Contains children child
+  pub child_goes : (child : Node) → Contains children child
       → goes_on question support history child
-      ≡ nat_lt 0 (length (filter (λ layout. goes_in reach layout child) reach.layouts.items))
-  child_some child below =
+      ≡ list_any (λ layout. goes_in reach layout child) reach.layouts.items
+  child_goes child below =
       next_among (move_of child) ∙ all_among (move_of child)
       ∙ sym (any_same (λ (layout : ReachedLayout). goes_in reach layout child)
       (λ (layout : ReachedLayout). is_among (supported_moves question support (counts_of layout) history)
       (move_of child)) reach.layouts.items (λ layout found. goes_in_is layout found child below))
-      ∙ any_kept (λ (layout : ReachedLayout). goes_in reach layout child) reach.layouts.items
 
-  -- told by the class layouts that are kept
-  pub child_length : (child : Node) → Contains children child → (layouts : List ReachedLayout)
-      → map layout_seen layouts ≡ layouts_after reach child
-      → nat_lt 0 (length layouts) ≡ goes_on question support history child
-  child_length child below layouts after =
+  -- and then the list of these class layouts is not empty
+  pub child_some : (child : Node) → (layouts : List ReachedLayout) → map layout_seen layouts ≡ layouts_after reach child
+      → list_any (λ layout. goes_in reach layout child) reach.layouts.items ≡ true → 0 < length layouts
+  child_some child layouts after goes =
       let kept : List ReachedLayout = filter (λ layout. goes_in reach layout child) reach.layouts.items in
-      ap (nat_lt 0) (sym (length-map layouts layout_seen)
+      ltb-true 0 (length layouts)
+      (ap (nat_lt 0) (sym (length-map layouts layout_seen)
       ∙ ap (λ (l : List (ℕ × Option Mark)). length l) after
       ∙ length-map kept (layout_after (move_of child)))
-      ∙ sym (child_some child below)
+      ∙ sym (any_kept (λ (layout : ReachedLayout). goes_in reach layout child) reach.layouts.items) ∙ goes)
 
   -- ---- a walk there
 

@@ -29,14 +29,14 @@ use Rattle.suit_plans.specs.Masses.{is_declarers}
 use Rattle.suit_plans.specs.ReplyLaws.{counts_at}
 use Rattle.suit_plans.proofs.TurnMoves.{declarers_moves}
 use Rattle.suit_tree.specs.declared.node.Node.{Node}
-use Rattle.suit_tree.specs.Nodes.{children_of, holds_index, is_held, move_to}
+use Rattle.suit_tree.specs.Nodes.{children_of, holds_index, is_held, move_of, move_to}
 use Rattle.suit_tree.specs.Trees.{AllFit, IsTreeAt, allowing, layout_indices, moves_on}
 use Rattle.suit_tree.proofs.CountedNodes.{in_range_below, kept_layouts}
 use Rattle.suit_tree.proofs.FittedNodes.{fitted_node, map_fitted, map_fitted_kept}
 use Rattle.suit_tree.proofs.HeldMoves.{going_on, held_moves, index_goes_on, some_held}
 use Rattle.suit_tree.proofs.MovesOn.{moves_on-parts}
 use Rattle.suit_tree.proofs.NodePaths.{tree_stands}
-use Rattle.suit_program.specs.Reaches.{move_of, reached_indices}
+use Rattle.suit_program.specs.Reaches.{reached_indices}
 use Rattle.suit_program.specs.Supports.{Support, is_reached, layouts_of, reached_layouts}
 use Rattle.suit_program.proofs.ReachedPairs.{reached_allows}
 

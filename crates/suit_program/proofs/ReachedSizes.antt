@@ -15,13 +15,13 @@ use Rattle.suit_classes.specs.ClassMoves.{ClassHistory}
 use Rattle.suit_classes.specs.ClassPlaces.{class_after, class_turn}
 use Rattle.suit_plans.specs.Masses.{is_declarers, is_defences}
 use Rattle.suit_tree.specs.declared.node.Node.{Node}
-use Rattle.suit_tree.specs.Nodes.{children_of}
+use Rattle.suit_tree.specs.Nodes.{children_of, move_of}
 use Rattle.suit_program.specs.declared.reach.Reach.{Reach}
 use Rattle.suit_program.specs.declared.reach.ReachedLayout.{ReachedLayout}
 use Rattle.suit_program.specs.Points.{Held, Passed}
 use Rattle.suit_program.specs.Programs.{Answered, Shared, answered_limits, columns, columns_at, held_column}
 use Rattle.suit_program.specs.Programs.{limits, limits_at, size_of}
-use Rattle.suit_program.specs.Reaches.{IsReach, goes_on, move_of, reached_indices}
+use Rattle.suit_program.specs.Reaches.{IsReach, goes_on, reached_indices}
 use Rattle.suit_program.specs.SupportSizes.{layout_size, size_at, size_from}
 use Rattle.suit_program.specs.Supports.{Support, declarer_chooses, defence_chooses, histories_from, legal_moves}
 use Rattle.suit_program.specs.Supports.{reached_histories, reached_layouts, supported_moves}

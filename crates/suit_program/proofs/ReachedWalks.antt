@@ -17,11 +17,11 @@ use Rattle.suit_game.specs.declared.limits.TheConstants.{MOST_MOVES}
 use Rattle.suit_classes.specs.declared.class_moves.ClassMove.{ClassMove}
 use Rattle.suit_classes.specs.ClassMoves.{ClassHistory}
 use Rattle.suit_tree.specs.declared.node.Node.{Node}
-use Rattle.suit_tree.specs.Nodes.{children_of}
+use Rattle.suit_tree.specs.Nodes.{children_of, move_of}
 use Rattle.suit_tree.specs.Trees.{IsTreeAt}
 use Rattle.suit_program.specs.declared.reach.Reach.{Reach}
-use Rattle.suit_program.specs.Reaches.{IsReach, goes_on, move_of}
-use Rattle.suit_program.specs.Supports.{Support, histories_from, next_moves, reached_histories}
+use Rattle.suit_program.specs.Reaches.{IsReach, goes_on}
+use Rattle.suit_program.specs.Supports.{Support, histories_from, next_moves}
 use Rattle.suit_program.specs.Walks.{StandsIn, walked}
 use Rattle.suit_program.proofs.NextNodes.{next_told}
 

@@ -1,6 +1,6 @@
 -- What the parts of a reading ask of an optimum (`plan_case`, `priced_tree`), and that both make the reading
 -- (`both_read`).
-use Rattle.std.proofs.Common.{◌≡◌, Bool, false, true, length, map, refl, sym, ap, ◌∙◌, subst}
+use Rattle.std.proofs.Common.{◌≡◌, Bool, false, true, length, sym, ap, ◌∙◌, subst}
 use Rattle.std.specs.Prelude.{◌||◌, All, ℤ, pos, ◌≤ℤ◌, ◌<ℤ◌, int_lt}
 use Rattle.std.proofs.Common.{arith, List}
 use Rattle.std.proofs.lemmas.Int.{ints}
@@ -8,16 +8,13 @@ use Rattle.std.proofs.lemmas.List.{length-map}
 use Rattle.suit_num.proofs.IntegerLaws.{int_lt-false}
 use Rattle.suit_game.specs.declared.question.Question.{Question}
 use Rattle.suit_plans.specs.declared.plan.TheConstants.{MOST_DEN}
-use Rattle.suit_plans.specs.declared.plan.Plan.{Plan}
-use Rattle.suit_plans.specs.declared.defence.Defence.{Defence}
 use Rattle.suit_tableaus.specs.declared.ends.Optimum.{Optimum}
 use Rattle.suit_tree.specs.declared.tree.Tree.{Tree}
 use Rattle.suit_program.specs.declared.support.Support.{Support as MarkedSupport}
 use Rattle.suit_program.specs.DefenceWalks.{IsPricedTree}
 use Rattle.suit_program.specs.Marks.{support_seen}
 use Rattle.suit_program.specs.Programs.{columns, limits, program_of, row_of}
-use Rattle.suit_program.specs.ReadOptima.{AreRead, IsOptimumFor, IsPlanCase, IsPlanDen}
-use Rattle.suit_program.specs.ReadingLaws.{defence_read, plan_read}
+use Rattle.suit_program.specs.ReadOptima.{IsOptimumFor, IsPlanCase, IsPlanDen}
 use Rattle.suit_program.specs.Readings.{is_wide, parts_of, plan_den}
 use Rattle.suit_program.specs.Supports.{Support}
 

@@ -3,7 +3,8 @@ use Rattle.std.proofs.Common.{◌≡◌, inl, inr, ℕ, zero, suc, ◌+◌, ◌<
 use Rattle.std.proofs.Common.{take, get_or, map, refl, sym, ap, ◌∙◌, arith, Vec, Global}
 use Rattle.std.specs.Prelude.{set, ◌==◌, filter}
 use Rattle.std.proofs.lemmas.Bool.{cases_eq, eq-eqb, ne_eqb}
-use Rattle.std.proofs.lemmas.List.{append-nil, length-append, length-set, get_or-set_same, get_or-set_other, map-append, take_more}
+use Rattle.std.proofs.lemmas.List.{append-nil, length-append, length-set, get_or-set_same, get_or-set_other, map-append}
+use Rattle.std.proofs.lemmas.List.{take_more}
 use Rattle.std.proofs.lemmas.List.Elements.{filter-append}
 use Rattle.suit_tableaus.specs.declared.sparse.Entry.{Entry}
 use Rattle.suit_program.specs.declared.draft.Posting.{Posting}
@@ -43,7 +44,8 @@ entries_split postings count other row less =
     (filter (λ (posting : Posting). posting.row == row) (take count postings))
     (filter (λ (posting : Posting). posting.row == row) (get_or postings count other ∷ []))
 
-one_here : (posting : Posting) (row : ℕ) → (posting.row == row) ≡ true → entries_of (posting ∷ []) row ≡ posting.entry ∷ []
+one_here : (posting : Posting) (row : ℕ) → (posting.row == row) ≡ true → entries_of (posting ∷ []) row ≡ posting.entry
+    ∷ []
 one_here posting row is = rw is refl
 
 one_other : (posting : Posting) (row : ℕ) → (posting.row == row) ≡ false → entries_of (posting ∷ []) row ≡ []

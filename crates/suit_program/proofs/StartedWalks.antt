@@ -1,5 +1,7 @@
--- The walk from the start: what its accounts owe is the objective, and what is written is the program (`start_written`).
-use Rattle.std.proofs.Common.{◌≡◌, ℕ, zero, suc, ◌+◌, ◌<◌, ◌≤◌, Bool, true, false, List, [], ◌∷◌, length, get_or, map, refl}
+-- The walk from the start: what its accounts owe is the objective, and what is written is the program
+-- (`start_written`).
+use Rattle.std.proofs.Common.{◌≡◌, ℕ, Bool, true, false, List, [], length, get_or, map}
+use Rattle.std.proofs.Common.{refl}
 use Rattle.std.proofs.Common.{sym, ap, ◌∙◌, subst, arith}
 use Rattle.std.specs.Prelude.{◌==◌, if◌then◌else◌, ℤ, pos, ◌+ℤ◌, ◌*ℤ◌}
 use Rattle.std.specs.List.{range_with_len}
@@ -17,7 +19,7 @@ use Rattle.suit_program.specs.Programs.{columns, excess, limits}
 use Rattle.suit_program.specs.Supports.{Support, layouts_of, reached_histories}
 use Rattle.suit_plans.specs.Masses.{mass_from, mass_of}
 use Rattle.suit_program.specs.DraftWalks.{AreGiven, IsWritten, columns_from, limits_from, owed, told}
-use Rattle.suit_program.specs.Worths.{mass_at, objective_at, worth_at}
+use Rattle.suit_program.specs.Worths.{objective_at, worth_at}
 use Rattle.suit_program.proofs.ReachedAccounts.{map_twice}
 use Rattle.suit_program.proofs.ToldPrograms.{range_map}
 

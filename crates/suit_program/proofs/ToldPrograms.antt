@@ -1,12 +1,11 @@
 -- What rows come to at all points tells the program (`costs_told`, `rows_told`).
-use Rattle.std.proofs.Common.{◌≡◌, ◌≢◌, ℕ, zero, suc, ◌+◌, ◌<◌, ◌≤◌, Bool, true, false, List, [], ◌∷◌, length, get_or, map}
-use Rattle.std.proofs.Common.{refl, sym, ap, ◌∙◌, subst, inl, inr, arith}
-use Rattle.std.specs.Prelude.{Contains, ◌==◌, filter, if◌then◌else◌, ℤ, pos, neg_ℤ, ◌+ℤ◌, ◌-ℤ◌, ◌*ℤ◌}
+use Rattle.std.proofs.Common.{◌≡◌, ℕ, zero, suc, ◌+◌, ◌<◌, ◌≤◌, Bool, true, false, List, [], ◌∷◌, length, get_or}
+use Rattle.std.proofs.Common.{map}
+use Rattle.std.proofs.Common.{refl, sym, ap, ◌∙◌, subst, arith}
+use Rattle.std.specs.Prelude.{◌==◌, filter, if◌then◌else◌, ℤ, pos, neg_ℤ, ◌+ℤ◌, ◌-ℤ◌, ◌*ℤ◌}
 use Rattle.std.specs.List.{range_with_len}
 use Rattle.std.proofs.lemmas.Bool.{cond-false, cond-true, eq-eqb, ne_eqb}
 use Rattle.std.proofs.lemmas.Int.{ints}
-use Rattle.std.proofs.lemmas.List.{length-map}
-use Rattle.std.proofs.lemmas.List.Elements.{Contains-get_or}
 use Rattle.suit_num.proofs.IntegerLaws.{mul-neg_left}
 use Rattle.suit_game.specs.declared.question.Question.{Question}
 use Rattle.suit_plans.specs.Properness.{sum_of}
@@ -14,12 +13,12 @@ use Rattle.suit_plans.proofs.NumberSums.{sum_kept}
 use Rattle.suit_tableaus.specs.declared.program.ProgramRow.{ProgramRow}
 use Rattle.suit_tableaus.specs.declared.sparse.Entry.{Entry}
 use Rattle.suit_tableaus.specs.Points.{dot, number_at}
-use Rattle.suit_tableaus.specs.Sparse.{dense_entries, part_of, sum_in}
+use Rattle.suit_tableaus.specs.Sparse.{dense_entries, sum_in}
 use Rattle.suit_tableaus.proofs.DotProducts.{dot_one, dot_zero}
 use Rattle.suit_program.specs.declared.draft.Draft.{Draft}
 use Rattle.suit_program.specs.declared.draft.Posting.{Posting}
-use Rattle.suit_program.specs.Drafts.{Given, entries_of, entries_value, entry_value, posted, value_of}
-use Rattle.suit_program.specs.Points.{Column, Point, given_to, no_point, point_of, unit_point}
+use Rattle.suit_program.specs.Drafts.{Given, entries_of, entries_value, entry_value, value_of}
+use Rattle.suit_program.specs.Points.{Column, Point, no_point, point_of, unit_point}
 use Rattle.suit_program.specs.Programs.{Limit, columns, excess, limits, program_of, row_of}
 use Rattle.suit_program.specs.Supports.{Support}
 use Rattle.suit_program.specs.DraftWalks.{AreGiven, told}
@@ -176,7 +175,8 @@ module _ (question : Question) (support : Support) (one : ℕ)
   column_told entries f tells numbers bound is index below column =
       sum_in_value entries index
       ∙ tells (point_of all (unit index) (pos 0)) (unit index) (units_given index below column)
-      (cond-false (index == one) (pos 1) (pos 0) (ne_eqb index one (λ (e : index ≡ one). omega (arith, e, below, past))))
+      (cond-false (index == one) (pos 1) (pos 0)
+      (ne_eqb index one (λ (e : index ≡ one). omega (arith, e, below, past))))
       ∙ is (unit index) (pos 0)
       ∙ left (dot numbers (unit index)) bound
       ∙ unit_dot numbers index

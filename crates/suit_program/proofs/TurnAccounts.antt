@@ -1,5 +1,7 @@
--- The accounts after a move of the defence, answer by answer (`answered_more`, `answered_past`), and the places of moves.
-use Rattle.std.proofs.Common.{◌≡◌, ℕ, zero, suc, ◌+◌, ◌<◌, ◌≤◌, Bool, true, false, cond, List, [], ◌∷◌, ◌++◌, length, get_or}
+-- The accounts after a move of the defence, answer by answer (`answered_more`, `answered_past`), and the places of
+-- moves.
+use Rattle.std.proofs.Common.{◌≡◌, ℕ, zero, suc, ◌+◌, ◌<◌, ◌≤◌, Bool, true, false, cond, List, [], ◌∷◌, ◌++◌, length}
+use Rattle.std.proofs.Common.{get_or}
 use Rattle.std.proofs.Common.{map, take, drop, refl, sym, ap, ◌∙◌, subst, append-nil, drop-cons, zero-add, arith}
 use Rattle.std.specs.Prelude.{Contains, filter, if◌then◌else◌}
 use Rattle.std.proofs.lemmas.List.{map-append, take_more}
@@ -38,7 +40,8 @@ module _ (move : ClassMove) where
       ap so_far (take_more answers index answer below
       ∙ ap (λ (a : Answer). take index answers ++ a ∷ []) (sym is))
       ∙ one_more (take index answers) answer
-      ∙ ap (λ (b : Bool). so_far (take index answers) ++ map (advanced move) (cond b (answer_seen answer ∷ []) [])) among
+      ∙ ap (λ (b : Bool). so_far (take index answers) ++ map (advanced move) (cond b (answer_seen answer ∷ []) []))
+      among
 
   pub answered_past : (answers : List Answer) (index : ℕ) (answer : Answer) → index < length answers
       → answer ≡ get_or answers index answer → is_among answer.moves.items move ≡ false

@@ -1,7 +1,8 @@
--- What a class history is worth by what its moves are worth, and which moves go on from it (`worth_summed`, `own_next`).
-use Rattle.std.proofs.Common.{◌≡◌, ℕ, zero, suc, ◌-◌, ◌≤◌, Bool, true, false, List, [], ◌∷◌, ◌++◌, length, map, refl}
+-- What a class history is worth by what its moves are worth, and which moves go on from it (`worth_summed`,
+-- `own_next`).
+use Rattle.std.proofs.Common.{◌≡◌, ℕ, suc, ◌-◌, ◌≤◌, Bool, true, false, List, [], ◌∷◌, ◌++◌, length, map, refl}
 use Rattle.std.proofs.Common.{sym, ap, ◌∙◌, subst, arith}
-use Rattle.std.specs.Prelude.{Contains, ◌&&◌, filter, if◌then◌else◌, nat_lt, ℤ, pos, ◌*ℤ◌}
+use Rattle.std.specs.Prelude.{Contains, ◌&&◌, filter, nat_lt, ℤ, pos, ◌*ℤ◌}
 use Rattle.std.specs.List.{flat_map}
 use Rattle.std.proofs.lemmas.List.{length-append}
 use Rattle.std.proofs.lemmas.List.Elements.{filter_agree}
@@ -95,7 +96,8 @@ module _ (question : Question) (support : Support) (history : List ClassMove) wh
       (λ move found. supported_going question support west history move found)
     where
       none : (moves : List ClassMove)
-          → ((move : ClassMove) → Contains moves move → class_decided (class_after question history) ≡ false) → moves ≡ []
+          → ((move : ClassMove) → Contains moves move → class_decided (class_after question history) ≡ false) → moves
+          ≡ []
       none [] goes = refl
       none (move ∷ moves) goes = absurd (false≢true (sym (goes move (Contains-first move moves)) ∙ over))
 

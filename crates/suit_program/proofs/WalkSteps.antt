@@ -1,23 +1,24 @@
 -- A walk goes on node by node (`done_more`, `done_past`, `next_parts`, `done_all`).
-use Rattle.std.proofs.Common.{◌≡◌, ℕ, zero, suc, ◌+◌, ◌<◌, ◌≤◌, Bool, true, false, cond, List, [], ◌∷◌, ◌++◌, length, get_or}
-use Rattle.std.proofs.Common.{map, take, drop, refl, sym, ap, ◌∙◌, subst, append-nil, append_assoc, arith}
+use Rattle.std.proofs.Common.{◌≡◌, ℕ, zero, suc, ◌+◌, ◌<◌, ◌≤◌, Bool, true, false, cond, List, [], ◌∷◌, ◌++◌, length}
+use Rattle.std.proofs.Common.{get_or}
+use Rattle.std.proofs.Common.{map, take, drop, refl, sym, ap, ◌∙◌, append-nil, append_assoc, arith}
 use Rattle.std.specs.Prelude.{Contains, filter}
 use Rattle.std.specs.List.{flat_map}
 use Rattle.suit_cards.specs.Cards.{Counts}
 use Rattle.suit_game.specs.declared.question.Question.{Question}
 use Rattle.suit_game.proofs.ListSums.{length_filter-most}
 use Rattle.std.proofs.lemmas.List.{map-append, take-append-drop, take_all, take_more}
-use Rattle.std.proofs.lemmas.List.Elements.{Contains-get_or, filter-append}
+use Rattle.std.proofs.lemmas.List.Elements.{filter-append}
 use Rattle.suit_classes.specs.declared.class_moves.ClassMove.{ClassMove}
 use Rattle.suit_classes.specs.AllowedHistories.{every_move, is_among}
 use Rattle.suit_classes.specs.ClassPlaces.{class_numbers}
 use Rattle.suit_classes.proofs.SameMoves.{among-Contains}
 use Rattle.suit_tree.specs.declared.node.Node.{Node}
-use Rattle.suit_tree.specs.Nodes.{children_of}
+use Rattle.suit_tree.specs.Nodes.{children_of, move_of}
 use Rattle.suit_program.specs.declared.draft.Account.{Account}
 use Rattle.suit_program.specs.declared.draft.Draft.{Draft}
 use Rattle.suit_program.specs.declared.reach.Reach.{Reach}
-use Rattle.suit_program.specs.Reaches.{goes_on, move_of}
+use Rattle.suit_program.specs.Reaches.{goes_on}
 use Rattle.suit_program.specs.Supports.{Support, next_moves, reached_layouts, supported_moves}
 use Rattle.suit_program.specs.DraftWalks.{IsAsked}
 use Rattle.suit_program.proofs.ReachedMoves.{next_below}

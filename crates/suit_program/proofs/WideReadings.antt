@@ -1,6 +1,6 @@
 -- When a reading is too wide (`scale_wide`, `den_wide`, `den_narrow`), and that there are as many parts as columns
 -- (`parts_long`).
-use Rattle.std.proofs.Common.{◌≡◌, ℕ, Bool, true, false, List, length, map, refl, sym, ap, ◌∙◌, subst}
+use Rattle.std.proofs.Common.{◌≡◌, Bool, true, false, List, length, map, refl, sym, ap, ◌∙◌, subst}
 use Rattle.std.specs.Prelude.{◌||◌, ℤ, pos, ◌≤ℤ◌, int_lt}
 use Rattle.std.proofs.Common.{arith}
 use Rattle.std.proofs.lemmas.Int.{ints}
@@ -12,7 +12,7 @@ use Rattle.suit_tableaus.specs.declared.ends.Optimum.{Optimum}
 use Rattle.suit_program.specs.Points.{unit_point}
 use Rattle.suit_program.specs.Programs.{columns, program_of}
 use Rattle.suit_program.specs.ReadOptima.{IsPlanDen}
-use Rattle.suit_program.specs.Readings.{common_den, is_passed, is_wide, parts_of, plan_den}
+use Rattle.suit_program.specs.Readings.{is_passed, is_wide, parts_of, plan_den}
 use Rattle.suit_program.specs.Shares.{common_of}
 use Rattle.suit_program.specs.Supports.{Support}
 use Rattle.suit_program.specs.Worths.{objective_at}

@@ -1,6 +1,7 @@
 -- A turn of the defence, class layout by class layout (`answered_append`, `answered_held`, `answered_kept`).
-use Rattle.std.proofs.Common.{◌≡◌, ℕ, zero, suc, ◌+◌, Bool, true, false, List, [], ◌∷◌, ◌++◌, length, map, refl, sym, ap}
-use Rattle.std.proofs.Common.{◌∙◌, subst, add_assoc, append-nil, arith}
+use Rattle.std.proofs.Common.{◌≡◌, ℕ, suc, ◌+◌, Bool, true, false, List, [], ◌∷◌, ◌++◌, length, map, refl, sym}
+use Rattle.std.proofs.Common.{ap}
+use Rattle.std.proofs.Common.{◌∙◌, subst, append-nil, arith}
 use Rattle.std.specs.Prelude.{◌==◌, if◌then◌else◌, ℤ, pos, negsuc, ◌+ℤ◌}
 use Rattle.std.proofs.lemmas.Int.{ints}
 use Rattle.std.proofs.lemmas.List.{length-append, length-map, map-append}
@@ -13,11 +14,12 @@ use Rattle.suit_plans.specs.ReplyLaws.{counts_at}
 use Rattle.suit_program.specs.declared.draft.Account.{Account}
 use Rattle.suit_program.specs.declared.draft.Draft.{Draft}
 use Rattle.suit_program.specs.declared.turn.Answer.{Answer}
-use Rattle.suit_program.specs.Drafts.{Adds, Extends, Given, credit, in_each, value_of}
+use Rattle.suit_program.specs.Drafts.{Adds, Extends, credit, in_each, value_of}
 use Rattle.suit_program.specs.Points.{Column, Held, Point}
 use Rattle.suit_program.specs.Programs.{Answered, Limit, answered_limits, held_column}
 use Rattle.suit_program.specs.Supports.{Support, defence_chooses, supported_moves}
-use Rattle.suit_program.specs.DraftWalks.{AnswerView, AreAnswered, AreGiven, answer_seen, answered_rows, held_at, held_columns}
+use Rattle.suit_program.specs.DraftWalks.{AnswerView, AreAnswered, AreGiven, answer_seen, answered_rows, held_at}
+use Rattle.suit_program.specs.DraftWalks.{held_columns}
 use Rattle.suit_program.specs.DraftWalks.{held_in, layout_of, opened, told}
 use Rattle.suit_program.proofs.TreeSums.{sum_append}
 use Rattle.suit_program.proofs.WalkSums.{given_append, told_append}

@@ -114,7 +114,8 @@ draft_tells question support draft is past (first ∷ lists) same each costs row
     ∙ ap (map (dense_row (length (columns question support)))) rows_are
     ∙ map_twice (dense_row (length (columns question support)))
     (λ (entries : Vec Entry Global). sparse_row entries.items) lists
-    ∙ maps_same (λ (entries : Vec Entry Global). dense_row (length (columns question support)) (sparse_row entries.items))
+    ∙ maps_same (λ (entries : Vec Entry Global). dense_row (length (columns question support))
+    (sparse_row entries.items))
     (row_of question support (columns question support)) lists (limits question support)
     (omega (arith, same, is.rows)) row in
     ap (λ (l : List ℤ). record { costs = l; rows = map (dense_row (length costs)) rows }) told_costs

@@ -1,7 +1,8 @@
 -- A walk, class history by class history (`passed_none`, `passed_more`, `all_written`).
-use Rattle.std.proofs.Common.{◌≡◌, ℕ, zero, suc, ◌+◌, ◌-◌, ◌<◌, ◌≤◌, Bool, true, false, List, [], ◌∷◌, ◌++◌, length, get_or}
+use Rattle.std.proofs.Common.{◌≡◌, ℕ, zero, suc, ◌-◌, ◌<◌, List, [], ◌∷◌, ◌++◌, length}
+use Rattle.std.proofs.Common.{get_or}
 use Rattle.std.proofs.Common.{map, refl, sym, ap, ◌∙◌, subst, append-nil, arith}
-use Rattle.std.specs.Prelude.{Contains, ℤ, pos, ◌+ℤ◌}
+use Rattle.std.specs.Prelude.{ℤ, pos, ◌+ℤ◌}
 use Rattle.std.specs.List.{flat_map}
 use Rattle.std.proofs.lemmas.Int.{ints}
 use Rattle.std.proofs.lemmas.List.{get_or-append-add, length-append}
@@ -17,7 +18,8 @@ use Rattle.suit_program.specs.Drafts.{Extends, Given, value_of}
 use Rattle.suit_program.specs.Points.{Column, Point}
 use Rattle.suit_program.specs.Programs.{Limit, columns_at, excess, limits_at}
 use Rattle.suit_program.specs.Supports.{Support, histories_from, next_moves}
-use Rattle.suit_program.specs.DraftWalks.{AreGiven, IsOpened, IsWritten, accounts_after, columns_from, limits_from, mass_after}
+use Rattle.suit_program.specs.DraftWalks.{AreGiven, IsOpened, IsWritten, accounts_after, columns_from, limits_from}
+use Rattle.suit_program.specs.DraftWalks.{mass_after}
 use Rattle.suit_program.specs.DraftWalks.{owed, told}
 use Rattle.suit_program.specs.Worths.{mass_at}
 use Rattle.suit_program.proofs.TreeSums.{sum_append}

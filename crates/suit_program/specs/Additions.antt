@@ -10,10 +10,9 @@ use Rattle.suit_plans.specs.Masses.{is_first}
 use Rattle.suit_plans.specs.Orders.{same_class_history}
 use Rattle.suit_tree.specs.declared.node.Node.{Node}
 use Rattle.suit_tree.specs.declared.tree.Tree.{Tree}
-use Rattle.suit_tree.specs.Nodes.{children_of, holds_index}
+use Rattle.suit_tree.specs.Nodes.{children_of, holds_index, move_of}
 use Rattle.suit_program.specs.declared.support.Support.{Support as MarkedSupport}
 use Rattle.suit_program.specs.Marks.{defence_mark, named_on}
-use Rattle.suit_program.specs.Reaches.{move_of}
 
 -- the nodes below the first of some nodes to which a move leads
 unfoldable pub children_by : List Node → ClassMove → List Node

@@ -47,7 +47,8 @@ their_row_of west history mass (Some shares) =
     if wants_row mass shares then record { west = west; history = history; counts = without_nothing shares } ∷ []
     else []
 
--- what reads a defence in a class layout is at a class history that is reached: it holds the prices, and is told the row
+-- what reads a defence in a class layout is at a class history that is reached: it holds the prices, and is told the
+-- row
 -- with which this class history begins, and its mass where the class layout reaches it
 pub record IsDefenceTurn (reader : DefenceReader) (reach : Reach) (row : ℕ) (mass : ℤ) : Type 0 where
   pub question : Question

@@ -1,6 +1,8 @@
--- The walk that writes the program of a support down, by what the rows come to at the points. It serves the contracts of
+-- The walk that writes the program of a support down, by what the rows come to at the points. It serves the contracts
+-- of
 -- private functions alone.
-use Rattle.std.specs.Prelude.{◌≡◌, ⊤, ℕ, zero, suc, ◌+◌, ◌-◌, ◌<◌, ◌≤◌, ◌==◌, ◌^◌, List, [], ◌∷◌, ◌++◌, Contains, map, filter}
+use Rattle.std.specs.Prelude.{◌≡◌, ⊤, ℕ, suc, ◌+◌, ◌-◌, ◌<◌, ◌≤◌, ◌==◌, ◌^◌, List, [], ◌∷◌, ◌++◌, Contains, map}
+use Rattle.std.specs.Prelude.{filter}
 use Rattle.std.specs.Prelude.{if◌then◌else◌, true, length, get_or, ℤ, pos, negsuc, ◌+ℤ◌}
 use Rattle.std.specs.List.{flat_map}
 use Rattle.suit_cards.specs.Cards.{Counts}
@@ -22,7 +24,7 @@ use Rattle.suit_program.specs.declared.reach.ReachedLayout.{ReachedLayout}
 use Rattle.suit_program.specs.declared.turn.Answer.{Answer}
 use Rattle.suit_program.specs.declared.turn.Turn.{Turn}
 use Rattle.suit_program.specs.declared.turn.Turn.TheVariants as turns
-use Rattle.suit_program.specs.Drafts.{Extends, Given, HasRows, IsFit, credit, value_of}
+use Rattle.suit_program.specs.Drafts.{Extends, Given, IsFit, credit, value_of}
 use Rattle.suit_program.specs.Points.{Column, Point}
 use Rattle.suit_program.specs.Programs.{Answered, Limit, Shared, answered_limits, columns_at, excess, held_column}
 use Rattle.suit_program.specs.Programs.{limits_at}

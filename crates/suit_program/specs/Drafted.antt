@@ -16,7 +16,8 @@ use Rattle.suit_program.specs.Worths.{objective_at}
 abbrev pub ONE : ℕ
 ONE = 2 ^ 32 - 1
 
--- a draft has the columns of the program of a support, and its rows behind a first one, which is the objective with what
+-- a draft has the columns of the program of a support, and its rows behind a first one, which is the objective with
+-- what
 -- rests on no column; at each point each row comes to what it says there
 pub record IsDrafted (question : Question) (support : Support) (draft : Draft) : Type 0 where
   pub columns : draft.columns ≡ length (program_columns question support)

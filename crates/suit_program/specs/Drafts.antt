@@ -1,6 +1,7 @@
--- A program while it is written, by what its rows come to at numbers for the columns. It serves the contracts of private
+-- A program while it is written, by what its rows come to at numbers for the columns. It serves the contracts of
+-- private
 -- functions alone.
-use Rattle.std.specs.Prelude.{◌≡◌, ℕ, zero, suc, ◌+◌, ◌<◌, ◌==◌, List, [], ◌∷◌, Contains, map, filter}
+use Rattle.std.specs.Prelude.{◌≡◌, ℕ, zero, suc, ◌+◌, ◌<◌, ◌==◌, List, Contains, map, filter}
 use Rattle.std.specs.Prelude.{if◌then◌else◌, ℤ, pos, negsuc, ◌+ℤ◌, ◌*ℤ◌, ◌≤ℤ◌}
 use Rattle.suit_plans.specs.Properness.{sum_of}
 use Rattle.suit_tableaus.specs.declared.sparse.Entry.{Entry}

@@ -1,5 +1,6 @@
 pub mod Additions
 pub mod AnswerRows
+pub mod DefenceLists
 pub mod DefenceWalks
 pub mod DraftWalks
 pub mod Drafted

@@ -60,7 +60,8 @@ NamesNone mark = (moves : ClassHistory) (move : ClassMove) → named_on (Some ma
 -- two marks name the same, and stand below the same move
 pub record AreAlike (here there : Mark) : Type 0 where
   pub last : last_of here ≡ last_of there
-  pub names : (moves : ClassHistory) (move : ClassMove) → named_on (Some here) moves move ≡ named_on (Some there) moves move
+  pub names : (moves : ClassHistory) (move : ClassMove) → named_on (Some here) moves move
+      ≡ named_on (Some there) moves move
 
 -- one mark names what another does, and a move more
 pub record NamesMore (here there : Mark) (moves : ClassHistory) (move : ClassMove) : Type 0 where

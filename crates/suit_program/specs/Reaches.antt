@@ -1,19 +1,18 @@
 -- What a walk over the tree holds at a class history that play with the moves of a support reaches.
 use Rattle.std.specs.Prelude.{◌≡◌, ℕ, ◌-◌, ◌<◌, ◌&&◌, ◌||◌, Bool, List, ◌++◌, Option, Contains}
 use Rattle.std.specs.Prelude.{length, map, filter, if◌then◌else◌}
-use Rattle.std.specs.Option.{option_copied, unwrap_or}
+use Rattle.std.specs.Option.{option_copied}
 use Rattle.suit_cards.specs.Cards.{Indices}
 use Rattle.suit_game.specs.declared.question.Question.{Question}
 use Rattle.suit_game.specs.declared.limits.TheConstants.{MOST_MOVES}
 use Rattle.suit_game.specs.Validity.{IsValid}
 use Rattle.suit_classes.specs.declared.class_moves.ClassMove.{ClassMove}
-use Rattle.suit_classes.specs.declared.class_moves.ClassMove.TheVariants.{ShowOut}
 use Rattle.suit_classes.specs.AllowedHistories.{is_among}
 use Rattle.suit_classes.specs.ClassMoves.{ClassHistory}
 use Rattle.suit_plans.specs.Masses.{is_declarers, is_first}
 use Rattle.suit_plans.specs.ReplyLaws.{counts_at}
 use Rattle.suit_tree.specs.declared.node.Node.{Node}
-use Rattle.suit_tree.specs.Nodes.{children_of, holds_index, move_to, turn_at}
+use Rattle.suit_tree.specs.Nodes.{children_of, holds_index, move_of, turn_at}
 use Rattle.suit_tree.specs.Trees.{IsTreeAt, layout_indices}
 use Rattle.suit_program.specs.declared.reach.Reach.{Reach}
 use Rattle.suit_program.specs.declared.reach.ReachedLayout.{ReachedLayout}
@@ -53,10 +52,6 @@ abbrev pub Reached : Reach → (Question → Support → ClassHistory → Type 0
 Reached reach Fits = (question : Question) (support : Support) (history : ClassHistory)
     → IsReach question support history reach → Fits question support history
 
--- the move that leads to a node, and showing out at the root
-abbrev pub move_of : Node → ClassMove
-move_of node = unwrap_or (move_to node) ShowOut
-
 -- whether play with the moves of a support goes on to a node below
 abbrev pub goes_on : Question → Support → ClassHistory → Node → Bool
 goes_on question support history child = is_among (next_moves question support history) (move_of child)
@@ -82,7 +77,8 @@ nodes_in reach index = filter (holds_index index) (children_of reach.node)
 -- whether a class layout may go to a node below, by the first move or one that is named
 abbrev pub their_has : Reach → ReachedLayout → Node → Bool
 their_has reach layout child = holds_index layout.index child
-    && (their_named reach layout (move_of child) || is_first (map move_of (nodes_in reach layout.index)) (move_of child))
+    && (their_named reach layout (move_of child) || is_first (map move_of (nodes_in reach layout.index))
+    (move_of child))
 
 -- whether play goes on to a node below in a class layout
 abbrev pub goes_in : Reach → ReachedLayout → Node → Bool

@@ -1,7 +1,7 @@
 -- How the mass of a class history is shared out among the moves of a choice, told of lists alone, for the contracts of
 -- private functions.
 use Rattle.std.specs.Prelude.{◌&&◌, not, Bool, List, [], ◌∷◌, ℕ, Option, Some, None, if◌then◌else◌, ℤ, pos, int_lt}
-use Rattle.std.specs.Prelude.{filter, unsigned_abs}
+use Rattle.std.specs.Prelude.{◌≡◌, ◌<◌, filter, get_or, unsigned_abs}
 use Rattle.std.specs.Int.{◌∣◌}
 use Rattle.std.specs.Ordering.{int_eq}
 use Rattle.suit_num.specs.declared.fraction.Frac.{Frac}
@@ -29,6 +29,12 @@ without_nothing shares = filter (λ (count : ClassMove × ℤ). not (int_eq coun
 abbrev pub through : Option Shares → ℤ → ClassMove → ℤ
 through None mass move = mass
 through (Some shares) mass move = count_of shares move
+
+-- what a move lets through of the first of some masses
+abbrev pub AreThrough : List (Option Shares) → List ℤ → ClassMove → ℕ → List ℤ → Type 0
+AreThrough shares masses move count passed =
+    (index : ℕ) (held : Option Shares) (mass other : ℤ) → index < count
+    → get_or passed index other ≡ through (get_or shares index held) (get_or masses index mass) move
 
 -- a fraction is a whole number of parts of a denominator, and that many are no wide number
 pub record IsPartOfDen (den : ℤ) (part : Frac) : Type 0 where

@@ -88,8 +88,8 @@ impl Draft {
         Ok(())
     }
 
-    /// Writes the columns of so many moves, and a row by which they pass on no more than the mass in a column. It answers
-    /// the first of the columns.
+    /// Writes the columns of so many moves, and a row by which they pass on no more than the mass in a column. It
+    /// answers the first of the columns.
     pub(crate) fn pass(&mut self, mass: u32, moves: u32) -> Result<u32, AllocError>
         requires columns { self.old.columns + moves ≤ 4000 }
         requires rows { self.old.rows ≤ 4000 }

@@ -4,6 +4,7 @@
 mod answer_rows;
 mod columns;
 mod defence_reader;
+mod defence_walk;
 mod denominators;
 mod draft;
 mod drafting;
@@ -21,7 +22,6 @@ mod reach;
 mod reading;
 mod shares;
 mod sizes;
-mod sums;
 mod support;
 #[cfg(test)]
 mod tests;

@@ -1,56 +1,18 @@
 //! The moves that lead to the nodes of a tree, and the class layouts that the nodes hold.
 ghost use Rattle.std.specs.Prelude.{◌≡◌, filter, length, map};
 ghost use Rattle.suit_plans.specs.Masses.{is_declarers, is_defences, is_first};
-ghost use Rattle.suit_tree.specs.Nodes.{holds_index};
+ghost use Rattle.suit_tree.specs.Nodes.{holds_index, move_of};
 ghost use Rattle.suit_program.specs.Additions.{children_at, children_by};
-ghost use Rattle.suit_program.specs.Reaches.{move_of};
 
-use suit_classes::{ClassMove, ClassTurn};
+use suit_classes::ClassMove;
 use suit_tree::Node;
-
-/// Whether declarer is on turn.
-pub(crate) fn is_declarers(turn: ClassTurn) -> bool
-    ensures { result ≡ is_declarers turn }
-{
-    match turn {
-        ClassTurn::Lead | ClassTurn::Declarer(_) => true,
-        ClassTurn::Defence(_) | ClassTurn::Decided => false,
-    }
-}
-
-/// Whether a defender is.
-pub(crate) fn is_defences(turn: ClassTurn) -> bool
-    ensures { result ≡ is_defences turn }
-{
-    match turn {
-        ClassTurn::Defence(_) => true,
-        ClassTurn::Lead | ClassTurn::Declarer(_) | ClassTurn::Decided => false,
-    }
-}
-
-/// Whether a node holds the class layout with an index.
-pub(crate) fn holds(node: &Node, index: u8) -> bool
-    ensures { result ≡ holds_index index node.now }
-{
-    node.layouts().contains(&index)
-}
-
-/// The move that leads to a node, and showing out at the root.
-pub(crate) fn move_of(node: &Node) -> ClassMove
-    ensures { result ≡ move_of node.now }
-{
-    match node.by() {
-        Some(mv) => mv,
-        None => ClassMove::ShowOut,
-    }
-}
 
 /// Whether a move leads to the first of some nodes.
 pub(crate) fn is_first_of(nodes: &[Node], mv: ClassMove) -> bool
     ensures { result ≡ is_first (map move_of nodes.now) mv }
 {
     match nodes {
-        [first, ..] => move_of(first).is_same(mv),
+        [first, ..] => first.mv().is_same(mv),
         [] => false,
     }
 }
@@ -60,8 +22,8 @@ pub(crate) fn is_first_for(nodes: &[Node], index: u8, mv: ClassMove) -> bool
     ensures { result ≡ is_first (map move_of (filter (holds_index index) nodes.now)) mv }
 {
     for node in nodes {
-        if holds(node, index) {
-            return move_of(node).is_same(mv);
+        if node.holds(index) {
+            return node.mv().is_same(mv);
         }
     }
     false
@@ -71,7 +33,7 @@ pub(crate) fn is_first_for(nodes: &[Node], index: u8, mv: ClassMove) -> bool
 pub(crate) fn count_for(nodes: &[Node], index: u8) -> usize
     ensures { result ≡ length (filter (holds_index index) nodes.now) }
 {
-    nodes.iter().filter(|node| holds(node, index)).count()
+    nodes.iter().filter(|node| node.holds(index)).count()
 }
 
 /// The nodes below a class history that goes on from a node.
@@ -90,7 +52,7 @@ fn children_by<'a>(nodes: &'a [Node<'a>], mv: ClassMove) -> &'a [Node<'a>]
     ensures { result.now ≡ children_by nodes.now mv }
 {
     for node in nodes {
-        if move_of(node).is_same(mv) {
+        if node.mv().is_same(mv) {
             return node.children();
         }
     }

@@ -6,7 +6,6 @@ ghost use Rattle.suit_program.specs.Programs.{columns_at};
 ghost use Rattle.suit_program.specs.Walks.{walked};
 
 use super::columns::columns_here;
-use super::node_moves::move_of;
 use super::reach::Reach;
 use super::shares::{scaled_counts, through, top_up, wants_row, without_nothing};
 use std::alloc::{AllocError, Global};
@@ -49,7 +48,7 @@ impl PlanReader<'_> {
         let node = reach.node();
         for child in node.children() {
             if let Some(next) = reach.child(child) {
-                let mv = move_of(child);
+                let mv = child.mv();
                 let passed = through(held, mass, mv);
                 history.push(mv)?;
                 after = self.below(&next, history, after, passed, rows)?;

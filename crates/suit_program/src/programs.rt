@@ -1,5 +1,6 @@
 //! The program of a support.
-ghost use Rattle.std.specs.Prelude.{◌≡◌, ◌<◌, ◌^◌, ℕ, [], Contains, IfOk, length, get_or, map, neg_ℤ, unsigned_abs, Vec};
+ghost use Rattle.std.specs.Prelude.{◌≡◌, ◌<◌, ◌^◌, ℕ, [], Contains, IfOk, length, get_or, map, neg_ℤ, unsigned_abs};
+ghost use Rattle.std.specs.Prelude.{Vec};
 ghost use Rattle.std.specs.Global.{Global};
 ghost use Rattle.suit_tableaus.specs.Sparse.{dense, sum_in};
 ghost use Rattle.suit_tableaus.specs.declared.sparse.Entry.{Entry};
@@ -12,10 +13,11 @@ ghost use Rattle.suit_program.specs.declared.draft.Posting.{Posting};
 
 use super::draft::Posting;
 use super::drafting::{ONE, drafted};
-use super::sums::numbers_of;
 use super::{Memory, Support};
 use std::alloc::{AllocError, Global};
-use suit_tableaus::{Entries, Entry, Numbers, Program, SparseProgram, SparseRow, SparseRows};
+use suit_tableaus::{
+    Entries, Entry, Numbers, Program, SparseProgram, SparseRow, SparseRows, numbers_of,
+};
 use suit_tree::Tree;
 
 /// The program of a support, whose rows name only the columns that they have a part in. Its greatest objective, with

@@ -1,25 +1,25 @@
 //! Walks over what play with the moves of a support reaches.
 ghost use Rattle.std.specs.Prelude.{◌≡◌, ◌∷◌, ◌++◌, [], IfSome, Contains, is_some, map, true};
+ghost use Rattle.std.specs.List.{list_any};
 ghost use Rattle.suit_classes.specs.ClassPlaces.{class_after, class_turn};
 ghost use Rattle.suit_plans.specs.Masses.{is_declarers, is_defences};
 ghost use Rattle.suit_plans.specs.ReplyLaws.{counts_at};
-ghost use Rattle.suit_tree.specs.Nodes.{children_of};
+ghost use Rattle.suit_tree.specs.Nodes.{children_of, move_of};
 ghost use Rattle.suit_tree.specs.Trees.{IsTreeOf};
 ghost use Rattle.suit_program.specs.Marks.{IsGrownTree, support_seen};
 ghost use Rattle.suit_program.specs.Reaches.{IsReach, IsSomeReach, Reached, goes_in, goes_on, layout_seen};
-ghost use Rattle.suit_program.specs.Reaches.{layouts_after, move_of, own_has, reached_indices, their_has};
+ghost use Rattle.suit_program.specs.Reaches.{layouts_after, own_has, reached_indices, their_has};
 ghost use Rattle.suit_program.specs.Supports.{declarer_chooses, defence_chooses, supported_moves};
 ghost use Rattle.suit_game.specs.declared.question.Question.{Question};
 ghost use Rattle.suit_game.specs.Validity.{IsValid};
 
 use super::Support;
 use super::mark::{Mark, mark_after, names_here};
-use super::node_moves::{
-    count_for, holds, is_declarers, is_defences, is_first_for, is_first_of, move_of,
-};
+use super::node_moves::{count_for, is_first_for, is_first_of};
 use arrayvec::ArrayVec;
 use suit_classes::ClassMove;
 use suit_layouts::MOST_CLASS_LAYOUTS;
+use suit_plans::{is_declarers, is_defences};
 use suit_tree::{Node, Tree};
 
 /// As many moves as there are at most.
@@ -96,8 +96,8 @@ impl<'a> Reach<'a> {
     {
         let mut moves = ArrayVec::new();
         for child in self.node.children() {
-            if self.own_has(move_of(child)) {
-                moves.push(move_of(child));
+            if self.own_has(child.mv()) {
+                moves.push(child.mv());
             }
         }
         moves
@@ -123,7 +123,7 @@ impl<'a> Reach<'a> {
         let mut moves = ArrayVec::new();
         for child in self.node.children() {
             if self.their_has(layout, child) {
-                moves.push(move_of(child));
+                moves.push(child.mv());
             }
         }
         moves
@@ -139,16 +139,27 @@ impl<'a> Reach<'a> {
             IsReach question support (history ++ move_of child.now ∷ []) next)) }
         ensures node { IfSome result (λ next. next.node ≡ child.now) }
     {
-        let layouts = self.layouts_after(child);
-        if layouts.is_empty() {
+        if !self.goes_on(child) {
             return None;
         }
         Some(Reach {
             node: *child,
             all: self.all,
-            own: mark_after(self.own, move_of(child)),
-            layouts,
+            own: mark_after(self.own, child.mv()),
+            layouts: self.layouts_after(child),
         })
+    }
+
+    // Whether play goes on to a node below in some class layout. It is asked before the list of these is filled.
+    fn goes_on(&self, child: &Node<'a>) -> bool
+        ensures { result ≡ list_any (λ layout. goes_in self.now layout child.now) self.now.layouts.items }
+    {
+        for layout in self.layouts() {
+            if self.goes_in(layout, child) {
+                return true;
+            }
+        }
+        false
     }
 
     // Whether a move of declarer's is named, or is the first one.
@@ -162,8 +173,8 @@ impl<'a> Reach<'a> {
     fn their_has(&self, layout: &ReachedLayout<'a>, child: &Node<'a>) -> bool
         ensures { result ≡ their_has self.now layout.now child.now }
     {
-        let mv = move_of(child);
-        holds(child, layout.index)
+        let mv = child.mv();
+        child.holds(layout.index)
             && (self.all
                 || names_here(layout.named, mv)
                 || is_first_for(self.node.children(), layout.index, mv))
@@ -174,7 +185,7 @@ impl<'a> Reach<'a> {
         ensures { result ≡ goes_in self.now layout.now child.now }
     {
         if is_declarers(self.node.turn()) {
-            self.own_has(move_of(child))
+            self.own_has(child.mv())
         } else {
             self.their_has(layout, child)
         }
@@ -185,7 +196,7 @@ impl<'a> Reach<'a> {
         requires { IsSomeReach self.now }
         ensures { map layout_seen result.items ≡ layouts_after self.now child.now }
     {
-        let mv = move_of(child);
+        let mv = child.mv();
         let mut after = ArrayVec::new();
         for layout in self.layouts() {
             if self.goes_in(layout, child) {

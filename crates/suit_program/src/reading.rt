@@ -3,7 +3,7 @@ ghost use Rattle.std.specs.Prelude.{◌≡◌, IfErr, IfOk};
 ghost use Rattle.suit_program.specs.ReadOptima.{AreRead, IsEndOf, IsOptimumFor};
 ghost use Rattle.suit_program.specs.Marks.{support_seen};
 
-use super::defence_reader::read_defence;
+use super::defence_walk::read_defence;
 use super::plan_den::plan_den;
 use super::plan_of_optimum::optimum_plan;
 use super::{PlanEnd, Support};

@@ -2,7 +2,7 @@
 ghost use Rattle.std.specs.Prelude.{◌≡◌, ◌≤ℤ◌, ◌-ℤ◌, All, IfOk, drop, length, map, not, pos, option_map};
 ghost use Rattle.std.specs.Ordering.{int_eq};
 ghost use Rattle.suit_program.specs.Readings.{filled, scaled, sum_counts, topped_up};
-ghost use Rattle.suit_program.specs.Shares.{IsPartOfDen, counted, through, wants_row, without_nothing};
+ghost use Rattle.suit_program.specs.Shares.{AreThrough, IsPartOfDen, counted, through, wants_row, without_nothing};
 
 use std::alloc::{AllocError, Global};
 use suit_classes::ClassMove;
@@ -125,4 +125,22 @@ pub(crate) fn through(shares: Option<&Counts>, mass: i128, mv: ClassMove) -> i12
         Some(shares) => shares.count_of(mv),
         None => mass,
     }
+}
+
+/// What a move lets through of each of some masses, as they are shared out.
+pub(crate) fn all_through(
+    alloc: Global,
+    shares: &[Option<Counts>],
+    masses: &[i128],
+    mv: ClassMove,
+) -> Result<Vec<i128>, AllocError>
+    requires { length shares.now ≡ length masses.now }
+    ensures long { IfOk result (λ passed. length passed.items ≡ length masses.now) }
+    ensures each { IfOk result (λ passed. AreThrough shares.now masses.now mv (length masses.now) passed.items) }
+{
+    let mut passed = Vec::with_capacity(alloc, masses.len())?;
+    for index in 0..masses.len() {
+        passed.push(through(shares[index].as_ref(), masses[index], mv))?;
+    }
+    Ok(passed)
 }

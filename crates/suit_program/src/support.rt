@@ -18,8 +18,8 @@ use suit_plans::{DeclarerMove, DeclarerMoves, DefenceMove, DefenceMoves};
 use suit_tree::Tree;
 
 /// The moves that play may make: at each turn the first one, and those that are named, of declarer's at class
-/// histories, and of the defence's at class histories in class layouts. A support knows nothing of a tree: which move is
-/// first, and so which moves are in it, is said of the tree that a call is given.
+/// histories, and of the defence's at class histories in class layouts. A support knows nothing of a tree: which move
+/// is first, and so which moves are in it, is said of the tree that a call is given.
 #[derive(Debug, Drop)]
 pub struct Support {
     pub(crate) alloc: Global,

@@ -6,14 +6,13 @@ ghost use Rattle.suit_program.specs.SupportSizes.{IsReachBefore};
 ghost use Rattle.suit_program.specs.DraftWalks.{AreAnswered, IsAnswerAsked, IsAsked, IsOpened, IsWritten};
 
 use super::draft::{Account, Draft};
-use super::node_moves::move_of;
 use super::reach::Reach;
 use super::turn::{Answer, Turn};
 use std::alloc::{AllocError, Global};
 use suit_classes::ClassTurn;
 
-/// Writes the columns and rows at a class history and at all that are reached from it on, in order, where at most so many
-/// moves come. The column of its mass is given, and the accounts of the class layouts in which it is reached.
+/// Writes the columns and rows at a class history and at all that are reached from it on, in order, where at most so
+/// many moves come. The column of its mass is given, and the accounts of the class layouts in which it is reached.
 pub(crate) fn write(
     alloc: Global,
     draft: &mut Draft,
@@ -33,7 +32,7 @@ pub(crate) fn write(
         let Some(next) = reach.child(child) else {
             continue;
         };
-        let after = turn.accounts(alloc, accounts, move_of(child))?;
+        let after = turn.accounts(alloc, accounts, child.mv())?;
         write(
             alloc,
             draft,

@@ -14,7 +14,8 @@ returns-then-chooses-clause-told c = λ question support history is.
     let turn = (their_place question support (counts_at question layout.index) history chooses).0 in
     c.len.ensures.value
     ∙ sym (length-map c.answers.result.items (Answered (counts_at question layout.index) history))
-    ∙ ap (λ (l : List Limit). length l) (sym (answers_chosen question support history layout.index c.answers.result.items
+    ∙ ap (λ (l : List Limit). length l) (sym (answers_chosen question support history layout.index
+    c.answers.result.items
     chooses (c.answers.ensures question support history is c.requires.listed turn)))
 
 pub returns-else-chooses-clause-told : goal.returns-else-chooses-clause-told

@@ -1,13 +1,12 @@
-use Rattle.std.proofs.Common.{rules, ◌≡◌, ◌∙◌, ◌+◌, ◌-◌, ◌<◌, ◌≤◌, ℕ, Bool, true, false, cond, sym, ap, subst, get_or}
+use Rattle.std.proofs.Common.{◌≡◌, ◌∙◌, ◌-◌, ◌≤◌, ℕ, Bool, true, false, cond, sym, ap, subst, get_or}
 use Rattle.std.proofs.Common.{arith, length, map}
 use Rattle.std.proofs.Common.{List, [], ◌∷◌, ◌++◌, append_assoc, append-nil, take}
 use Rattle.suit_classes.specs.ClassMoves.{ClassHistory}
 use Rattle.suit_tree.specs.declared.node.Node.{Node}
-use Rattle.suit_tree.specs.Nodes.{children_of}
+use Rattle.suit_tree.specs.Nodes.{children_of, move_of}
 use Rattle.suit_program.specs.declared.reach.Reach.{Reach}
 use Rattle.suit_program.specs.Programs.{columns_at}
 use Rattle.suit_program.specs.Readings.{is_passed}
-use Rattle.suit_program.specs.Reaches.{goes_on, move_of}
 use Rattle.suit_program.specs.Walks.{IsWalkAt, walked}
 use Rattle.suit_program.proofs.NoNode.{no_node}
 use Rattle.suit_program.proofs.ReachedWalks.{gathered, gathered_first, gathered_last, gathered_more, room_below}

@@ -1,4 +1,4 @@
-use Rattle.std.proofs.Common.{rules, ◌≡◌, ◌∙◌, sym, append-nil}
+use Rattle.std.proofs.Common.{sym, append-nil}
 use Rattle.suit_program.proofs.ColumnWalks.{passed_all, passed_more}
 use Rattle.suit_program.proofs.columns.add_here.Goals as goal
 

@@ -1,4 +1,4 @@
-use Rattle.std.proofs.Common.{rules, ◌≡◌, ◌∙◌, sym, ap, List, length, true, false}
+use Rattle.std.proofs.Common.{◌∙◌, sym, ap, List, length}
 use Rattle.suit_classes.specs.declared.class_moves.ClassMove.{ClassMove}
 use Rattle.suit_program.proofs.ChoicePlaces.{own_place}
 use Rattle.suit_program.proofs.ColumnWalks.{held_count, own_count}

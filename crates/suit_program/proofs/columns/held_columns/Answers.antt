@@ -1,5 +1,4 @@
-use Rattle.std.proofs.Common.{rules, ◌≡◌, ◌∙◌, ◌+◌, ◌≤◌, ◌<◌, ℕ, Bool, true, false, sym, ap, subst, get_or, arith}
-use Rattle.std.proofs.Common.{length}
+use Rattle.std.proofs.Common.{◌∙◌, true, false, sym, ap, subst, arith}
 use Rattle.std.specs.Prelude.{Contains}
 use Rattle.suit_plans.specs.ReplyLaws.{counts_at}
 use Rattle.suit_program.specs.declared.reach.ReachedLayout.{ReachedLayout}

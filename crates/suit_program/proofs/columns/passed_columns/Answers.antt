@@ -1,7 +1,5 @@
-use Rattle.std.proofs.Common.{rules, ◌≡◌, ◌∙◌, sym, ap, List, [], ◌∷◌, ◌++◌, Bool, map, refl}
+use Rattle.std.proofs.Common.{◌∙◌, sym, ap, List, [], ◌++◌, Bool, map, refl}
 use Rattle.std.specs.List.{flat_map}
-use Rattle.suit_classes.specs.ClassMoves.{ClassHistory}
-use Rattle.suit_program.specs.Points.{Column}
 use Rattle.suit_program.specs.Programs.{columns, columns_at}
 use Rattle.suit_program.specs.Readings.{is_passed}
 use Rattle.suit_program.specs.Marks.{support_seen}

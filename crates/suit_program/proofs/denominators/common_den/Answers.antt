@@ -1,10 +1,8 @@
-use Rattle.std.proofs.Common.{rules, ◌≡◌, ◌∙◌, sym, ap, subst, pos, get_or, true, false, ℕ, ℤ, SFits, to_z, of_z}
-use Rattle.std.proofs.Common.{length, arith}
-use Rattle.std.proofs.Common.{◌<◌, ◌≤◌, ◌≤ℤ◌, ◌<ℤ◌, ◌+◌, SomeIff, Some, None, Option, drop, unsigned_abs, Bool, List}
+use Rattle.std.proofs.Common.{rules, ◌≡◌, ◌∙◌, sym, ap, subst, pos, get_or, false, ℕ, ℤ, SFits, to_z, of_z}
+use Rattle.std.proofs.Common.{arith}
+use Rattle.std.proofs.Common.{◌<◌, ◌≤◌, ◌≤ℤ◌, ◌<ℤ◌, ◌+◌, drop, unsigned_abs}
 use Rattle.std.specs.Int.{w128}
 use Rattle.std.proofs.lemmas.Int.{ints, to_z-of_z}
-use Rattle.suit_num.specs.declared.fraction.Frac.{Frac}
-use Rattle.suit_num.specs.Divisors.{lcm_of}
 use Rattle.suit_plans.specs.declared.plan.TheConstants.{MOST_DEN}
 use Rattle.suit_program.specs.Readings.{parts_of}
 use Rattle.suit_program.specs.Shares.{common_of}

@@ -8,13 +8,13 @@ pub returns-then-is_same : goal.returns-then-is_same
 returns-then-is_same c =
     c.children.ensures
     ∙ sym (by_found c.args.nodes.now c.loop-node.node-index no_node c.args.mv c.loop-node-test.true
-    (sym (ap (λ m. same_class_move m c.args.mv) c.move_of.ensures) ∙ sym c.is_same.ensures ∙ c.if-is_same.true))
+    (sym (ap (λ m. same_class_move m c.args.mv) c.mv.ensures) ∙ sym c.is_same.ensures ∙ c.if-is_same.true))
     ∙ c.loop-node.invariant
 
 pub loop-node-preserved : goal.loop-node-preserved
 loop-node-preserved c =
     sym (by_passed c.args.nodes.now c.loop-node.node-index no_node c.args.mv c.loop-node-test.true
-    (sym (ap (λ m. same_class_move m c.args.mv) c.move_of.ensures) ∙ sym c.is_same.ensures ∙ c.if-is_same.false))
+    (sym (ap (λ m. same_class_move m c.args.mv) c.mv.ensures) ∙ sym c.is_same.ensures ∙ c.if-is_same.false))
     ∙ c.loop-node.invariant
 
 pub returns : goal.returns

@@ -1,9 +1,8 @@
 use Rattle.std.proofs.Common.{◌∙◌, sym, ap, List, map}
 use Rattle.suit_classes.specs.ClassMoves.{same_class_move}
 use Rattle.suit_plans.specs.Masses.{is_first}
-use Rattle.suit_tree.specs.Nodes.{holds_index}
+use Rattle.suit_tree.specs.Nodes.{holds_index, move_of}
 use Rattle.suit_tree.specs.declared.node.Node.{Node}
-use Rattle.suit_program.specs.Reaches.{move_of}
 use Rattle.suit_program.proofs.ListWalks.{kept_end, kept_on, kept_past}
 use Rattle.suit_program.proofs.NoNode.{no_node}
 use Rattle.suit_program.proofs.node_moves.is_first_for.Goals as goal
@@ -14,7 +13,7 @@ returns-then-holds c =
     let index = c.args.index in
     let found = kept_on (holds_index index) nodes c.loop-node.node-index no_node c.loop-node-test.true
     c.if-holds.ensures in
-    c.is_same.ensures ∙ ap (λ m. same_class_move m c.args.mv) c.move_of.ensures
+    c.is_same.ensures ∙ ap (λ m. same_class_move m c.args.mv) c.mv.ensures
     ∙ ap (λ (l : List Node). is_first (map move_of l) c.args.mv) (sym found ∙ c.loop-node.invariant)
 
 pub loop-node-preserved : goal.loop-node-preserved

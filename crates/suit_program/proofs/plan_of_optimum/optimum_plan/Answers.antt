@@ -1,14 +1,10 @@
-use Rattle.std.proofs.Common.{rules, ◌≡◌, ◌∙◌, ◌+◌, ◌≤◌, sym, ap, subst, List, [], ◌∷◌, ◌++◌, append-nil, refl}
-use Rattle.std.proofs.Common.{length, SFits, to_z}
-use Rattle.std.proofs.Common.{of_z, arith, ℤ, ℕ, drop}
-use Rattle.std.specs.List.{flat_map}
+use Rattle.std.proofs.Common.{rules, ◌∙◌, ap, List, [], ◌++◌}
+use Rattle.std.proofs.Common.{SFits}
 use Rattle.std.specs.Int.{w128}
 use Rattle.std.proofs.lemmas.Int.{to_z-of_z}
-use Rattle.suit_plans.specs.declared.plan.Plan.{Plan}
 use Rattle.suit_plans.specs.declared.plan.Row.{Row}
 use Rattle.suit_program.specs.Marks.{support_seen}
 use Rattle.suit_program.specs.PlanWalks.{reading_of, row_here}
-use Rattle.suit_program.specs.ReadOptima.{IsPlanCase}
 use Rattle.suit_program.specs.Walks.{walked}
 use Rattle.suit_program.proofs.PlanReads.{plan_whole, start_stop}
 use Rattle.suit_program.proofs.plan_of_optimum.optimum_plan.Goals as goal

@@ -26,7 +26,8 @@ returns c = λ case.
     → (get_or lists row other).items ≡ entries_of draft.postings.items row =
     λ row other below. c.in_ok-lists.ensures.each row other below
     ∙ ap (λ (l : List Posting). entries_of l row) c.deref.ensures.value in
-    let costs : c.in_ok-costs.costs.items ≡ dense_entries draft.columns (get_or lists 0 c.remove-objective.result).items =
+    let costs : c.in_ok-costs.costs.items ≡ dense_entries draft.columns
+    (get_or lists 0 c.remove-objective.result).items =
     c.in_ok-costs.ensures
     ∙ ap (dense_entries draft.columns)
     (c.deref-2.ensures.value ∙ ap (λ (v : Vec Entry Global). v.items) c.remove-objective.ensures.value) in

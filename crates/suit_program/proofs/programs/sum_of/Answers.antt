@@ -1,4 +1,5 @@
-use Rattle.std.proofs.Common.{◌≡◌, ◌≤◌, ◌<◌, ◌+◌, ◌*◌, ◌^◌, ℤ, pos, ◌+ℤ◌, get_or, FitsSigned, to_z, of_z, ap, subst, sym, ◌∙◌, rules, arith}
+use Rattle.std.proofs.Common.{◌≡◌, ◌≤◌, ◌<◌, ◌+◌, ◌*◌, ◌^◌, ℤ, pos, ◌+ℤ◌, get_or, FitsSigned, to_z, of_z, ap, subst}
+use Rattle.std.proofs.Common.{sym, ◌∙◌, rules, arith}
 use Rattle.std.specs.Prelude.{unsigned_abs}
 use Rattle.std.specs.Int.{w64, w128}
 use Rattle.std.proofs.lemmas.Int.{to_z-of_z, fits_signed_from_abs}
@@ -33,7 +34,8 @@ loop-index-preserved c =
           ∙ ap (λ (z : ℤ). to_z w128 (of_z w128 (now +ℤ to_z w128 (of_z w128 z)))) same
           ∙ ap (λ (z : ℤ). to_z w128 (of_z w128 (now +ℤ z))) (to_z-of_z w128 entry.number wide)
           ∙ to_z-of_z w128 (now +ℤ entry.number) fits in
-          entry_added index c.args.entries.now c.args.column _ now sum c.loop-index-test.true w.if-entries-index.true few
+          entry_added index c.args.entries.now c.args.column _ now sum c.loop-index-test.true w.if-entries-index.true
+          few
           grew c.loop-index.invariant
       | else-entries-index w ↦
           subst (λ (z : ℤ). IsSummed (index + 1) c.args.entries.now c.args.column z) (sym w.sum-is)

@@ -1,8 +1,7 @@
-use Rattle.std.proofs.Common.{rules, ◌≡◌, ◌∙◌, sym, ap, subst, ℤ, List, SFits, to_z, of_z}
+use Rattle.std.proofs.Common.{rules, ◌∙◌, ap, ℤ, List, SFits, to_z, of_z}
 use Rattle.std.specs.Int.{w128}
 use Rattle.std.proofs.lemmas.Int.{to_z-of_z}
 use Rattle.suit_program.specs.Marks.{support_seen}
-use Rattle.suit_program.specs.ReadOptima.{IsOptimumFor, IsPlanDen}
 use Rattle.suit_program.specs.Readings.{defence_of}
 use Rattle.suit_program.proofs.ReadBoth.{plan_case, priced_tree, same_den}
 use Rattle.suit_program.proofs.reading.plans_of.Goals as goal

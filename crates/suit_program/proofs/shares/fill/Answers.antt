@@ -1,4 +1,4 @@
-use Rattle.std.proofs.Common.{rules, ◌≡◌, ◌-ℤ◌, ◌≤ℤ◌, ◌∙◌, sym, ap, subst, pos, get_or, ℕ, ℤ, SFits, to_z, of_z, length}
+use Rattle.std.proofs.Common.{rules, ◌≡◌, ◌-ℤ◌, ◌≤ℤ◌, ◌∙◌, sym, ap, subst, pos, get_or, ℕ, ℤ, SFits, to_z, of_z}
 use Rattle.std.proofs.Common.{◌<◌}
 use Rattle.std.specs.Int.{w128, int_min}
 use Rattle.std.proofs.lemmas.Int.{to_z-of_z}

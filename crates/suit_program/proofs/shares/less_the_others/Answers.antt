@@ -1,4 +1,4 @@
-use Rattle.std.proofs.Common.{rules, ◌≡◌, ◌-ℤ◌, ◌≤ℤ◌, ◌∙◌, sym, ap, subst, pos, get_or, ℤ, SFits, to_z, of_z, arith}
+use Rattle.std.proofs.Common.{rules, ◌≡◌, ◌-ℤ◌, ◌≤ℤ◌, ◌∙◌, ap, pos, get_or, ℤ, SFits, to_z, of_z, arith}
 use Rattle.std.proofs.Common.{◌+◌, ◌<◌, ℕ}
 use Rattle.std.proofs.Common.{drop, ◌≤◌, length}
 use Rattle.std.specs.Int.{w128}

@@ -1,4 +1,4 @@
-use Rattle.std.proofs.Common.{rules, ◌≡◌, ◌∙◌, sym, ap, subst, pos, get_or, ℕ, ℤ, SFits, to_z, of_z, length, map, ◌<◌}
+use Rattle.std.proofs.Common.{rules, ◌∙◌, sym, ap, subst, ℕ, ℤ, SFits, to_z, of_z, map, ◌<◌}
 use Rattle.std.specs.Int.{w128}
 use Rattle.std.proofs.lemmas.Int.{to_z-of_z}
 use Rattle.std.proofs.lemmas.List.{get_or-map, length-map}

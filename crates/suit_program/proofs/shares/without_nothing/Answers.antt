@@ -1,7 +1,7 @@
-use Rattle.std.proofs.Common.{rules, ◌≡◌, ◌∙◌, sym, ap, pos, get_or, true, false, Bool, cond, SFits, to_z, of_z, ◌++◌}
+use Rattle.std.proofs.Common.{rules, ◌≡◌, ◌∙◌, sym, ap, pos, get_or, true, false, Bool, cond, SFits, ◌++◌}
 use Rattle.std.proofs.Common.{◌+◌}
-use Rattle.std.proofs.Common.{List, [], ◌∷◌, append-nil, take, ℕ, ℤ, length, ◌<◌}
-use Rattle.std.specs.Prelude.{not, filter}
+use Rattle.std.proofs.Common.{[], ◌∷◌, append-nil, take, ℕ, ℤ, length, ◌<◌}
+use Rattle.std.specs.Prelude.{not}
 use Rattle.std.specs.Ordering.{int_eq}
 use Rattle.std.specs.Int.{w128}
 use Rattle.std.proofs.lemmas.Int.{to_z-of_z}

@@ -5,8 +5,7 @@ use Rattle.std.specs.Prelude.{Contains, if◌then◌else◌, min, sum_by}
 use Rattle.std.proofs.lemmas.List.{length-append, take_all}
 use Rattle.std.proofs.lemmas.List.Elements.{Contains-get_or}
 use Rattle.suit_tree.specs.declared.node.Node.{Node}
-use Rattle.suit_tree.specs.Nodes.{children_of}
-use Rattle.suit_program.specs.Reaches.{move_of}
+use Rattle.suit_tree.specs.Nodes.{children_of, move_of}
 use Rattle.suit_program.specs.SupportSizes.{size_at, size_from}
 use Rattle.suit_program.proofs.NoNode.{no_node}
 use Rattle.suit_program.proofs.ReachedSizes.{child_short, child_size, one_below, size_below, sum_one_more}

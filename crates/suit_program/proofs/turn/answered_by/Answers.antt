@@ -1,4 +1,5 @@
-use Rattle.std.proofs.Common.{◌∙◌, ◌+◌, ◌<◌, ◌^◌, ◌++◌, ◌∷◌, [], List, ap, arith, rules, SFits, sym, take, true, false, ℕ, ℤ}
+use Rattle.std.proofs.Common.{◌∙◌, ◌+◌, ◌<◌, ◌^◌, ◌++◌, ◌∷◌, [], List, ap, arith, rules, SFits, sym, take, true, false}
+use Rattle.std.proofs.Common.{ℕ, ℤ}
 use Rattle.std.specs.Int.{w64}
 use Rattle.std.proofs.lemmas.Int.{to_z-of_z}
 use Rattle.std.specs.Prelude.{◌≡◌}

@@ -1,13 +1,14 @@
-use Rattle.std.proofs.Common.{◌≡◌, ◌∙◌, ◌+◌, ◌<◌, ◌≤◌, ◌^◌, ◌++◌, ◌∷◌, [], List, ℕ, ap, arith, drop, false, get_or, length, map, refl}
+use Rattle.std.proofs.Common.{◌≡◌, ◌∙◌, ◌+◌, ◌<◌, ◌≤◌, ◌^◌, ◌++◌, ◌∷◌, [], List, ℕ, ap, arith, drop, false, get_or}
+use Rattle.std.proofs.Common.{length, refl}
 use Rattle.std.proofs.Common.{rules, subst, sym, take, true}
 use Rattle.std.specs.Prelude.{Contains}
 use Rattle.std.proofs.lemmas.List.{length-append}
 use Rattle.std.proofs.lemmas.List.Elements.{Contains-get_or}
 use Rattle.suit_classes.specs.declared.class_moves.ClassMove.{ClassMove}
 use Rattle.suit_tree.specs.declared.node.Node.{Node}
-use Rattle.suit_tree.specs.Nodes.{children_of}
+use Rattle.suit_tree.specs.Nodes.{children_of, move_of}
 use Rattle.suit_program.specs.declared.draft.Account.{Account}
-use Rattle.suit_program.specs.Reaches.{goes_on, move_of}
+use Rattle.suit_program.specs.Reaches.{goes_on}
 use Rattle.suit_program.specs.DraftWalks.{IsWritten, accounts_after, mass_after}
 use Rattle.suit_program.proofs.AskedWalks.{child_asked, go_on, room_rows}
 use Rattle.suit_program.proofs.NoNode.{no_node}
@@ -52,7 +53,7 @@ accounts-requires t c = λ account found.
     let are = opens.after (move_of child)
     (next_contained c.args.draft.now reach c.args.accounts.now case child on) in
     let fit = are.fit account (subst (λ (m : ClassMove).
-    Contains (accounts_after c.loop-child.turn-1 c.args.accounts.now m) account) c.move_of.ensures found) in
+    Contains (accounts_after c.loop-child.turn-1 c.args.accounts.now m) account) c.mv.ensures found) in
     let row = fit.row in
     let rows = opens.extends.rows in
     let room = room_rows c.args.draft.now reach c.args.accounts.now case in
@@ -154,7 +155,7 @@ write-requires t c =
             (next_contained c.args.draft.now reach c.args.accounts.now case child on)
             (c.in-Some.ensures.next case.question case.support case.history case.reached)
             (c.deref.ensures.value ∙ c.in_ok-after.ensures
-            ∙ ap (λ (m : ClassMove). accounts_after c.loop-child.turn-1 c.args.accounts.now m) c.move_of.ensures),
+            ∙ ap (λ (m : ClassMove). accounts_after c.loop-child.turn-1 c.args.accounts.now m) c.mv.ensures),
         record {
           question = below.question;
           support = below.support;
@@ -202,9 +203,10 @@ loop-child-preserved t c = λ case.
     let on : goes_on case.question case.support case.history child ≡ true =
     sym (c.in-Some.ensures.some case.question case.support case.history case.reached) in
     let asked = c.loop-child.invariant case in
-    let before : List ClassMove = done c.args.draft.now reach c.args.accounts.now case (take i (children_of reach.node)) in
+    let before : List ClassMove = done c.args.draft.now reach c.args.accounts.now case
+    (take i (children_of reach.node)) in
     let by = c.deref.ensures.value ∙ c.in_ok-after.ensures
-    ∙ ap (λ (m : ClassMove). accounts_after c.loop-child.turn-1 c.args.accounts.now m) c.move_of.ensures in
+    ∙ ap (λ (m : ClassMove). accounts_after c.loop-child.turn-1 c.args.accounts.now m) c.mv.ensures in
     let below = child_asked c.args.draft.now reach c.args.accounts.now case c.args.mass c.loop-child.turn-1
     c.open.new.draft c.loop-child.draft before
     (done c.args.draft.now reach c.args.accounts.now case (drop (i + 1) (children_of reach.node)))
@@ -217,9 +219,11 @@ loop-child-preserved t c = λ case.
     c.loop-child.draft c.write.new.draft) by
     (subst (λ (n : ℕ). IsWritten case.question case.support (case.history ++ move_of child ∷ []) n c.deref.result.now
     c.loop-child.draft c.write.new.draft)
-    (c.mass.ensures ∙ ap (λ (n : ℕ). mass_after c.loop-child.turn-1 c.args.mass n) asked.2) (c.in_ok-write.ensures below))
+    (c.mass.ensures ∙ ap (λ (n : ℕ). mass_after c.loop-child.turn-1 c.args.mass n) asked.2)
+    (c.in_ok-write.ensures below))
     in
-    let more = done_more c.args.draft.now reach c.args.accounts.now case (children_of reach.node) i child within is on in
+    let more = done_more c.args.draft.now reach c.args.accounts.now case
+    (children_of reach.node) i child within is on in
     let counted = length-append before (move_of child ∷ []) in
     let count = asked.2 in (
       asked.0,

@@ -1,7 +1,7 @@
 use Rattle.std.proofs.Common.{◌≡◌, length, map, take}
 use Rattle.std.specs.Prelude.{filter}
-use Rattle.suit_tree.specs.Nodes.{children_of}
-use Rattle.suit_program.specs.Reaches.{goes_on, move_of}
+use Rattle.suit_tree.specs.Nodes.{children_of, move_of}
+use Rattle.suit_program.specs.Reaches.{goes_on}
 use Rattle.suit_program.specs.DraftWalks.{IsAsked, IsOpened}
 use Rattle.suit_program.proofs.WrittenWalks.{ArePassed}
 use Rattle.suit_program.proofs.walk.+write.Given as goal

@@ -1,6 +1,6 @@
-use Rattle.std.proofs.Common.{◌≡◌, ◌<◌, List, arith, get_or, length, refl, rules, subst, sym}
+use Rattle.std.proofs.Common.{◌≡◌, ◌<◌, List, arith, get_or, length, refl, subst, sym}
 use Rattle.suit_program.specs.declared.reach.ReachedLayout.{ReachedLayout}
-use Rattle.suit_program.proofs.AnsweredLayouts.{layout_keeps, layout_room, layout_writes, some_reach}
+use Rattle.suit_program.proofs.AnsweredLayouts.{layout_keeps, layout_room, layout_writes}
 use Rattle.suit_program.proofs.walk.answer.Goals as goal
 
 pub bounds-layouts-place : goal.bounds-layouts-place

@@ -1,4 +1,4 @@
-use Rattle.std.proofs.Common.{◌+◌, List, [], ◌∷◌, ◌++◌, get_or, pos, refl, subst, sym, take}
+use Rattle.std.proofs.Common.{◌+◌, List, [], ◌∷◌, ◌++◌, get_or, pos, subst, sym, take}
 use Rattle.std.proofs.lemmas.List.{take_all, take_more}
 use Rattle.suit_program.specs.declared.draft.Account.{Account}
 use Rattle.suit_program.specs.declared.turn.Answer.{Answer}

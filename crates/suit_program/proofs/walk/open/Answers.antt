@@ -1,6 +1,5 @@
 use Rattle.std.proofs.Common.{◌≡◌, ◌∙◌, ◌<◌, ◌^◌, List, ap, arith, length, refl, rules, subst, sym, true, ℕ}
 use Rattle.suit_classes.specs.declared.class_moves.ClassMove.{ClassMove}
-use Rattle.suit_classes.specs.declared.class_turn.ClassTurn.{ClassTurn}
 use Rattle.suit_classes.specs.declared.class_turn.ClassTurn.TheVariants as turn_kinds
 use Rattle.suit_plans.specs.Masses.{is_declarers, is_defences}
 use Rattle.suit_tree.specs.declared.node.Node.{Node}

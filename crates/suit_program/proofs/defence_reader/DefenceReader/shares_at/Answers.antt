@@ -8,7 +8,8 @@ use Rattle.suit_classes.specs.declared.class_moves.ClassMove.{ClassMove}
 use Rattle.suit_program.specs.declared.reach.ReachedLayout.{ReachedLayout}
 use Rattle.suit_program.specs.Readings.{filled}
 use Rattle.suit_program.specs.Shares.{counted}
-use Rattle.suit_program.proofs.DefencePlaces.{answers_told, cut_length, first_within, moves_within, place_listed, shares_told}
+use Rattle.suit_program.proofs.DefencePlaces.{answers_told, cut_length, first_within, moves_within, place_listed}
+use Rattle.suit_program.proofs.DefencePlaces.{shares_told}
 use Rattle.suit_program.proofs.DefencePlaces.{waits_told}
 use Rattle.suit_program.proofs.defence_reader.DefenceReader.shares_at.Goals as goal
 

@@ -16,7 +16,8 @@ loop-account-init c = record {
 pub credit-requires-clause-fit : goal.credit-requires-clause-fit
 credit-requires-clause-fit c =
     fit_after c.args.self.now c.loop-account.self _ c.loop-account.invariant.extends
-    (c.requires.fit _ (Contains-get_or c.args.accounts.now c.loop-account.account-index nobody c.loop-account-test.true))
+    (c.requires.fit _ (Contains-get_or c.args.accounts.now c.loop-account.account-index nobody
+    c.loop-account-test.true))
 
 pub loop-account-preserved : goal.loop-account-preserved
 loop-account-preserved c = record {

@@ -1,20 +1,15 @@
-use Rattle.std.proofs.Common.{rules, ◌≡◌, ◌∙◌, ◌+◌, ◌-◌, ◌<◌, ◌≤◌, ℕ, ℤ, Bool, true, false, cond, sym, ap, subst}
-use Rattle.std.proofs.Common.{get_or, arith}
-use Rattle.std.proofs.Common.{List, [], ◌∷◌, ◌++◌, append-nil, append_assoc, length, length-append, take, refl, SFits}
+use Rattle.std.proofs.Common.{rules, ◌≡◌, ◌∙◌, ◌+◌, ◌≤◌, ℕ, true, false, sym, ap, subst}
+use Rattle.std.proofs.Common.{arith}
+use Rattle.std.proofs.Common.{[], ◌∷◌, ◌++◌, append-nil, length, length-append, refl, SFits}
 use Rattle.std.proofs.Common.{to_z}
-use Rattle.std.proofs.Common.{of_z, Option, option_map}
+use Rattle.std.proofs.Common.{of_z, Option}
 use Rattle.std.specs.Int.{w128}
 use Rattle.std.proofs.lemmas.Int.{to_z-of_z}
 use Rattle.suit_classes.specs.ClassMoves.{ClassHistory}
 use Rattle.suit_plans.specs.Masses.{Shares}
-use Rattle.suit_tree.specs.declared.node.Node.{Node}
 use Rattle.suit_tree.specs.Nodes.{children_of}
-use Rattle.suit_program.specs.PlanWalks.{IsPlanStop, reading_of, row_here, shares_here}
-use Rattle.suit_program.specs.Programs.{columns_at}
-use Rattle.suit_program.specs.Reaches.{move_of}
+use Rattle.suit_program.specs.PlanWalks.{IsPlanStop}
 use Rattle.suit_program.specs.Shares.{through}
-use Rattle.suit_program.specs.Walks.{walked}
-use Rattle.suit_program.proofs.NoNode.{no_node}
 use Rattle.suit_program.proofs.PlanTurns.{turn_within}
 use Rattle.suit_program.proofs.PlanWalkSteps.{first_after, first_rows, last_after, last_rows, more_after, more_rows}
 use Rattle.suit_program.proofs.PlanWalkSteps.{next_stop, with_mass}
@@ -60,25 +55,25 @@ below-requires t c =
     let short = room_below turn.question turn.support turn.history c.args.reach.now turn.reached nodes same i
     c.loop-child-test.true in
     let here = stop.here in
-    let pushed : c.push.new.self.items ≡ c.args.history.now.items ++ c.move_of-mv.result ∷ [] =
+    let pushed : c.push.new.self.items ≡ c.args.history.now.items ++ c.mv-mv.result ∷ [] =
     c.in_ok-push.ensures.items
-    ∙ ap (λ (h : ClassHistory). h ++ c.move_of-mv.result ∷ []) c.loop-child.invariant.kept in (
+    ∙ ap (λ (h : ClassHistory). h ++ c.mv-mv.result ∷ []) c.loop-child.invariant.kept in (
       omega (
         arith,
         c.decreases,
         short,
         ap (λ (h : ClassHistory). length h) here,
         ap (λ (h : ClassHistory). length h) pushed,
-        length-append c.args.history.now.items (c.move_of-mv.result ∷ []),
+        length-append c.args.history.now.items (c.mv-mv.result ∷ []),
       ),
       next_stop c.args.self.now c.args.reach.now c.args.history.now.items c.args.column mass stop nodes same i
           c.loop-child-test.true c.in-Some.next
           (c.in-Some.ensures.some turn.question turn.support turn.history turn.reached)
           (c.in-Some.ensures.next turn.question turn.support turn.history turn.reached) c.loop-child.after
-          (c.loop-child.invariant.after stop) c.move_of-mv.result c.move_of-mv.ensures c.in_ok-shares.shares
+          (c.loop-child.invariant.after stop) c.mv-mv.result c.mv-mv.ensures c.in_ok-shares.shares
           (c.in_ok-shares.ensures stop.turn) (to_z w128 (of_z w128 c.through-passed.result))
           (to_z-of_z w128 c.through-passed.result passed ∙ c.through-passed.ensures
-          ∙ ap (λ (o : Option Shares). through o mass c.move_of-mv.result) c.as_ref-held.ensures.value)
+          ∙ ap (λ (o : Option Shares). through o mass c.mv-mv.result) c.as_ref-held.ensures.value)
           c.push.new.self.items pushed,
     )
 
@@ -92,12 +87,12 @@ loop-child-preserved t c =
     elim c.match-child.branch [
       | in-Some+in_ok-push+in_ok-after w ↦
           let passed : SFits w128 w.through-passed.result = search rules in
-          let pushed : w.push.new.self.items ≡ history ++ w.move_of-mv.result ∷ [] =
+          let pushed : w.push.new.self.items ≡ history ++ w.mv-mv.result ∷ [] =
           w.in_ok-push.ensures.items
-          ∙ ap (λ (h : ClassHistory). h ++ w.move_of-mv.result ∷ []) c.loop-child.invariant.kept in
+          ∙ ap (λ (h : ClassHistory). h ++ w.mv-mv.result ∷ []) c.loop-child.invariant.kept in
           record {
             kept = ap (λ v. v.items) w.history-is
-                ∙ one_off history w.below.new.history.items w.pop.new.self.items w.move_of-mv.result _
+                ∙ one_off history w.below.new.history.items w.pop.new.self.items w.mv-mv.result _
                 (w.in_ok-after.ensures.kept ∙ pushed) w.below.new.history.ok.0 w.pop.ensures.rest;
             after = λ stop.
                 let turn = stop.turn in
@@ -105,10 +100,10 @@ loop-child-preserved t c =
                 let next = next_stop c.args.self.now c.args.reach.now history c.args.column mass stop nodes same i
                 c.loop-child-test.true w.in-Some.next goes
                 (w.in-Some.ensures.next turn.question turn.support turn.history turn.reached) c.loop-child.after
-                (c.loop-child.invariant.after stop) w.move_of-mv.result w.move_of-mv.ensures c.in_ok-shares.shares
+                (c.loop-child.invariant.after stop) w.mv-mv.result w.mv-mv.ensures c.in_ok-shares.shares
                 (c.in_ok-shares.ensures stop.turn) (to_z w128 (of_z w128 w.through-passed.result))
                 (to_z-of_z w128 w.through-passed.result passed ∙ w.through-passed.ensures
-                ∙ ap (λ (o : Option Shares). through o mass w.move_of-mv.result) c.as_ref-held.ensures.value)
+                ∙ ap (λ (o : Option Shares). through o mass w.mv-mv.result) c.as_ref-held.ensures.value)
                 w.push.new.self.items pushed in
                 w.after-is
                 ∙ more_after c.args.self.now c.args.reach.now history c.args.column mass stop nodes same i
@@ -120,10 +115,10 @@ loop-child-preserved t c =
                 let next = next_stop c.args.self.now c.args.reach.now history c.args.column mass stop nodes same i
                 c.loop-child-test.true w.in-Some.next goes
                 (w.in-Some.ensures.next turn.question turn.support turn.history turn.reached) c.loop-child.after
-                (c.loop-child.invariant.after stop) w.move_of-mv.result w.move_of-mv.ensures c.in_ok-shares.shares
+                (c.loop-child.invariant.after stop) w.mv-mv.result w.mv-mv.ensures c.in_ok-shares.shares
                 (c.in_ok-shares.ensures stop.turn) (to_z w128 (of_z w128 w.through-passed.result))
                 (to_z-of_z w128 w.through-passed.result passed ∙ w.through-passed.ensures
-                ∙ ap (λ (o : Option Shares). through o mass w.move_of-mv.result) c.as_ref-held.ensures.value)
+                ∙ ap (λ (o : Option Shares). through o mass w.mv-mv.result) c.as_ref-held.ensures.value)
                 w.push.new.self.items pushed in
                 ap (λ v. v.items) w.rows-is
                 ∙ more_rows c.args.self.now c.args.reach.now history c.args.column mass stop nodes same i

@@ -1,4 +1,4 @@
-use Rattle.std.proofs.Common.{rules, ◌≡◌, ◌∙◌, ◌+◌, ◌≤◌, sym, ap, subst, List, length, map, take, drop, ℤ, SFits}
+use Rattle.std.proofs.Common.{rules, ◌∙◌, ◌+◌, ◌≤◌, sym, ap, subst, List, length, map, take, drop, ℤ, SFits}
 use Rattle.std.proofs.Common.{to_z, of_z, ℕ, pos}
 use Rattle.std.specs.Prelude.{All, ◌≤ℤ◌}
 use Rattle.std.specs.Int.{w128}

@@ -1,9 +1,9 @@
 use Rattle.std.proofs.Common.{◌<◌, ◌-◌, List, filter, length, map, ap, ◌∙◌, arith}
 use Rattle.std.proofs.lemmas.List.{take_all}
 use Rattle.suit_tree.specs.declared.node.Node.{Node}
-use Rattle.suit_tree.specs.Nodes.{children_of}
+use Rattle.suit_tree.specs.Nodes.{children_of, move_of}
 use Rattle.suit_tree.proofs.FittedNodes.{few_children}
-use Rattle.suit_program.specs.Reaches.{move_of, their_has}
+use Rattle.suit_program.specs.Reaches.{their_has}
 use Rattle.suit_program.proofs.ReachedMoves.{their_kept}
 use Rattle.suit_program.proofs.reach.Reach.answers.Goals as goal
 

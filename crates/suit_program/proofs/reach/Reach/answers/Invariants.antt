@@ -1,6 +1,6 @@
 use Rattle.std.proofs.Common.{◌≡◌, ◌≤◌, filter, length, map, take}
-use Rattle.suit_tree.specs.Nodes.{children_of}
-use Rattle.suit_program.specs.Reaches.{move_of, their_has}
+use Rattle.suit_tree.specs.Nodes.{children_of, move_of}
+use Rattle.suit_program.specs.Reaches.{their_has}
 use Rattle.suit_program.proofs.reach.Reach.answers.Given as goal
 
 abbrev pub invariant-loop-child : goal.invariant-loop-child

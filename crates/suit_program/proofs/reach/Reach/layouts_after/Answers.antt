@@ -4,7 +4,8 @@ use Rattle.std.proofs.lemmas.List.{length-append, map-append}
 use Rattle.suit_program.specs.declared.mark.Mark.{Mark}
 use Rattle.suit_program.specs.declared.reach.ReachedLayout.{ReachedLayout}
 use Rattle.suit_program.specs.Marks.{mark_after}
-use Rattle.suit_program.specs.Reaches.{goes_in, layout_after, layout_seen, move_of}
+use Rattle.suit_program.specs.Reaches.{goes_in, layout_after, layout_seen}
+use Rattle.suit_tree.specs.Nodes.{move_of}
 use Rattle.suit_program.proofs.ListWalks.{kept_one, kept_other}
 use Rattle.suit_program.proofs.ReachedStart.{reach_few}
 use Rattle.suit_program.proofs.reach.Reach.layouts_after.Goals as goal
@@ -43,7 +44,7 @@ loop-layout-preserved c =
                 (layout_seen made) within c.loop-layout.invariant.kept
                 (w.if-goes_in.ensures ∙ ap goes at)
                 (ap (λ (mark : Option Mark). (item.index, mark)) (w.mark_after.ensures
-                ∙ ap (mark_after (option_copied item.named)) c.move_of-mv.ensures)
+                ∙ ap (mark_after (option_copied item.named)) c.mv-mv.ensures)
                 ∙ ap (layout_after (move_of c.args.child.now)) at)
                 (ap (map layout_seen) now ∙ map-append layout_seen c.loop-layout.after.items (made ∷ []));
             few = omega (

@@ -1,5 +1,6 @@
 use Rattle.std.proofs.Common.{◌≡◌, ◌≤◌, filter, length, map, take}
-use Rattle.suit_program.specs.Reaches.{goes_in, layout_after, layout_seen, move_of}
+use Rattle.suit_program.specs.Reaches.{goes_in, layout_after, layout_seen}
+use Rattle.suit_tree.specs.Nodes.{move_of}
 use Rattle.suit_program.proofs.reach.Reach.layouts_after.Given as goal
 
 abbrev pub invariant-loop-layout : goal.invariant-loop-layout

@@ -3,9 +3,9 @@ use Rattle.std.proofs.lemmas.List.{length-append, take_all}
 use Rattle.suit_classes.specs.declared.class_moves.ClassMove.{ClassMove}
 use Rattle.suit_classes.proofs.MovesOnce.{filter_of_map}
 use Rattle.suit_tree.specs.declared.node.Node.{Node}
-use Rattle.suit_tree.specs.Nodes.{children_of}
+use Rattle.suit_tree.specs.Nodes.{children_of, move_of}
 use Rattle.suit_tree.proofs.FittedNodes.{few_children}
-use Rattle.suit_program.specs.Reaches.{move_of, own_has}
+use Rattle.suit_program.specs.Reaches.{own_has}
 use Rattle.suit_program.proofs.ListWalks.{kept_one, kept_other}
 use Rattle.suit_program.proofs.NoNode.{no_node}
 use Rattle.suit_program.proofs.ReachedMoves.{own_kept}
@@ -36,10 +36,10 @@ loop-child-preserved c =
     elim c.if-own_has.branch [
       | then-own_has w ↦ record {
         kept = kept_one move_of goes nodes i no_node c.loop-child.moves.items c.if-own_has.moves.items
-            w.move_of-then-own_has.result within c.loop-child.invariant.kept
-            (w.if-own_has.ensures ∙ ap (own_has c.args.self.now) c.move_of.ensures
+            w.mv-then-own_has.result within c.loop-child.invariant.kept
+            (w.if-own_has.ensures ∙ ap (own_has c.args.self.now) c.mv.ensures
             ∙ ap (λ (l : List Node). goes (get_or l i no_node)) c.children-child-items.ensures)
-            (w.move_of-then-own_has.ensures
+            (w.mv-then-own_has.ensures
             ∙ ap (λ (l : List Node). move_of (get_or l i no_node)) c.children-child-items.ensures)
             (ap (λ moves. moves.items) w.moves-is ∙ w.push.ensures.items);
         few = omega (
@@ -47,13 +47,13 @@ loop-child-preserved c =
           c.loop-child.invariant.few,
           ap (λ (l : List ClassMove). length l)
               (ap (λ moves. moves.items) w.moves-is ∙ w.push.ensures.items),
-          length-append c.loop-child.moves.items (w.move_of-then-own_has.result ∷ []),
+          length-append c.loop-child.moves.items (w.mv-then-own_has.result ∷ []),
         );
       }
       | else-own_has w ↦ record {
         kept = ap (λ moves. moves.items) w.moves-is
             ∙ kept_other move_of goes nodes i no_node c.loop-child.moves.items within c.loop-child.invariant.kept
-            (w.if-own_has.ensures ∙ ap (own_has c.args.self.now) c.move_of.ensures
+            (w.if-own_has.ensures ∙ ap (own_has c.args.self.now) c.mv.ensures
             ∙ ap (λ (l : List Node). goes (get_or l i no_node)) c.children-child-items.ensures);
         few = omega (
           arith,
