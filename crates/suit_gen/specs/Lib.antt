@@ -1,0 +1,4 @@
+pub mod Deals
+pub mod Draws
+pub mod Naming
+pub mod Records

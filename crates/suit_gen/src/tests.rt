@@ -1,0 +1,29 @@
+use crate::{make, questions};
+use std::test::Fail;
+
+#[test]
+fn makes_a_record(rt: HostRuntime) -> Result<(), Fail> {
+    let text = make(rt.alloc(), 1, 1)?;
+    let want = "AKQ9852,43,either,either,0,0,13,13,0,13,6,2000,200\n";
+    assert_eq!(rt; text.as_slice(), want.as_bytes());
+    Ok(())
+}
+
+#[test]
+fn carries_the_state_on(rt: HostRuntime) -> Result<(), Fail> {
+    let text = make(rt.alloc(), 4_294_967_295, 2)?;
+    let want = "A86,K972,either,either,0,0,13,13,0,13,4,2000,200\n\
+        AKJT2,976,either,either,0,0,13,13,0,13,4,2000,200\n";
+    assert_eq!(rt; text.as_slice(), want.as_bytes());
+    Ok(())
+}
+
+#[test]
+fn questions_are_those_of_the_records(rt: HostRuntime) -> Result<(), Fail> {
+    let made = questions(rt.alloc(), 1, 2)?;
+    assert_eq!(rt; made.len(), 2);
+    assert_eq!(rt; made[0].north.text().as_str(), "AKQ9852");
+    assert_eq!(rt; made[0].south.text().as_str(), "43");
+    assert!(rt; made[0].is_valid());
+    Ok(())
+}
