@@ -1,0 +1,2 @@
+pub mod BoundedExamples
+pub mod FormedRows
