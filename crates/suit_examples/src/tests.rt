@@ -48,7 +48,8 @@ const NINE_CARDS: &str =
 
 /// The text that `weigh` writes of it.
 const NINE_CARDS_WEIGHED: &str =
-    "weights 8\nwest 0 0 : 497420\nwest 0 1 : 1939938\nwest 0 2 : 2116296\nwest 0 3 : 646646\nwest 1 0 : 646646\nwest 1 1 : 2116296\nwest 1 2 : 1939938\nwest 1 3 : 497420\ntotal 10400600\nend\n";
+    "weights 8\nwest 0 0 : 497420\nwest 0 1 : 1939938\nwest 0 2 : 2116296\nwest 0 3 : 646646\n\
+     west 1 0 : 646646\nwest 1 1 : 2116296\nwest 1 2 : 1939938\nwest 1 3 : 497420\ntotal 10400600\nend\n";
 
 /// The status of a run, and what it wrote.
 fn ran<R: Threads + Sync>(

@@ -1,0 +1,2 @@
+mod ToldColumns
+mod ToldReplies
