@@ -1,5 +1,6 @@
 -- `cards_dealt`: the cards that are left in a hand when each card has been dealt are those that go there.
-use Rattle.std.proofs.Common.{ℕ, zero, suc, ◌+◌, ◌-◌, ◌/◌, ◌%◌, if◌then◌else◌, get_or, max, ◌<◌, ◌≤◌, ◌≡◌, ◌==◌, ◌||◌, ◌&&◌, nat_lt, nat_eq, not, Bool, true}
+use Rattle.std.proofs.Common.{ℕ, zero, suc, ◌+◌, ◌-◌, ◌/◌, ◌%◌, if◌then◌else◌, get_or, max, ◌<◌, ◌≤◌, ◌≡◌, ◌==◌}
+use Rattle.std.proofs.Common.{◌||◌, ◌&&◌, nat_lt, nat_eq, not, Bool, true}
 use Rattle.std.proofs.Common.{false, [], length, refl, sym, ◌∙◌, ap, arith, inl, inr}
 use Rattle.std.specs.List.{filter}
 use Rattle.std.proofs.lemmas.Bool.{cases_eq, eq-eqb, ne_eqb}

@@ -11,8 +11,8 @@ use Rattle.suit_gen.specs.Draws.{state_after, drawn}
 use Rattle.suit_gen.specs.declared.deals.TheConstants.{MADE_NODES, MADE_PIVOTS}
 use Rattle.suit_gen.specs.declared.deals.Deal.{Deal}
 
--- where a card goes: 0 is North, 1 is South, and with 2 and 3 it is missing. The ace goes to North. For the others, from
--- the king down to the two, the first twelve draws decide
+-- where a card goes: 0 is North, 1 is South, and with 2 and 3 it is missing. The ace goes to North. For the others,
+-- from the king down to the two, the first twelve draws decide
 abbrev pub place_of : ℕ → ℕ → ℕ
 place_of state rank = if rank == 14 then 0 else drawn state (14 - rank) 4
 
@@ -37,7 +37,8 @@ unfoldable pub deals_from : ℕ → ℕ → List Deal
 deals_from zero state = []
 deals_from (suc count) state = deal_at state ∷ deals_from count (state_after 13 state)
 
--- the question about a deal: either hand leads, no entry is left, nothing is known of West's hand, and the budgets are small
+-- the question about a deal: either hand leads, no entry is left, nothing is known of West's hand, and the
+-- budgets are small
 abbrev pub question_of : Deal → Question
 question_of deal = record {
   north = deal.north;

@@ -212,8 +212,8 @@ next_stops walk reach history row masses stops nodes same i below next goes reac
       each = λ index reader mass listed.
           let stop = stops.each index reader mass listed in
           let turn = stop.turn in
-          next_stop (get_or walk.readers.now index reader) reach history row (get_or masses index mass) stop nodes same i
-          below next (goes turn.question turn.support turn.history turn.reached)
+          next_stop (get_or walk.readers.now index reader) reach history row (get_or masses index mass) stop nodes same
+          i below next (goes turn.question turn.support turn.history turn.reached)
           (reached turn.question turn.support turn.history turn.reached) after
           (is turn.question turn.support turn.history turn.reached) mv moves (get_or shares index None)
           (told index reader mass None listed turn) (get_or passed index mass)

@@ -1,6 +1,6 @@
 -- What a walk over reached class histories tells: the moves of the support (`own_kept`, `their_kept`), where it goes on
--- (`goes_in_is`, `child_goes`, `child_some`), what it is there (`child_reach`), and that these are the class histories that go on
--- (`next_below`, `histories_below`).
+-- (`goes_in_is`, `child_goes`, `child_some`), what it is there (`child_reach`), and that these are the class histories
+-- that go on (`next_below`, `histories_below`).
 use Rattle.std.proofs.Common.{◌≡◌, ℕ, zero, suc, ◌+◌, ◌-◌, ◌<◌, ◌≤◌}
 use Rattle.std.proofs.Common.{Bool, true, false, cond, List, [], ◌∷◌, ◌++◌, length}
 use Rattle.std.proofs.Common.{map, refl, sym, ap, ◌∙◌, subst, arith, get_or, Option, inl, inr}

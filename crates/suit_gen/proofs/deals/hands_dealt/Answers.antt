@@ -24,7 +24,9 @@ loop-rank-preserved c =
     record {
       state = drawn.0;
       north = c.once_dealt-hands.ensures ∙ card_dealt _ 0 _ _ _ _ early rank drawn.1 c.loop-rank.invariant.north;
-      south = c.once_dealt-hands-in-loop-rank.ensures ∙ card_dealt _ 1 _ _ _ _ early rank drawn.1 c.loop-rank.invariant.south;
+      south =
+          c.once_dealt-hands-in-loop-rank.ensures ∙ card_dealt _ 1 _ _ _ _ early rank drawn.1
+          c.loop-rank.invariant.south;
     }
 
 -- after the loop all thirteen cards are dealt

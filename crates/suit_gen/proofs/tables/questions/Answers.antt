@@ -1,4 +1,10 @@
-use Rattle.suit_gen.proofs.MadeRecords.{more_questions, all_questions, questions_count, questions_named, questions_valid}
+use Rattle.suit_gen.proofs.MadeRecords.{
+  more_questions,
+  all_questions,
+  questions_count,
+  questions_named,
+  questions_valid,
+}
 use Rattle.suit_gen.proofs.tables.questions.Goals as goal
 
 pub loop-preserved : goal.loop-preserved

@@ -12,7 +12,10 @@ use Rattle.suit_program.proofs.DefenceWalkSteps.{next_stop, next_stops, rows_wit
 use Rattle.suit_program.proofs.NoNode.{no_node}
 use Rattle.suit_program.proofs.ReachedWalks.{one_off, room_below}
 use Rattle.suit_program.proofs.defence_walk.DefenceWalk.+below.Goals as goal
-use Rattle.suit_program.proofs.defence_walk.DefenceWalk.+below.Goals.{in-Some+in_ok-passed+in_ok-push+in_ok-after, in_default}
+use Rattle.suit_program.proofs.defence_walk.DefenceWalk.+below.Goals.{
+  in-Some+in_ok-passed+in_ok-push+in_ok-after,
+  in_default,
+}
 
 pub shares-requires : goal.shares-requires
 shares-requires t c = record {
@@ -45,7 +48,8 @@ loop-child-init t c =
           (c.in_ok-add_rows.ensures.added index reader mass None list below
           ∙ ap (λ (h : ClassHistory). (get_or c.args.lists.now.items index list).items
           ++ their_row_of (get_or c.args.self.now.readers.now index reader).west.now h
-          (get_or c.args.masses.now index mass) (get_or c.as_slice-held.result.now index None)) c.as_slice.ensures.value)
+          (get_or c.args.masses.now index mass) (get_or c.as_slice-held.result.now index None))
+          c.as_slice.ensures.value)
           (ap (λ (l : List (Option Shares)). get_or l index None) c.as_slice-held.ensures.value
           ∙ c.in_ok-shares.ensures.each index reader mass None below stop.turn);
     }
