@@ -1,6 +1,7 @@
 pub mod Columns
 pub mod Entries
 pub mod Examples
+pub mod Faults
 pub mod Keywords
 pub mod Lines
 pub mod Ranges

@@ -1,5 +1,6 @@
 //! What can be wrong with a question text.
 ghost use Rattle.std.specs.Prelude.{◌≡◌};
+ghost use Rattle.suit_question.specs.Faults.{fault_number};
 
 use thiserror::Error;
 
@@ -55,6 +56,26 @@ pub struct QuestionFault {
 }
 
 impl QuestionKind {
+    /// The number by which the kind is told, from 1 to 12.
+    pub fn number(self) -> u8
+        ensures { result ≡ fault_number self }
+    {
+        match self {
+            QuestionKind::NoLine => 1,
+            QuestionKind::Word => 2,
+            QuestionKind::Repeated => 3,
+            QuestionKind::Rank => 4,
+            QuestionKind::Twice => 5,
+            QuestionKind::Shared => 6,
+            QuestionKind::Empty => 7,
+            QuestionKind::Number => 8,
+            QuestionKind::Range => 9,
+            QuestionKind::Vacant => 10,
+            QuestionKind::NoLayout => 11,
+            QuestionKind::Tail => 12,
+        }
+    }
+
     /// The mistake, told of a line.
     pub(crate) fn at(self, line: u32) -> QuestionFault
         ensures { result ≡ record { kind = self; line = line } }
