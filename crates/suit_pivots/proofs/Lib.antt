@@ -2,12 +2,16 @@ pub mod Advancing
 pub mod CellSums
 pub mod ClaimSums
 pub mod ColumnClaims
+pub mod ColumnReplays
 pub mod LeavingLines
 pub mod LineSteps
 pub mod ObjectiveSteps
 pub mod PrimitiveRows
+pub mod Contents
 pub mod Readings
+pub mod ReplaySteps
 pub mod RowClaims
+pub mod RowReplays
 pub mod FastRuns
 pub mod SparseColumns
 pub mod SparsePrograms

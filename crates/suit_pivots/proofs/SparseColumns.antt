@@ -1,11 +1,11 @@
 -- The cells of sparse rows by their columns hold the columns of the program that is meant (`columns_whole`).
-use Rattle.std.proofs.Common.{◌≡◌, ◌≢◌, inl, inr, ℕ, zero, suc, ◌+◌, ◌<◌, ◌≤◌, List, [], ◌∷◌, ◌++◌, length, take}
+use Rattle.std.proofs.Common.{◌≡◌, inl, inr, ℕ, ◌+◌, ◌<◌, ◌≤◌, List, [], ◌∷◌, ◌++◌, length, take}
 use Rattle.std.proofs.Common.{get_or}
-use Rattle.std.proofs.Common.{subst, refl, sym, ap, ◌∙◌, arith, cond, nat_lt, Bool, Some, Vec, Global, replicate}
-use Rattle.std.specs.Prelude.{ℤ, pos, ◌+ℤ◌, ◌==◌, true, false, map, set, slice_get}
+use Rattle.std.proofs.Common.{subst, refl, sym, ap, ◌∙◌, arith, cond, nat_lt, Bool, Vec, Global, replicate}
+use Rattle.std.specs.Prelude.{ℤ, pos, ◌+ℤ◌, ◌==◌, true, false, map, set}
 use Rattle.std.proofs.lemmas.Int.{ints}
 use Rattle.std.proofs.lemmas.Bool.{cases_eq, cond-true, cond-false, eq-eqb, ne_eqb}
-use Rattle.std.proofs.lemmas.List.{get_or_past, take_all, length-set, get_or-set_same, get_or-set_other, length-map}
+use Rattle.std.proofs.lemmas.List.{take_all, length-set, get_or-set_same, get_or-set_other, length-map}
 use Rattle.std.proofs.lemmas.List.{get_or-map, get_or-replicate, length-replicate}
 use Rattle.std.proofs.lemmas.Option.{slice_get_within, get_or_from_slice_get}
 use Rattle.suit_tableaus.specs.declared.program.Program.{Program}
@@ -18,7 +18,7 @@ use Rattle.suit_tableaus.specs.Sparse.{part_of, sum_in, dense_entries, dense_row
 use Rattle.suit_tableaus.proofs.SparseSums.{sum_in_more}
 use Rattle.suit_pivots.specs.declared.cells.Cell.{Cell}
 use Rattle.suit_pivots.specs.Cells.{number_of, number_in}
-use Rattle.suit_pivots.specs.Sparse.{AddsEntries, AreProgramColumns, HoldProgramColumn, cells_of}
+use Rattle.suit_pivots.specs.Sparse.{AddsEntries, AreProgramColumns, cells_of}
 use Rattle.suit_pivots.proofs.SparsePrograms.{number_in_push, number_at_more, AreColumnsBelow}
 use Rattle.suit_pivots.proofs.SparseRows.{dense_within}
 

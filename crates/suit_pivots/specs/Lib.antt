@@ -1,4 +1,5 @@
 pub mod Cells
 pub mod Lines
+pub mod Replays
 pub mod Sparse
 pub mod States

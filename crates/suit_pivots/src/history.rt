@@ -1,5 +1,12 @@
 //! The pivots so far, from which columns and rows are guessed. Nothing here is trusted: the
 //! arithmetic wraps, and what is guessed is tested elsewhere.
+ghost use Rattle.std.specs.Prelude.{◌≡◌, ℕ, ◌<◌, ◌+ℤ◌, ◌-ℤ◌, ◌*ℤ◌, neg_ℤ, pos, length, slice_index_or};
+ghost use Rattle.suit_tableaus.specs.Points.{number_at};
+ghost use Rattle.suit_pivots.specs.Cells.{number_in};
+ghost use Rattle.suit_pivots.specs.Replays.{wrapped, times_in, factor_in, share_of, AreTaken, AreMultiplied};
+ghost use Rattle.suit_pivots.specs.Replays.{between, short_count, changes_of, multiples_of, weights_of};
+ghost use Rattle.suit_pivots.specs.Replays.{taken_at, row_first, IsRow, Knows, IsPivotedAt, IsBegun, IsColumnNow};
+
 use super::cells::Cell;
 use super::lines::Factors;
 use super::sparse::Sparse;
@@ -64,7 +71,9 @@ pub(crate) fn first_history(
     })
 }
 
-fn cells_between(cells: &[Cell], from: u32, to: u32) -> &[Cell] {
+fn cells_between(cells: &[Cell], from: u32, to: u32) -> &[Cell]
+    ensures { result.now ≡ between cells.now from to }
+{
     let from = from as usize;
     let to = to as usize;
     if from <= to && to <= cells.len() {
@@ -74,7 +83,9 @@ fn cells_between(cells: &[Cell], from: u32, to: u32) -> &[Cell] {
     }
 }
 
-fn changes_between(changes: &[Change], from: u32, to: u32) -> &[Change] {
+fn changes_between(changes: &[Change], from: u32, to: u32) -> &[Change]
+    ensures { result.now ≡ between changes.now from to }
+{
     let from = from as usize;
     let to = to as usize;
     if from <= to && to <= changes.len() {
@@ -84,40 +95,76 @@ fn changes_between(changes: &[Change], from: u32, to: u32) -> &[Change] {
     }
 }
 
-fn take_multiple(numbers: &mut [i64], cells: &[Cell], times: i64) {
+// A multiple of sparse numbers is taken from a list.
+fn take_multiple(numbers: &mut [i64], cells: &[Cell], times: i64)
+    ensures { AreTaken numbers.old times (number_in cells.now) numbers.new }
+{
     for cell in cells {
         if cell.index < numbers.len() {
-            let taken = times.wrapping_mul(cell.number);
-            numbers[cell.index] = numbers[cell.index].wrapping_sub(taken);
+            numbers[cell.index] = less(numbers[cell.index], times, cell.number);
         }
     }
 }
 
-fn take_changes(numbers: &mut [i64], changes: &[Change], entry: i64) {
+// The row's entry, divided, is cleared from the rows that change.
+fn take_changes(numbers: &mut [i64], changes: &[Change], entry: i64)
+    ensures { AreTaken numbers.old entry (times_in changes.now) numbers.new }
+{
     for change in changes {
         let row = change.row as usize;
         if row < numbers.len() {
-            let taken = entry.wrapping_mul(change.times);
-            numbers[row] = numbers[row].wrapping_sub(taken);
+            numbers[row] = less(numbers[row], entry, change.times);
         }
     }
 }
 
-fn multiply(numbers: &mut [i64], cells: &[Cell]) {
+fn less(number: i64, times: i64, taken: i64) -> i64
+    ensures { result ≡ wrapped (number -ℤ times *ℤ taken) }
+{
+    number.wrapping_sub(times.wrapping_mul(taken))
+}
+
+// The rows that change are multiplied by their factors.
+fn multiply(numbers: &mut [i64], cells: &[Cell])
+    ensures { AreMultiplied numbers.old (factor_in cells.now) numbers.new }
+{
     for cell in cells {
         if cell.index < numbers.len() {
-            numbers[cell.index] = numbers[cell.index].wrapping_mul(cell.number);
+            numbers[cell.index] = multiplied(numbers[cell.index], cell.number);
         }
     }
 }
 
-fn clear_all(numbers: &mut [i64]) {
+fn multiplied(number: i64, factor: i64) -> i64
+    ensures { result ≡ wrapped (number *ℤ factor) }
+{
+    number.wrapping_mul(factor)
+}
+
+fn more(number: i64, other: i64) -> i64
+    ensures { result ≡ wrapped (number +ℤ other) }
+{
+    number.wrapping_add(other)
+}
+
+fn negated(number: i64) -> i64
+    ensures { result ≡ wrapped (neg_ℤ number) }
+{
+    number.wrapping_neg()
+}
+
+fn clear_all(numbers: &mut [i64])
+    ensures count { length numbers.new ≡ length numbers.old }
+    ensures value { (index : ℕ) → number_at numbers.new index ≡ pos 0 }
+{
     for number in numbers.iter_mut() {
         *number = 0;
     }
 }
 
-fn quotient(number: i64, divisor: i64) -> i64 {
+fn quotient(number: i64, divisor: i64) -> i64
+    ensures { result ≡ share_of number divisor }
+{
     if divisor > 1 {
         number / divisor
     } else {
@@ -126,7 +173,9 @@ fn quotient(number: i64, divisor: i64) -> i64 {
 }
 
 impl History {
-    fn changes_of(&self, pivot: usize, leaver: &Leaver) -> &[Change] {
+    fn changes_of(&self, pivot: usize, leaver: &Leaver) -> &[Change]
+        ensures { result.now ≡ changes_of self.now pivot leaver.now }
+    {
         let end = match self.leavers.get(pivot.saturating_add(1)) {
             Some(next) => next.changes,
             None => count_of(self.changes.len()),
@@ -134,7 +183,9 @@ impl History {
         changes_between(&self.changes, leaver.changes, end)
     }
 
-    fn multiples_of(&self, pivot: usize, leaver: &Leaver) -> &[Cell] {
+    fn multiples_of(&self, pivot: usize, leaver: &Leaver) -> &[Cell]
+        ensures { result.now ≡ multiples_of self.now pivot leaver.now }
+    {
         let end = match self.leavers.get(pivot.saturating_add(1)) {
             Some(next) => next.multiples,
             None => count_of(self.multiples.len()),
@@ -142,7 +193,9 @@ impl History {
         cells_between(&self.multiples, leaver.multiples, end)
     }
 
-    fn weights_of(&self, pivot: usize, leaver: &Leaver) -> &[Cell] {
+    fn weights_of(&self, pivot: usize, leaver: &Leaver) -> &[Cell]
+        ensures { result.now ≡ weights_of self.now pivot leaver.now }
+    {
         let end = match self.leavers.get(pivot.saturating_add(1)) {
             Some(next) => next.weights,
             None => count_of(self.weights.len()),
@@ -151,7 +204,9 @@ impl History {
     }
 
     // The entries of a column in the rows as they are now.
-    pub(crate) fn guess_column(&self, sparse: &Sparse, column: usize, entries: &mut [i64]) {
+    pub(crate) fn guess_column(&self, sparse: &Sparse, column: usize, entries: &mut [i64])
+        ensures { IsColumnNow sparse.now self.now column entries.new }
+    {
         clear_all(entries);
         let begin = self.begin_column(sparse, column, entries);
         for pivot in begin..self.leavers.len() {
@@ -161,11 +216,11 @@ impl History {
 
     // Where a column left, it began again as that of its row; else it is the program's. The first
     // pivot after that is told.
-    fn begin_column(&self, sparse: &Sparse, column: usize, entries: &mut [i64]) -> usize {
-        let count = match self.left_at.get(column) {
-            Some(count) => *count,
-            None => 0,
-        };
+    fn begin_column(&self, sparse: &Sparse, column: usize, entries: &mut [i64]) -> usize
+        ensures { let count = slice_index_or self.now.left_at.items column 0 in
+            IsBegun sparse.now self.now column count result entries.old entries.new }
+    {
+        let count = self.left_count(column);
         if count > 0 {
             if let Some(leaver) = self.leavers.get(count - 1) {
                 let row = leaver.row as usize;
@@ -182,7 +237,19 @@ impl History {
         0
     }
 
-    fn step_column(&self, pivot: usize, entries: &mut [i64]) {
+    // How many pivots were made up to and with that at which a column left last, or 0.
+    fn left_count(&self, column: usize) -> usize
+        ensures { result ≡ slice_index_or self.now.left_at.items column 0 }
+    {
+        match self.left_at.get(column) {
+            Some(count) => *count,
+            None => 0,
+        }
+    }
+
+    fn step_column(&self, pivot: usize, entries: &mut [i64])
+        ensures { IsPivotedAt self.now pivot entries.old entries.new }
+    {
         let Some(leaver) = self.leavers.get(pivot) else {
             return;
         };
@@ -197,7 +264,9 @@ impl History {
     }
 
     // What a row takes of the first rows, from its last change back.
-    pub(crate) fn guess_row(&self, row: usize, weights: &mut [i64]) {
+    pub(crate) fn guess_row(&self, row: usize, weights: &mut [i64])
+        ensures { Knows self.now row → row < length weights.new → IsRow self.now row weights.new }
+    {
         clear_all(weights);
         if row >= self.left.len() || row >= self.last.len() || row >= weights.len() {
             return;
@@ -211,20 +280,32 @@ impl History {
             let Some(change) = self.changes.get(count - 1) else {
                 return;
             };
-            let times = factor.wrapping_mul(change.times);
+            let times = multiplied(factor, change.times);
             self.take_leaver(change.pivot as usize, times, weights);
-            factor = factor.wrapping_mul(i64::from(change.own));
+            factor = multiplied(factor, i64::from(change.own));
             count = change.before as usize;
         }
+        self.add_first(row, factor, weights);
+    }
+
+    // A multiple of what a row takes before it changes: that is itself, until it leaves.
+    fn add_first(&self, row: usize, factor: i64, weights: &mut [i64])
+        requires known { row < length self.now.left.items }
+        requires within { row < length weights.old }
+        ensures { AreTaken weights.old (neg_ℤ factor)
+            (row_first self.now row (slice_index_or self.now.left.items row 0)) weights.new }
+    {
         let left = self.left[row];
         if left == 0 {
-            weights[row] = weights[row].wrapping_add(factor);
+            weights[row] = more(weights[row], factor);
         } else {
-            self.take_leaver(left - 1, factor.wrapping_neg(), weights);
+            self.take_leaver(left - 1, negated(factor), weights);
         }
     }
 
-    fn take_leaver(&self, pivot: usize, times: i64, weights: &mut [i64]) {
+    fn take_leaver(&self, pivot: usize, times: i64, weights: &mut [i64])
+        ensures { AreTaken weights.old times (taken_at self.now pivot) weights.new }
+    {
         if let Some(leaver) = self.leavers.get(pivot) {
             take_multiple(weights, self.weights_of(pivot, leaver), times);
         }
@@ -313,7 +394,9 @@ fn change_of(row: usize, pivot: usize, before: u32, factors: Factors) -> Option<
     })
 }
 
-fn count_of(count: usize) -> u32 {
+fn count_of(count: usize) -> u32
+    ensures { result ≡ short_count count }
+{
     match u32::try_from(count) {
         Ok(count) => count,
         Err(_) => 0,

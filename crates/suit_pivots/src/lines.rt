@@ -6,6 +6,7 @@ ghost use Rattle.std.specs.Prelude.{fold, None, Some, slice_get, IsTrue, IfSome}
 ghost use Rattle.std.specs.Prelude.{int_lt, ◌||◌, ◌&&◌};
 ghost use Rattle.std.specs.Ordering.{int_eq};
 ghost use Rattle.std.specs.Option.{ForSome};
+ghost use Rattle.suit_num.specs.Divisors.{gcd_of};
 ghost use Rattle.suit_tableaus.specs.Tableaus.{TableauRow};
 ghost use Rattle.suit_tableaus.specs.Pivots.{kept};
 ghost use Rattle.suit_pivots.specs.Lines.{is_better_line, AreShown, chosen};
@@ -158,7 +159,9 @@ fn balances(factors: Factors, pivot: i64, entry: i64) -> bool
     is_positive(factors.own) && is_same(product(factors.own, entry), product(factors.times, pivot))
 }
 
-pub(crate) fn common_divisor(a: u64, b: u64) -> u64 {
+pub(crate) fn common_divisor(a: u64, b: u64) -> u64
+    ensures { result ≡ gcd_of a b }
+{
     let mut x = a;
     let mut y = b;
     while y != 0 {

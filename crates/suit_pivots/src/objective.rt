@@ -2,6 +2,7 @@
 ghost use Rattle.std.specs.Prelude.{◌≡◌, ℕ, suc, ◌<◌, ◌≤◌, ℤ, pos, ◌*ℤ◌, ◌-ℤ◌, ◌∷◌, length, All, IsTrue, IfSome};
 ghost use Rattle.suit_tableaus.specs.Points.{number_at};
 ghost use Rattle.suit_tableaus.specs.Multiples.{IsSmall};
+ghost use Rattle.suit_pivots.specs.Replays.{short_content};
 ghost use Rattle.suit_pivots.specs.States.{IsCombined, IsShrunk};
 
 use super::lines::{Factors, MOST_SIZE, common_divisor, difference, is_positive, is_same_short};
@@ -97,7 +98,9 @@ fn exact(number: i64, divisor: i64) -> Option<i64>
 }
 
 // The greatest common divisor, or 1 where it does not fit.
-pub(crate) fn content(numbers: &[i64]) -> i64 {
+pub(crate) fn content(numbers: &[i64]) -> i64
+    ensures { result ≡ short_content numbers.now }
+{
     let mut divisor: u64 = 0;
     for number in numbers {
         if *number == 0 {

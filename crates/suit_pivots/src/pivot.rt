@@ -6,6 +6,7 @@ ghost use Rattle.suit_tableaus.specs.declared.program.Program.{Program};
 ghost use Rattle.suit_tableaus.specs.Points.{number_at};
 ghost use Rattle.suit_tableaus.specs.Multiples.{IsSmall};
 ghost use Rattle.suit_tableaus.specs.Tableaus.{Tableau};
+ghost use Rattle.suit_pivots.specs.Replays.{IsDividedRow};
 ghost use Rattle.suit_pivots.specs.Sparse.{IsSparse};
 ghost use Rattle.suit_pivots.specs.States.{IsApart, IsTop, AreChanged, ChangesObjective, IsStateOf, Advances};
 ghost use Rattle.suit_pivots.specs.Lines.{IsChangedLine};
@@ -123,7 +124,9 @@ pub(crate) fn advance(
 }
 
 // The row's weights, divided by their greatest common divisor, which is the result.
-fn guess_leaver(history: &History, row: usize, weights: &mut [i64]) -> i64 {
+fn guess_leaver(history: &History, row: usize, weights: &mut [i64]) -> i64
+    ensures { IsDividedRow history.now row result weights.new }
+{
     history.guess_row(row, weights);
     let divisor = content(weights);
     if divisor > 1 {

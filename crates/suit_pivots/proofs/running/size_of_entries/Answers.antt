@@ -1,4 +1,4 @@
-use Rattle.std.proofs.Common.{rules, arith, ◌≡◌, ◌+◌, get_or}
+use Rattle.std.proofs.Common.{rules, ◌≡◌, ◌+◌, get_or}
 use Rattle.std.specs.Prelude.{FitsSigned, pos, unsigned_abs}
 use Rattle.std.specs.Int.{w64}
 use Rattle.std.proofs.lemmas.Int.{to_z-of_z}

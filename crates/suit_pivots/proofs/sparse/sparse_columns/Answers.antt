@@ -1,5 +1,5 @@
 use Rattle.std.proofs.Common.{arith, length}
-use Rattle.std.specs.Prelude.{◌<◌, ◌≤◌}
+use Rattle.std.specs.Prelude.{◌≤◌}
 use Rattle.std.proofs.lemmas.List.{length-map}
 use Rattle.suit_tableaus.specs.Sparse.{dense, dense_row}
 use Rattle.suit_pivots.proofs.SparsePrograms.{slack_pushed, all_columns}
