@@ -1,0 +1,21 @@
+//! Tables of questions: each record is judged by itself, on several threads, and told in a line of its own.
+#![tactic(auto)]
+
+mod fields;
+mod judging;
+mod lines;
+mod outcomes;
+mod records;
+mod summaries;
+mod tables;
+#[cfg(test)]
+mod tests;
+
+pub use judging::Judge;
+pub use outcomes::{MOST_BITS, MOST_SUPPORT, Outcome};
+pub use records::{FIELDS, MOST_TABLE};
+pub use summaries::{MOST_QUESTIONS, summary};
+pub use tables::{TableEnd, table};
+
+/// Memory ran out.
+pub type Memory = std::alloc::AllocError;
