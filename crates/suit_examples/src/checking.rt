@@ -1,7 +1,7 @@
 //! What `check` writes of answers: right ones, and ones with one thing wrong.
+use crate::gates::CountingGate;
 use crate::solved::SOLVED;
 use std::alloc::Global;
-use std::sync::atomic::{AtomicU64, Ordering};
 use std::test::Fail;
 use std::thread::Threads;
 use suit_game::{Gate, OpenGate};
@@ -291,35 +291,12 @@ fn solved(which: &str) -> Result<(&'static str, &'static str), Fail> {
     Err(Fail::from("no such pair"))
 }
 
-/// A gate that counts who enters it, and waits a while at each entry for a second one.
-#[derive(Drop)]
-struct CountingGate {
-    entries: AtomicU64,
-    misses: AtomicU64,
-}
-
-impl Gate for CountingGate {
-    fn enter(&self) {
-        self.entries.fetch_add(1, Ordering::SeqCst);
-        for _ in 0..200_000_000_u64 {
-            if self.entries.load(Ordering::SeqCst) >= 2 {
-                return;
-            }
-        }
-        self.misses.fetch_add(1, Ordering::SeqCst);
-    }
-}
-
 #[test]
 fn layouts_are_checked_side_by_side(rt: HostRuntime) -> Result<(), Fail> {
-    let gate = CountingGate {
-        entries: AtomicU64::new(0),
-        misses: AtomicU64::new(0),
-    };
+    let gate = CountingGate::new();
     let (status, written) = checked(&rt, &gate, rt.alloc(), TEN, TEN_ANSWERED)?;
     assert_eq!(rt; status, 0);
     assert_eq!(rt; written.as_slice(), b"valid\n".as_slice());
-    assert!(rt; gate.entries.load(Ordering::SeqCst) >= 2);
-    assert_eq!(rt; gate.misses.load(Ordering::SeqCst), 0);
+    assert!(rt; gate.was_shared());
     Ok(())
 }

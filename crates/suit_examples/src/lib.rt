@@ -4,9 +4,13 @@
 #[cfg(test)]
 mod checking;
 #[cfg(test)]
+mod gates;
+#[cfg(test)]
 mod solved;
 #[cfg(test)]
 mod solving;
+#[cfg(test)]
+mod tabling;
 #[cfg(test)]
 mod telling;
 #[cfg(test)]

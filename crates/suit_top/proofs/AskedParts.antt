@@ -1,12 +1,12 @@
 -- A question that ends with its line feed ends there whatever follows it (`asked_end`).
 use Rattle.std.proofs.Common.{◌≡◌, ℕ, ◌+◌, ◌==◌, Bool, true, false, List, [], ◌∷◌, ◌++◌, length, map, Result, Ok, Err}
 use Rattle.std.proofs.Common.{refl}
-use Rattle.std.proofs.Common.{sym, ap, ◌∙◌, subst, cond, take, drop}
+use Rattle.std.proofs.Common.{sym, ap, ◌∙◌, cond, take, drop}
 use Rattle.std.specs.Prelude.{if◌then◌else◌}
 use Rattle.suit_cards.specs.Cards.{Text}
 use Rattle.suit_game.specs.declared.question.Question.{Question}
 use Rattle.suit_question.specs.Columns.{no_columns, told_at}
-use Rattle.suit_question.specs.Lines.{line_of, lines_of, pieces_of}
+use Rattle.suit_question.specs.Lines.{line_of, pieces_of}
 use Rattle.suit_question.specs.Reading.{asked_by, end_index, end_of, ended, line_put, question_read}
 use Rattle.suit_question.specs.Results.{◌>>=◌}
 use Rattle.suit_question.specs.Words.{is_end, is_skipped, with_first, words_of}

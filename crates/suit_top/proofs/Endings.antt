@@ -11,20 +11,24 @@ use Rattle.suit_ports.specs.Reading.{Took}
 use Rattle.suit_ports.specs.Room.{KeepsRoom, IsFull}
 use Rattle.suit_game.specs.declared.question.Question.{Question}
 use Rattle.suit_top.specs.declared.commands.Command.{Command}
-use Rattle.suit_top.specs.declared.commands.Command.TheVariants.{Check, Lines, Solve, Weigh}
+use Rattle.suit_top.specs.declared.commands.Command.TheVariants.{About, Table, Make, Trial}
+use Rattle.suit_top.specs.declared.commands.inquiry.Inquiry.{Inquiry}
+use Rattle.suit_top.specs.declared.commands.inquiry.Inquiry.TheVariants.{Check, Lines, Solve, Weigh}
 use Rattle.suit_top.specs.declared.reply.Reply.{Reply}
 use Rattle.suit_top.specs.declared.status.Status.{Status}
 use Rattle.suit_top.specs.declared.status.Status.TheVariants.{Done, Usage, WriteFault, Long}
 use Rattle.suit_cards.specs.Cards.{Text}
 use Rattle.suit_answer.specs.Reading.{answer_read}
 use Rattle.suit_top.specs.Asking.{answer_part, due_of_read}
-use Rattle.suit_top.specs.Commands.{asking_part, command_of, reads_input, limit_of, due_about, due_within, Says}
-use Rattle.suit_top.specs.Commands.{words_read}
+use Rattle.suit_top.specs.Commands.{command_of, reads_input, limit_of, due_within, IsOwedWithin, Says, words_read}
+use Rattle.suit_top.specs.Commands.Inquiries.{asking_part, due_about}
+use Rattle.suit_top.specs.Commands.Tabling.{due_of_records}
+use Rattle.suit_table.specs.Records.{Record, first_misfit, records_of}
 use Rattle.suit_top.specs.Dues.{Due, done, silent}
 use Rattle.suit_question.specs.Reading.{question_read}
 use Rattle.suit_question.specs.declared.faults.QuestionFault.{QuestionFault}
 use Rattle.suit_top.specs.Texts.{text_bytes}
-use Rattle.suit_top.specs.Owing.{due_for, Owes}
+use Rattle.suit_top.specs.Owing.{due_for, IsOwedText, Owes}
 use Rattle.suit_top.specs.Replies.{IsReply, Delivered, Stopped}
 use Rattle.suit_top.specs.Runs.{IsInput, Ports, Runs}
 use Rattle.suit_top.proofs.Checked.{answer_tells}
@@ -33,9 +37,9 @@ use Rattle.suit_solve.specs.Fates.{fate}
 use Rattle.suit_top.proofs.ToldAnswers.{told_tells}
 use Rattle.suit_top.proofs.Inputs.{is_input, long_input}
 
--- no command owes Usage about a question
-about_tells : (command : Command) (input : Text) (question : Question)
-    → (due_about command input question).status ≡ Usage → ⊥
+-- no inquiry owes Usage about a question
+about_tells : (inquiry : Inquiry) (input : Text) (question : Question)
+    → (due_about inquiry input question).status ≡ Usage → ⊥
 about_tells Solve input question usage = fate_tells question (fate question) usage
 about_tells Check input question usage =
     answer_tells question (answer_read question (answer_part input)) usage
@@ -44,10 +48,21 @@ about_tells Lines input question usage =
 about_tells Weigh input question usage = cc
 
 -- nor about a text that was read
-read_tells : (command : Command) (input : Text) (found : Result Question QuestionFault)
-    → (due_of_read (due_about command input) found).status ≡ Usage → ⊥
-read_tells command input (Err fault) usage = cc
-read_tells command input (Ok question) usage = about_tells command input question usage
+read_tells : (inquiry : Inquiry) (input : Text) (found : Result Question QuestionFault)
+    → (due_of_read (due_about inquiry input) found).status ≡ Usage → ⊥
+read_tells inquiry input (Err fault) usage = cc
+read_tells inquiry input (Ok question) usage = about_tells inquiry input question usage
+
+records_tell : (records : List Record) (misfit : Option ℕ) → (due_of_records records misfit).status ≡ Usage → ⊥
+records_tell records None usage = cc
+records_tell records (Some at) usage = cc
+
+-- no command owes it for an input
+within_tells : (command : Command) (input : Text) → (due_within command input).status ≡ Usage → ⊥
+within_tells (About inquiry) input usage = read_tells inquiry input (question_read (asking_part inquiry input)) usage
+within_tells Table input usage = records_tell (records_of input) (first_misfit (records_of input)) usage
+within_tells (Make made) input usage = cc
+within_tells (Trial made) input usage = cc
 
 long_tells : (long : Bool) (due : Due) → (due.status ≡ Usage → ⊥) → (if long then silent Long else due).status ≡ Usage
     → ⊥
@@ -57,8 +72,7 @@ long_tells false due tells usage = tells usage
 -- a command owes another status than Usage
 pub never_usage : (command : Command) (input : Text) → (due_for (Some command) input).status ≡ Usage → ⊥
 never_usage command input usage =
-    long_tells (nat_lt (limit_of command) (length input)) (due_within command input)
-    (read_tells command input (question_read (asking_part command input))) usage
+    long_tells (nat_lt (limit_of command) (length input)) (due_within command input) (within_tells command input) usage
 
 long_is_not_done : (s : Status) → s ≡ Long → s ≡ Done → ⊥
 long_is_not_done s long done = cc
@@ -72,7 +86,7 @@ owed : (words : List Text) (command : Command) (before after : Option Text) (rep
     → (made : IsReply command before after reply) → Owes words made.input reply.status (text_bytes reply.text)
 owed words command before after reply named made = record {
   status_due = made.status_due ∙ sym (ap (λ (c : Option Command). (due_for c made.input).status) named);
-  text_due = made.text_due ∙ sym (ap (λ (c : Option Command). (due_for c made.input).text) named);
+  text_due = subst (λ (c : Option Command). IsOwedText c made.input (text_bytes reply.text)) (sym named) made.text_due;
 }
 
 -- a run that made a reply and delivered it, or was stopped in it
@@ -89,13 +103,15 @@ run_replies words command before after reply status named made (inl delivered) r
   ending = inl (record {
     input = made.input;
     text = (text_bytes reply.text);
-    is_input = is_input words command before made.input named made.reads made.is_input;
+    is_input = is_input words command before made.input named made.is_input;
     owed = subst (λ (s : Status). Owes words made.input s (text_bytes reply.text)) (sym delivered.is_status)
         (owed words command before.left after.left reply named made);
     written = delivered.whole;
     says = λ done. subst (λ (c : Option Command). Says c made.input (text_bytes reply.text)) (sym named)
         (made.says (sym delivered.is_status ∙ done));
-    all_read = λ done reads. made.all_read (sym delivered.is_status ∙ done);
+    all_read = λ done reads.
+        made.all_read (sym delivered.is_status ∙ done)
+        (subst (λ (c : Option Command). IsTrue (words_read c)) named reads);
   });
   usage = (
     λ none. absurd (none_named words command named none),
@@ -112,7 +128,7 @@ run_replies words command before after reply status named made (inr stopped) roo
     text = (text_bytes reply.text);
     owed_status = reply.status;
     sent = stopped.0.sent;
-    is_input = is_input words command before made.input named made.reads made.is_input;
+    is_input = is_input words command before made.input named made.is_input;
     owed = owed words command before.left after.left reply named made;
     not_whole = stopped.0.not_whole;
     written = stopped.0.front;
@@ -138,32 +154,49 @@ none_left None after taken consumed at_end = tt
 none_left (Some bytes) None taken consumed at_end = absurd consumed
 none_left (Some bytes) (Some rest) taken consumed at_end = ap Some at_end
 
+-- what is owed of an input that is not too long
+abbrev IsShort : Command → Text → Type 0
+IsShort command input = nat_lt (limit_of command) (length input) ≡ false
+
+short_status : (command : Command) (input : Text) (status : Status) → IsShort command input
+    → status ≡ (due_within command input).status → status ≡ (due_for (Some command) input).status
+short_status command input status short is =
+    is ∙ sym (ap (λ (b : Bool). (if b then silent Long else due_within command input).status) short)
+
+short_text : (command : Command) (input text : Text) → IsShort command input → IsOwedWithin command input text
+    → IsOwedText (Some command) input text
+short_text command input text short owed =
+    subst (λ (b : Bool). MatchBool b (text ≡ []) (IsOwedWithin command input text)) (sym short) owed
+
+input_read : (reads : Bool) (before : Option Text) (input : Text) → reads ≡ true
+    → IfSome before (λ bytes. input ≡ bytes) → MatchBool reads (IfSome before (λ bytes. input ≡ bytes)) (input ≡ [])
+input_read true before input is given = given
+input_read false before input is given = absurd (cc)
+
 -- a reading to the end, within the limit, makes the reply to what was read
 pub short_replies : (command : Command) (before after : Option Text) (reply : Reply) (input taken : Text)
-    → IsTrue (reads_input command) → input ≡ taken → length taken ≤ limit_of command → Consumes before after taken
+    → reads_input command ≡ true → input ≡ taken → length taken ≤ limit_of command → Consumes before after taken
     → IsAtEnd after
-    → reply.status ≡ (due_within command input).status → text_bytes reply.text ≡ (due_within command input).text
+    → reply.status ≡ (due_within command input).status → IsOwedWithin command input (text_bytes reply.text)
     → (reply.status ≡ Done → Says (Some command) input (text_bytes reply.text)) → IsReply command before after reply
 short_replies command before after reply input taken reads is_taken fits consumed at_end status text says =
-    let within : nat_lt (limit_of command) (length input) ≡ false =
-    le-ltb (limit_of command) (length input) (omega (arith, ap length is_taken)) in
+    let within : IsShort command input =
+    le-ltb (limit_of command) (length input) (omega (arith, ap length is_taken, fits)) in
     record {
-      reads = reads;
       input = input;
-      is_input =
-          subst (λ (l : Text). IfSome before (λ bytes. l ≡ bytes)) (sym is_taken)
-          (whole_input before after taken consumed at_end);
-      status_due =
-          status ∙ sym (ap (λ (b : Bool). (if b then silent Long else due_within command input).status) within);
-      text_due = text ∙ sym (ap (λ (b : Bool). (if b then silent Long else due_within command input).text) within);
+      is_input = input_read (reads_input command) before input reads
+          (subst (λ (l : Text). IfSome before (λ bytes. l ≡ bytes)) (sym is_taken)
+          (whole_input before after taken consumed at_end));
+      status_due = short_status command input reply.status within status;
+      text_due = short_text command input (text_bytes reply.text) within text;
       says = says;
-      all_read = λ done. none_left before after taken consumed at_end;
+      all_read = λ done reads. none_left before after taken consumed at_end;
     }
 
 -- a reading that took one byte more than the limit makes the reply Long
 pub long_replies : (A : Type 0) (command : Command) (before after : Option Text) (reply : Reply) (end : ReadEnd)
     (limit : ℕ) (taken : Text)
-    → IsTrue (reads_input command) → end ≡ Reading.Long → limit ≡ limit_of command → reply.status ≡ Long
+    → reads_input command ≡ true → end ≡ Reading.Long → limit ≡ limit_of command → reply.status ≡ Long
     → (text_bytes reply.text) ≡ []
     → Took {A = A} limit (Err end) taken → Consumes before after taken → IsReply command before after reply
 long_replies A command before after reply end limit taken reads is_long is_limit status text took consumed =
@@ -172,14 +205,14 @@ long_replies A command before after reply end limit taken reads is_long is_limit
     let given = long_input before after taken (limit_of command) consumed one_more in
     let past : nat_lt (limit_of command) (length given.0) ≡ true = lt-ltb (limit_of command) (length given.0) given.2 in
     record {
-      reads = reads;
       input = given.0;
-      is_input = given.1;
+      is_input = input_read (reads_input command) before given.0 reads given.1;
       status_due =
           status ∙ sym (ap (λ (b : Bool). (if b then silent Long else due_within command given.0).status) past);
-      text_due = text ∙ sym (ap (λ (b : Bool). (if b then silent Long else due_within command given.0).text) past);
+      text_due = subst (λ (b : Bool). MatchBool b (text_bytes reply.text ≡ [])
+          (IsOwedWithin command given.0 (text_bytes reply.text))) (sym past) text;
       says = λ done. absurd (long_is_not_done reply.status status done);
-      all_read = λ done. absurd (long_is_not_done reply.status status done);
+      all_read = λ done reads. absurd (long_is_not_done reply.status status done);
     }
 
 nothing_more : (written : Option Text) → Appends written written []
@@ -197,6 +230,9 @@ no_input words ports none =
     (IfSome ports.left (λ (bytes : Text). ◌≡◌ {A = Text} [] bytes))
     (◌≡◌ {A = Text} [] [])) (sym none) nothing
 
+no_text : IsOwedText None [] []
+no_text = refl
+
 -- words that form no command end the run with Usage, and nothing is changed
 pub run_none : (words : List Text) (ports : Ports) → command_of words ≡ None → Runs words ports ports Usage
 run_none words ports none = record {
@@ -206,7 +242,7 @@ run_none words ports none = record {
     is_input = no_input words ports none;
     owed = record {
       status_due = sym (ap (λ (c : Option Command). (due_for c []).status) none);
-      text_due = sym (ap (λ (c : Option Command). (due_for c []).text) none);
+      text_due = subst (λ (c : Option Command). IsOwedText c [] []) (sym none) no_text;
     };
     written = nothing_more ports.written;
     says = λ done. absurd (cc);

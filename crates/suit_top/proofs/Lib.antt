@@ -5,4 +5,6 @@ pub mod Endings
 pub mod Inputs
 pub mod Solved
 pub mod SolvedTexts
+pub mod Tabled
 pub mod ToldAnswers
+pub mod Tried

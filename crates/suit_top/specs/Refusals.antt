@@ -8,24 +8,7 @@ use Rattle.suit_plans.specs.declared.faults.PlanFault.{PlanFault}
 use Rattle.suit_plans.specs.declared.faults.PlanKind.{PlanKind}
 use Rattle.suit_plans.specs.declared.faults.PlanKind.TheVariants as plans
 use Rattle.suit_question.specs.declared.faults.QuestionFault.{QuestionFault}
-use Rattle.suit_question.specs.declared.faults.QuestionKind.{QuestionKind}
-use Rattle.suit_question.specs.declared.faults.QuestionKind.TheVariants.{NoLine, Word, Repeated, Rank, Twice, Shared}
-use Rattle.suit_question.specs.declared.faults.QuestionKind.TheVariants.{Empty, Number, Range, Vacant, NoLayout, Tail}
-
--- the number of a fault of a question text
-abbrev pub fault_number : QuestionKind → ℕ
-fault_number NoLine = 1
-fault_number Word = 2
-fault_number Repeated = 3
-fault_number Rank = 4
-fault_number Twice = 5
-fault_number Shared = 6
-fault_number Empty = 7
-fault_number Number = 8
-fault_number Range = 9
-fault_number Vacant = 10
-fault_number NoLayout = 11
-fault_number Tail = 12
+use Rattle.suit_question.specs.Faults.{fault_number}
 
 -- the number of a fault of a plan or a defence
 abbrev pub plan_fault_number : PlanKind → ℕ
@@ -113,3 +96,7 @@ pivots_line budget round = round_line (codes "pivots " ++ decimal budget) round
 -- the line that is written where a number of a round is too wide
 abbrev pub width_line : ℕ → Text
 width_line round = round_line (codes "wide") round
+
+-- the line that is written where a record of a table, counted from 1, has more or fewer than thirteen fields
+abbrev pub misfit_line : ℕ → Text
+misfit_line at = codes "csv at record " ++ decimal at ++ codes "\n"

@@ -2,7 +2,7 @@
 use Rattle.std.specs.Prelude.{ℕ}
 use Rattle.suit_top.specs.declared.status.Status.{Status}
 use Rattle.suit_top.specs.declared.status.Status.TheVariants.{Done, NotValid, Usage, Malformed, Nodes, Pivots, Wide}
-use Rattle.suit_top.specs.declared.status.Status.TheVariants.{ReadFault, WriteFault, Memory, Support, Long}
+use Rattle.suit_top.specs.declared.status.Status.TheVariants.{ReadFault, WriteFault, Memory, Support, Long, Csv}
 
 -- the exit code of a status
 abbrev pub code_of : Status → ℕ
@@ -18,3 +18,4 @@ code_of WriteFault = 8
 code_of Memory = 9
 code_of Support = 10
 code_of Long = 11
+code_of Csv = 12

@@ -1,9 +1,6 @@
 //! The commands, one file each, and the lists that name them all.
-ghost use Rattle.std.specs.Prelude.{◌≡◌, ◌≤◌, Some, IfOk, length, map};
-ghost use Rattle.suit_game.specs.Validity.{IsValid};
-ghost use Rattle.suit_top.specs.Asking.{answer_part};
-ghost use Rattle.suit_top.specs.declared.commands.TheConstants.{MOST_INPUT};
-ghost use Rattle.suit_top.specs.Commands.{asking_part, command_of, limit_of, due_about, due_within, SaysAbout, Says};
+ghost use Rattle.std.specs.Prelude.{◌≡◌, ◌≤◌, Some, IfOk, IfSome, length, map};
+ghost use Rattle.suit_top.specs.Commands.{command_of, IsCommand, limit_of, reads_input, due_within, IsOwedWithin, Says};
 ghost use Rattle.suit_top.specs.Texts.{text_bytes};
 ghost use Rattle.suit_top.specs.Words.{is_only};
 
@@ -11,13 +8,20 @@ use crate::reply::Reply;
 use crate::status::Status;
 use std::alloc::{AllocError, Global};
 use std::thread::Threads;
-use suit_game::{Gate, Question};
-use suit_question::{question_end, read_question};
+use suit_game::Gate;
 
 mod check;
+mod inquiry;
 mod lines;
+mod made;
+mod make;
 mod solve;
+mod table;
+mod trial;
 mod weigh;
+
+pub use inquiry::Inquiry;
+pub use made::MadeTable;
 
 /// The most bytes of input of a command that reads a question.
 pub const MOST_INPUT: usize = 2_097_152;
@@ -25,34 +29,45 @@ pub const MOST_INPUT: usize = 2_097_152;
 /// What the program can be asked to do.
 #[derive(Clone, Copy, Debug, PartialEq, Eq)]
 pub enum Command {
-    /// Answer the question that is read.
-    Solve,
-    /// Check the answer that follows the question that is read.
-    Check,
-    /// Tell in sentences the plan of the answer that follows the question that is read.
-    Lines,
-    /// Tell the weights of the class layouts of the question that is read.
-    Weigh,
+    /// Say something about the question that the input asks.
+    About(Inquiry),
+    /// Judge the questions of the table that is read.
+    Table,
+    /// Make a table.
+    Make(MadeTable),
+    /// Judge the questions of a made table, and tell how many come to which outcome.
+    Trial(MadeTable),
 }
 
 impl Command {
     /// The command that the words after the program's name form.
     pub fn of(words: &[&str]) -> Option<Command>
-        ensures { result ≡ command_of (map (λ word. word.now) words.now) }
+        ensures command { result ≡ command_of (map (λ word. word.now) words.now) }
+        ensures within { IfSome result IsCommand }
     {
-        if solve::are_words(words) {
-            return Some(Command::Solve);
+        if let Some(inquiry) = Inquiry::of(words) {
+            return Some(Command::About(inquiry));
         }
-        if check::are_words(words) {
-            return Some(Command::Check);
+        if table::are_words(words) {
+            return Some(Command::Table);
         }
-        if lines::are_words(words) {
-            return Some(Command::Lines);
+        if let Some(made) = make::table_in(words) {
+            return Some(Command::Make(made));
         }
-        if weigh::are_words(words) {
-            return Some(Command::Weigh);
+        if let Some(made) = trial::table_in(words) {
+            return Some(Command::Trial(made));
         }
         None
+    }
+
+    /// Whether the command reads its input.
+    pub fn reads_input(self) -> bool
+        ensures { result ≡ reads_input self }
+    {
+        match self {
+            Command::About(_) | Command::Table => true,
+            Command::Make(_) | Command::Trial(_) => false,
+        }
     }
 
     /// The most bytes of input that the command takes.
@@ -60,14 +75,13 @@ impl Command {
         ensures { result ≡ limit_of self }
     {
         match self {
-            Command::Solve => solve::LIMIT,
-            Command::Check => check::LIMIT,
-            Command::Lines => lines::LIMIT,
-            Command::Weigh => weigh::LIMIT,
+            Command::About(_) => MOST_INPUT,
+            Command::Table => table::LIMIT,
+            Command::Make(_) | Command::Trial(_) => 0,
         }
     }
 
-    /// The reply to an input that is not too long: to the question that it asks, or to the first fault of its text.
+    /// The reply to an input that is not too long.
     pub fn reply<R: Threads + Sync, G: Gate + Sync>(
         self,
         rt: &R,
@@ -75,62 +89,20 @@ impl Command {
         alloc: Global,
         input: &[u8],
     ) -> Result<Reply, AllocError>
-        requires { length input.now ≤ limit_of self }
+        requires command { IsCommand self }
+        requires short { length input.now ≤ limit_of self }
         ensures status { IfOk result (λ reply. reply.status ≡ (due_within self input.now).status) }
-        ensures text { IfOk result (λ reply. text_bytes reply.text ≡ (due_within self input.now).text) }
+        ensures text { IfOk result (λ reply. IsOwedWithin self input.now (text_bytes reply.text)) }
         ensures says { IfOk result (λ reply. reply.status ≡ Status.Done
             → Says (Some self) input.now (text_bytes reply.text)) }
     {
-        match read_question(self.asking_part(input)) {
-            Ok(question) => self.reply_about(rt, gate, alloc, input, &question),
-            Err(fault) => Ok(Reply::malformed(fault)),
-        }
-    }
-
-    /// The part of an input that asks the question.
-    fn asking_part(self, input: &[u8]) -> &[u8]
-        requires { length input.now ≤ limit_of self }
-        ensures text { result.now ≡ asking_part self input.now }
-        ensures short { length result.now ≤ limit_of self }
-    {
         match self {
-            Command::Solve | Command::Weigh => input,
-            Command::Check | Command::Lines => input.split_at(question_end(input)).0,
+            Command::About(inquiry) => inquiry.reply(rt, gate, alloc, input),
+            Command::Table => table::reply(rt, gate, alloc, input),
+            Command::Make(made) => make::reply(alloc, made),
+            Command::Trial(made) => trial::reply(rt, gate, alloc, made),
         }
     }
-
-    /// The reply to the question that the input asks.
-    fn reply_about<R: Threads + Sync, G: Gate + Sync>(
-        self,
-        rt: &R,
-        gate: &G,
-        alloc: Global,
-        input: &[u8],
-        question: &Question,
-    ) -> Result<Reply, AllocError>
-        requires valid { IsValid question.now }
-        requires short { length input.now ≤ limit_of self }
-        ensures status { IfOk result (λ reply. reply.status ≡ (due_about self input.now question.now).status) }
-        ensures text { IfOk result (λ reply. text_bytes reply.text ≡ (due_about self input.now question.now).text) }
-        ensures says { IfOk result (λ reply. reply.status ≡ Status.Done
-            → SaysAbout self input.now question.now (text_bytes reply.text)) }
-    {
-        match self {
-            Command::Solve => solve::reply(alloc, question),
-            Command::Check => check::reply(rt, gate, alloc, question, answer_part(input)),
-            Command::Lines => lines::reply(rt, gate, alloc, question, answer_part(input)),
-            Command::Weigh => weigh::reply(alloc, question),
-        }
-    }
-}
-
-/// What follows the question of an input.
-fn answer_part(input: &[u8]) -> &[u8]
-    requires { length input.now ≤ MOST_INPUT }
-    ensures text { result.now ≡ answer_part input.now }
-    ensures short { length result.now ≤ MOST_INPUT }
-{
-    input.split_at(question_end(input)).1
 }
 
 /// Whether the words are one word, which is this one.

@@ -3,6 +3,7 @@
 
 mod commands;
 pub mod examples;
+mod judge;
 pub mod laws;
 mod refusal;
 mod reply;
@@ -11,5 +12,6 @@ mod status;
 mod tests;
 mod top;
 
+pub use judge::SolvingJudge;
 pub use status::Status;
 pub use top::run;

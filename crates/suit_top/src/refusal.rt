@@ -2,16 +2,16 @@
 ghost use Rattle.std.specs.Prelude.{◌≡◌, ◌+◌, ◌≤◌, length};
 ghost use Rattle.suit_check.specs.Verdicts.{parts_of};
 ghost use Rattle.suit_top.specs.Refusals.{answer_fault_number, answer_fault_place, answer_line};
-ghost use Rattle.suit_top.specs.Refusals.{defence_line, fault_line, fault_number, fraction_line, least_line};
-ghost use Rattle.suit_top.specs.Refusals.{malformed_line, most_line, nodes_line, plan_fault_number, plan_line};
-ghost use Rattle.suit_top.specs.Refusals.{pivots_line, size_line, width_line};
+ghost use Rattle.suit_top.specs.Refusals.{defence_line, fault_line, fraction_line, least_line};
+ghost use Rattle.suit_top.specs.Refusals.{malformed_line, misfit_line, most_line, nodes_line, plan_fault_number};
+ghost use Rattle.suit_top.specs.Refusals.{pivots_line, plan_line, size_line, width_line};
 
 use arrayvec::ArrayString;
 use itoa::Buffer;
 use suit_answer::AnswerFault;
 use suit_num::Frac;
 use suit_plans::{PlanFault, PlanKind};
-use suit_question::{QuestionFault, QuestionKind};
+use suit_question::QuestionFault;
 
 /// A line of refusal. The longest tells two numbers of 39 digits.
 pub type Refusal = ArrayString<97>;
@@ -20,7 +20,7 @@ pub type Refusal = ArrayString<97>;
 pub fn malformed(fault: QuestionFault) -> Refusal
     ensures { result.bytes ≡ malformed_line fault }
 {
-    line_of_fault("malformed ", number_of(fault.kind), " at line ", fault.line)
+    line_of_fault("malformed ", fault.kind.number(), " at line ", fault.line)
 }
 
 /// The line that is written of an answer text with a fault.
@@ -117,6 +117,17 @@ pub fn past_width(round: u32) -> Refusal
     text
 }
 
+/// The line that is written where a record of a table has more or fewer than thirteen fields.
+pub fn misfit(at: u32) -> Refusal
+    ensures { result.bytes ≡ misfit_line at }
+{
+    let mut text = Refusal::new();
+    text.push_str("csv at record ");
+    text.push_str(Buffer::new().format(at));
+    text.push_str("\n");
+    text
+}
+
 // The line of a numbered fault: what has it, its number, and where it stands.
 fn line_of_fault(what: &str, number: u8, place: &str, at: u32) -> Refusal
     requires { length what.now + length place.now ≤ 40 }
@@ -143,26 +154,6 @@ fn line_of_fraction(what: &str, found: Frac) -> Refusal
     text.push_str(Buffer::new().format(found.den.unsigned_abs()));
     text.push_str("\n");
     text
-}
-
-// The number of a fault of a question text.
-fn number_of(kind: QuestionKind) -> u8
-    ensures { result ≡ fault_number kind }
-{
-    match kind {
-        QuestionKind::NoLine => 1,
-        QuestionKind::Word => 2,
-        QuestionKind::Repeated => 3,
-        QuestionKind::Rank => 4,
-        QuestionKind::Twice => 5,
-        QuestionKind::Shared => 6,
-        QuestionKind::Empty => 7,
-        QuestionKind::Number => 8,
-        QuestionKind::Range => 9,
-        QuestionKind::Vacant => 10,
-        QuestionKind::NoLayout => 11,
-        QuestionKind::Tail => 12,
-    }
 }
 
 // The number of a fault of an answer text, and its line.

@@ -1,7 +1,7 @@
 //! What a command makes of its input, whole, before the first byte is written.
-ghost use Rattle.std.specs.Prelude.{◌≡◌, [], IfOk, IsErrOf, IsTrue, string_bytes};
+ghost use Rattle.std.specs.Prelude.{◌≡◌, [], false, IfOk, IsErrOf, string_bytes};
 ghost use Rattle.suit_ports.specs.Counts.{Rose};
-ghost use Rattle.suit_top.specs.Commands.{reads_input};
+ghost use Rattle.suit_top.specs.Commands.{IsCommand, reads_input};
 ghost use Rattle.suit_top.specs.Refusals.{malformed_line};
 ghost use Rattle.suit_top.specs.Replies.{Failed, IsReply};
 ghost use Rattle.suit_top.specs.Texts.{text_bytes};
@@ -126,7 +126,7 @@ impl From<AllocError> for ReplyEnd {
     }
 }
 
-/// Reads the input of a command that reads one, and makes the reply to it.
+/// Reads the input of a command, if it reads one, and makes the reply to it.
 pub fn reply_to<R: Threads + Sync, G: Gate + Sync, S: Source>(
     rt: &R,
     gate: &G,
@@ -134,11 +134,15 @@ pub fn reply_to<R: Threads + Sync, G: Gate + Sync, S: Source>(
     command: Command,
     source: &mut S,
 ) -> Result<Reply, ReplyEnd>
-    requires reads { IsTrue (reads_input command) }
+    requires { IsCommand command }
     ensures reply { IfOk result (IsReply command (S.left source.old) (S.left source.new)) }
     ensures fault { IsErrOf result ReplyEnd.ReadFault
         → Rose (S.faults source.old) (S.faults source.new) × Failed command (S.left source.old) (S.left source.new) }
+    ensures kept { reads_input command ≡ false → source.new ≡ source.old }
 {
+    if !command.reads_input() {
+        return Ok(command.reply(rt, gate, alloc, &[])?);
+    }
     match read_all(alloc, source, command.limit()) {
         Ok(input) => Ok(command.reply(rt, gate, alloc, &input)?),
         Err(ReadEnd::Long) => Ok(Reply::silent(Status::Long)),

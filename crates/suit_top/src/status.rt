@@ -29,6 +29,8 @@ pub enum Status {
     Support,
     /// The input has more bytes than the command takes.
     Long,
+    /// A record of a table has more or fewer than thirteen fields.
+    Csv,
 }
 
 impl Status {
@@ -49,6 +51,7 @@ impl Status {
             Status::Memory => 9,
             Status::Support => 10,
             Status::Long => 11,
+            Status::Csv => 12,
         }
     }
 }

@@ -182,8 +182,8 @@ fn words_and_lengths(rt: HostRuntime) -> Result<(), Fail> {
         (["solve", "now"].as_slice(), 3, 2),
         (["check", "now"].as_slice(), 3, 2),
         (["weigh", "now"].as_slice(), 3, 2),
-        (["make", "1", "1"].as_slice(), 3, 2),
         (["make", "1", "0"].as_slice(), 3, 2),
+        (["make", "4294967296", "1"].as_slice(), 3, 2),
         ([].as_slice(), 3, 2),
     ];
     for (words, length, code) in cases {

@@ -7,7 +7,7 @@ ghost use Rattle.suit_top.specs.Commands.Checking.{is_check, due_checking, due_f
 ghost use Rattle.suit_top.specs.Commands.Checking.{Checks};
 ghost use Rattle.suit_top.specs.Texts.{text_bytes};
 
-use super::{MOST_INPUT, is_only};
+use super::is_only;
 use crate::refusal::{
     Refusal, other_least, other_most, past_nodes, wrong_answer, wrong_defence, wrong_plan,
 };
@@ -18,9 +18,6 @@ use std::thread::Threads;
 use suit_answer::{Answer, AnswerFault, read_answer};
 use suit_check::{CheckEnd, Verdict, check};
 use suit_game::{Gate, Question};
-
-/// The most bytes of input.
-pub const LIMIT: usize = MOST_INPUT;
 
 /// Whether the words are those of the command.
 pub fn are_words(words: &[&str]) -> bool

@@ -7,7 +7,7 @@ ghost use Rattle.suit_top.specs.Commands.Telling.{Tells, due_telling, due_tellin
 ghost use Rattle.suit_top.specs.Texts.{text_bytes};
 
 use super::check::reply_to_answer;
-use super::{MOST_INPUT, is_only};
+use super::is_only;
 use crate::refusal::wrong_answer;
 use crate::reply::Reply;
 use crate::status::Status;
@@ -16,9 +16,6 @@ use std::thread::Threads;
 use suit_answer::{Answer, AnswerFault, read_answer};
 use suit_game::{Gate, Question};
 use suit_lines::lines_text;
-
-/// The most bytes of input.
-pub const LIMIT: usize = MOST_INPUT;
 
 /// Whether the words are those of the command.
 pub fn are_words(words: &[&str]) -> bool

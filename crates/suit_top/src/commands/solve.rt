@@ -4,7 +4,7 @@ ghost use Rattle.suit_game.specs.Validity.{IsValid};
 ghost use Rattle.suit_top.specs.Commands.Solving.{Answers, due_of_fate, due_solving, is_solve};
 ghost use Rattle.suit_top.specs.Texts.{text_bytes};
 
-use super::{MOST_INPUT, is_only};
+use super::is_only;
 use crate::refusal::{past_nodes, past_pivots, past_size, past_width};
 use crate::reply::Reply;
 use crate::status::Status;
@@ -12,9 +12,6 @@ use std::alloc::{AllocError, Global};
 use suit_answer::answer_text;
 use suit_game::Question;
 use suit_solve::{SolveEnd, solve};
-
-/// The most bytes of input.
-pub const LIMIT: usize = MOST_INPUT;
 
 /// Whether the words are those of the command.
 pub fn are_words(words: &[&str]) -> bool

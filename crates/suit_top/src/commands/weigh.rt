@@ -6,7 +6,7 @@ ghost use Rattle.suit_top.specs.Commands.Weighing.{is_weigh, count_text, layout_
 ghost use Rattle.suit_top.specs.Commands.Weighing.{weights_text, due_weighing, Weighs};
 ghost use Rattle.suit_top.specs.Texts.{text_bytes};
 
-use super::{MOST_INPUT, is_only};
+use super::is_only;
 use crate::reply::Reply;
 use crate::status::Status;
 use std::alloc::{AllocError, Global};
@@ -14,9 +14,6 @@ use std::fmt::Write;
 use suit_classes::Classes;
 use suit_game::{Question, total};
 use suit_layouts::{ClassLayout, class_layouts};
-
-/// The most bytes of input.
-pub const LIMIT: usize = MOST_INPUT;
 
 /// Whether the words are those of the command.
 pub fn are_words(words: &[&str]) -> bool

@@ -1,0 +1,12 @@
+-- Reading the rest, from the number so far, is reading the whole.
+use Rattle.std.proofs.Common.{◌≡◌, ◌<◌, ◌^◌, drop}
+use Rattle.std.specs.Str.{all_ascii_digits}
+use Rattle.std.specs.Str.Parse.{digits_value, digits_value_after}
+use Rattle.suit_top.proofs.commands.made.digits_read.Given as goal
+
+abbrev pub invariant-loop-byte : goal.invariant-loop-byte
+invariant-loop-byte l = record {
+  digits : all_ascii_digits l.word ≡ all_ascii_digits (drop l.byte-index l.word);
+  value : digits_value 10 l.word ≡ digits_value_after 10 l.number (drop l.byte-index l.word);
+  small : l.number < 10 ^ l.byte-index;
+}
