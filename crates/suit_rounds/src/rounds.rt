@@ -31,12 +31,16 @@ type Round = (u32, u32);
 const TEN: &str = "north AQJT987654\nsouth 3\nstart S\nentries 0 0\ngoal 10\nend\n";
 
 /// Questions, and their rounds.
-const ROUNDS: [(&str, &[Round]); 6] = [
+const ROUNDS: [(&str, &[Round]); 17] = [
     (
         "north -\nsouth AQ\nstart N\nentries 0 0\ngoal 1\nend\n",
         &[(0, 0)],
     ),
     (TEN, &[(10, 5), (12, 6)]),
+    (
+        "north AJT987654\nsouth 3\nstart S\nentries 0 0\ngoal 8\nend\n",
+        &[(18, 9), (20, 8), (32, 15), (33, 15)],
+    ),
     (
         "north AJT987654\nsouth 3\nstart S\nentries 0 0\ngoal 9\nend\n",
         &[(18, 7), (20, 8)],
@@ -46,8 +50,25 @@ const ROUNDS: [(&str, &[Round]); 6] = [
         &[(38, 19), (82, 41), (111, 49)],
     ),
     (
+        "north AQ\nsouth 32\nstart S\nentries 0 0\ngoal tricks\nend\n",
+        &[(38, 19), (82, 49), (113, 58)],
+    ),
+    (
         "north AQ\nsouth 32\ngoal tricks\nend\n",
         &[(42, 21), (92, 54), (139, 62), (189, 112), (224, 110)],
+    ),
+    (
+        "north KJ\nsouth 2\nstart N\nregain S\nentries 0 1\ngoal tricks\nend\n",
+        &[(102, 50)],
+    ),
+    (
+        "north AJT98765432\nsouth -\nstart N\ngoal 11\nend\n",
+        &[(2, 1)],
+    ),
+    ("north AKQJT98\nsouth 765432\ngoal 7\nend\n", &[(12, 6)]),
+    (
+        "north A9\nsouth -\nstart N\nentries 0 0\ngoal tricks\nend\n",
+        &[(198, 99)],
     ),
     (
         "north AKT9876\nsouth 54\nstart S\nentries 0 1\ngoal 7\nend\n",
@@ -58,6 +79,99 @@ const ROUNDS: [(&str, &[Round]); 6] = [
             (100, 46),
             (111, 54),
             (116, 51),
+        ],
+    ),
+    (
+        "north KQ2\nsouth 543\ngoal tricks\nend\n",
+        &[
+            (50, 25),
+            (99, 50),
+            (149, 81),
+            (243, 115),
+            (313, 176),
+            (331, 161),
+            (350, 193),
+            (380, 185),
+        ],
+    ),
+    (
+        "north QT9\nsouth 32\ngoal tricks\nentries 0 2\nstart S\nwest 3 5\nend\n",
+        &[
+            (120, 57),
+            (329, 144),
+            (460, 233),
+            (598, 285),
+            (692, 353),
+            (755, 417),
+            (830, 465),
+        ],
+    ),
+    (
+        "north AJT\nsouth 432\ngoal 2\nend\n",
+        &[
+            (84, 42),
+            (192, 80),
+            (281, 122),
+            (367, 177),
+            (432, 182),
+            (492, 248),
+            (581, 225),
+            (689, 353),
+            (749, 292),
+            (789, 412),
+            (827, 327),
+            (858, 442),
+            (875, 443),
+        ],
+    ),
+    (
+        "north K9\nsouth 42\nvacant 5 11\nwest 2 5\ngoal 1\nentries 1 0\nend\n",
+        &[
+            (354, 169),
+            (707, 346),
+            (975, 502),
+            (1587, 715),
+            (1890, 897),
+            (2502, 1084),
+            (2805, 1342),
+            (3018, 1454),
+        ],
+    ),
+    (
+        "north AKT9\nsouth J32\ngoal 4\nentries 1 1\nend\n",
+        &[
+            (52, 26),
+            (124, 57),
+            (153, 65),
+            (175, 84),
+            (223, 95),
+            (283, 119),
+            (316, 131),
+            (349, 175),
+            (373, 159),
+            (395, 211),
+            (446, 187),
+            (538, 253),
+            (566, 228),
+            (598, 285),
+            (668, 273),
+            (757, 374),
+            (781, 315),
+            (811, 379),
+            (834, 358),
+            (853, 428),
+            (869, 425),
+            (889, 466),
+            (916, 455),
+            (942, 472),
+            (961, 483),
+            (983, 411),
+            (992, 474),
+            (1002, 491),
+            (1013, 425),
+            (1018, 427),
+            (1021, 445),
+            (1026, 460),
         ],
     ),
 ];
