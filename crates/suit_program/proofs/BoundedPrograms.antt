@@ -16,8 +16,8 @@ use Rattle.suit_plans.specs.Properness.{sum_of}
 use Rattle.suit_plans.specs.ReplyLaws.{IsPaid}
 use Rattle.suit_plans.proofs.NumberSums.{sum_times}
 use Rattle.suit_plans.proofs.SharedSums.{count_case}
-use Rattle.suit_tableaus.specs.Points.{dot}
-use Rattle.suit_tableaus.specs.Programs.{IsFeasible}
+use Rattle.suit_linear.specs.Points.{dot}
+use Rattle.suit_linear.specs.Programs.{IsFeasible}
 use Rattle.suit_program.specs.Optimality.{ProgramsAreBounded}
 use Rattle.suit_program.specs.Points.{Column, IsPositive, Point, given_to, no_point, point_of, same_column, unit_point}
 use Rattle.suit_program.specs.Programs.{Limit, columns, excess, limits, program_of, row_of}

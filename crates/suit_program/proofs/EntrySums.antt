@@ -3,9 +3,9 @@ use Rattle.std.proofs.Common.{◌≡◌, ℕ, ◌+◌, ◌*◌, ◌^◌, ◌<◌
 use Rattle.std.specs.Prelude.{ℤ, pos, ◌+ℤ◌, ◌==◌, unsigned_abs}
 use Rattle.std.proofs.lemmas.Int.{ints}
 use Rattle.std.proofs.lemmas.Bool.{cond-true, cond-false, eq-eqb, ne_eqb}
-use Rattle.suit_tableaus.specs.declared.sparse.Entry.{Entry}
-use Rattle.suit_tableaus.specs.Sparse.{part_of, sum_in}
-use Rattle.suit_tableaus.proofs.SparseSums.{sum_in_more}
+use Rattle.suit_linear.specs.declared.sparse.Entry.{Entry}
+use Rattle.suit_linear.specs.Sparse.{part_of, sum_in}
+use Rattle.suit_linear.proofs.SparseSums.{sum_in_more}
 
 -- a number is the sum of so many entries, and no larger than as many numbers of 64 bits
 pub record IsSummed (count : ℕ) (entries : List Entry) (column : ℕ) (sum : ℤ) : Type 0 where

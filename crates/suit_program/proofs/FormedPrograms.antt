@@ -23,7 +23,7 @@ use Rattle.suit_plans.specs.ReplyLaws.{IsPaid}
 use Rattle.suit_plans.proofs.BoundedReplies.{sum_weighed, weights_add}
 use Rattle.suit_plans.proofs.HistoryOrder.{same_class_history_is}
 use Rattle.suit_plans.proofs.NumberSums.{sum_nothing}
-use Rattle.suit_tableaus.specs.declared.program.ProgramRow.{ProgramRow}
+use Rattle.suit_linear.specs.declared.program.ProgramRow.{ProgramRow}
 use Rattle.suit_program.specs.Optimality.{ProgramsAreWellFormed}
 use Rattle.suit_program.specs.Points.{IsPositive, Column, Held, Passed, Point, no_point, same_column, unit_point}
 use Rattle.suit_program.specs.Programs.{Answered, Limit, Shared, columns, excess, limits, program_of, row_of}

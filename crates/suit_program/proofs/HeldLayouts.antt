@@ -38,7 +38,7 @@ use Rattle.suit_plans.proofs.PublicMoves.{own_moves_on}
 use Rattle.suit_plans.proofs.SharedSums.{sum_positive}
 use Rattle.suit_classes.proofs.UndecidedMoves.{HasFirst}
 use Rattle.suit_plans.proofs.WhoseTurns.{own_turn}
-use Rattle.suit_tableaus.specs.Programs.{IsDualFeasible}
+use Rattle.suit_linear.specs.Programs.{IsDualFeasible}
 use Rattle.suit_program.specs.Points.{Held, IsPositive, Point}
 use Rattle.suit_program.specs.Programs.{limits, program_of}
 use Rattle.suit_program.specs.Readings.{Reading, defence_of, defence_reading, price_of, read_from, read_mass}

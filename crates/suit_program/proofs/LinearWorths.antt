@@ -12,7 +12,7 @@ use Rattle.suit_classes.specs.ClassMoves.{same_class_move}
 use Rattle.suit_classes.specs.ClassPlaces.{class_after, class_moves, class_payoff, class_turn}
 use Rattle.suit_plans.specs.Masses.{count_of, is_declarers, is_first, let_through, mass_from, mass_of, share}
 use Rattle.suit_plans.specs.Properness.{sum_of}
-use Rattle.suit_tableaus.specs.Points.{dot}
+use Rattle.suit_linear.specs.Points.{dot}
 use Rattle.suit_program.specs.Optimality.{CostsTell, RowsTell}
 use Rattle.suit_program.specs.Points.{Column, Held, Passed, Point, given_to, no_point, point_of, unit_point}
 use Rattle.suit_program.specs.Programs.{Answered, Limit, Shared, columns, excess, program_of, sum_passed}

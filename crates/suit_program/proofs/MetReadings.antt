@@ -26,7 +26,7 @@ use Rattle.suit_plans.specs.ReplyLaws.{counts_at}
 use Rattle.suit_plans.proofs.PublicMoves.{own_moves_on, some_layout}
 use Rattle.suit_plans.proofs.ReplyChoices.{least_choices, most_choices}
 use Rattle.suit_plans.proofs.TurnMoves.{declarers_moves}
-use Rattle.suit_tableaus.specs.declared.ends.Optimum.{Optimum}
+use Rattle.suit_linear.specs.declared.ends.Optimum.{Optimum}
 use Rattle.suit_program.specs.Programs.{supported_worth}
 use Rattle.suit_program.specs.ReadingLaws.{IsReadable, SupportedRepliesMeet, SupportsGrow}
 use Rattle.suit_program.specs.ReadingLaws.{WholeSupportsMeet, defence_read, plan_read}

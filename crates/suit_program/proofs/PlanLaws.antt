@@ -10,11 +10,11 @@ use Rattle.suit_num.proofs.IntegerLaws.{mul_right_comm}
 use Rattle.suit_game.specs.declared.question.Question.{Question}
 use Rattle.suit_plans.specs.BestReplies.{least}
 use Rattle.suit_plans.specs.Properness.{IsProperPlan}
-use Rattle.suit_tableaus.specs.declared.ends.Optimum.{Optimum}
-use Rattle.suit_tableaus.specs.Optima.{IsCommon}
-use Rattle.suit_tableaus.specs.Points.{dot}
-use Rattle.suit_tableaus.specs.Programs.{IsFeasible}
-use Rattle.suit_tableaus.proofs.CommonDenominators.{common_denominator}
+use Rattle.suit_linear.specs.declared.ends.Optimum.{Optimum}
+use Rattle.suit_linear.specs.Optima.{IsCommon}
+use Rattle.suit_linear.specs.Points.{dot}
+use Rattle.suit_linear.specs.Programs.{IsFeasible}
+use Rattle.suit_linear.proofs.CommonDenominators.{common_denominator}
 use Rattle.suit_program.specs.Points.{Point, no_point, point_of, unit_point}
 use Rattle.suit_program.specs.Programs.{columns, program_of, supported_worth}
 use Rattle.suit_program.specs.ReadingLaws.{IsReadable, ReadPlansAreProper, ReadPlansKeepTheWorth}

@@ -14,7 +14,7 @@ use Rattle.suit_num.proofs.IntegerLaws.{div-mul, mul-add_left, mul_assoc, mul_le
 use Rattle.suit_num.proofs.IntegerLaws.{same_from_mul}
 use Rattle.suit_game.specs.declared.question.Question.{Question}
 use Rattle.suit_classes.specs.declared.class_moves.ClassMove.{ClassMove}
-use Rattle.suit_tableaus.specs.Optima.{IsCommon}
+use Rattle.suit_linear.specs.Optima.{IsCommon}
 use Rattle.suit_program.specs.Points.{Column, Held, Passed, Point, given_to, point_of, same_column}
 use Rattle.suit_program.specs.Programs.{columns}
 use Rattle.suit_program.specs.Readings.{common_den, is_passed, parts_of, plan_den, plan_point, scaled}

@@ -8,7 +8,7 @@ use Rattle.std.specs.List.{flat_map}
 use Rattle.suit_game.specs.declared.question.Question.{Question}
 use Rattle.suit_classes.specs.ClassMoves.{ClassHistory}
 use Rattle.suit_plans.specs.declared.plan.Row.{Row}
-use Rattle.suit_tableaus.specs.declared.ends.Optimum.{Optimum}
+use Rattle.suit_linear.specs.declared.ends.Optimum.{Optimum}
 use Rattle.suit_tree.specs.declared.tree.Tree.{Tree}
 use Rattle.suit_program.specs.declared.plan_reader.PlanReader.{PlanReader}
 use Rattle.suit_program.specs.declared.reach.Reach.{Reach}

@@ -20,8 +20,8 @@ use Rattle.suit_classes.specs.declared.class_moves.ClassMove.{ClassMove}
 use Rattle.suit_classes.specs.ClassMoves.{ClassHistory}
 use Rattle.suit_plans.specs.Masses.{Shares}
 use Rattle.suit_plans.specs.Properness.{sum_of}
-use Rattle.suit_tableaus.specs.declared.ends.Optimum.{Optimum}
-use Rattle.suit_tableaus.proofs.CommonDenominators.{common_denominator}
+use Rattle.suit_linear.specs.declared.ends.Optimum.{Optimum}
+use Rattle.suit_linear.proofs.CommonDenominators.{common_denominator}
 use Rattle.suit_program.specs.declared.plan_reader.PlanReader.{PlanReader}
 use Rattle.suit_program.specs.declared.reach.Reach.{Reach}
 use Rattle.suit_program.specs.Points.{Column, Passed, Point, point_of, unit_point}

@@ -32,7 +32,7 @@ use Rattle.suit_plans.proofs.NumberSums.{sum_nothing, sum_times}
 use Rattle.suit_plans.proofs.PublicMoves.{HasFirst-found}
 use Rattle.suit_plans.proofs.SharedSums.{within_sum}
 use Rattle.suit_classes.proofs.UndecidedMoves.{HasFirst}
-use Rattle.suit_tableaus.specs.Programs.{IsDualFeasible}
+use Rattle.suit_linear.specs.Programs.{IsDualFeasible}
 use Rattle.suit_program.specs.Points.{Column, Held, IsPositive, Passed, Point, same_column, unit_point}
 use Rattle.suit_program.specs.Programs.{Shared, columns, columns_at, excess, held_column, limits, program_of}
 use Rattle.suit_program.specs.Programs.{sum_passed}

@@ -17,9 +17,9 @@ use Rattle.suit_game.proofs.EachElement.{Contains-first, Contains-later, map_sam
 use Rattle.suit_classes.specs.declared.class_moves.ClassMove.{ClassMove}
 use Rattle.suit_plans.specs.Properness.{sum_of}
 use Rattle.suit_plans.proofs.NumberSums.{sum_nothing}
-use Rattle.suit_tableaus.specs.declared.program.ProgramRow.{ProgramRow}
-use Rattle.suit_tableaus.specs.Points.{dot, number_at}
-use Rattle.suit_tableaus.specs.Programs.{IsDualFeasible, column_entries}
+use Rattle.suit_linear.specs.declared.program.ProgramRow.{ProgramRow}
+use Rattle.suit_linear.specs.Points.{dot, number_at}
+use Rattle.suit_linear.specs.Programs.{IsDualFeasible, column_entries}
 use Rattle.suit_program.specs.Points.{Column, Held, Point, no_point, point_of, unit_point}
 use Rattle.suit_program.specs.Programs.{Answered, Limit, Shared, answered_limits, columns, excess, limits, limits_at}
 use Rattle.suit_program.specs.Programs.{program_of, row_of, supported_worth}

@@ -19,7 +19,7 @@ use Rattle.suit_plans.specs.Orders.{same_class_history}
 use Rattle.suit_plans.specs.Properness.{sum_of}
 use Rattle.suit_plans.proofs.HistoryOrder.{same_class_history-itself, same_class_history_is}
 use Rattle.suit_plans.proofs.SharedSums.{count_case}
-use Rattle.suit_tableaus.specs.Points.{dot, number_at}
+use Rattle.suit_linear.specs.Points.{dot, number_at}
 use Rattle.suit_program.specs.Programs.{Answered, Limit, Shared}
 use Rattle.suit_program.specs.Readings.{is_answer, price_of}
 

@@ -8,7 +8,7 @@ use Rattle.std.proofs.lemmas.List.{length-map}
 use Rattle.suit_num.proofs.IntegerLaws.{int_lt-false}
 use Rattle.suit_game.specs.declared.question.Question.{Question}
 use Rattle.suit_plans.specs.declared.plan.TheConstants.{MOST_DEN}
-use Rattle.suit_tableaus.specs.declared.ends.Optimum.{Optimum}
+use Rattle.suit_linear.specs.declared.ends.Optimum.{Optimum}
 use Rattle.suit_tree.specs.declared.tree.Tree.{Tree}
 use Rattle.suit_program.specs.declared.support.Support.{Support as MarkedSupport}
 use Rattle.suit_program.specs.DefenceWalks.{IsPricedTree}

@@ -41,7 +41,7 @@ use Rattle.suit_plans.proofs.HistoryOrder.{IsStrict-moves, earlier-start, same_c
 use Rattle.suit_plans.proofs.MassSteps.{mass_kept, mass_of_same, mass_shared}
 use Rattle.suit_plans.proofs.PublicMoves.{layout_tells, layout_weighs}
 use Rattle.suit_plans.proofs.SharedSums.{count_case}
-use Rattle.suit_tableaus.specs.Programs.{IsDualFeasible}
+use Rattle.suit_linear.specs.Programs.{IsDualFeasible}
 use Rattle.suit_program.specs.Programs.{limits, program_of}
 use Rattle.suit_program.specs.Readings.{Reading, all_on_first, defence_of, defence_reading, has_row}
 use Rattle.suit_program.specs.Readings.{price_of, read_from, read_mass, read_shares, row_counts}

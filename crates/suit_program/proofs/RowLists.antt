@@ -6,7 +6,7 @@ use Rattle.std.proofs.lemmas.Bool.{cases_eq, eq-eqb, ne_eqb}
 use Rattle.std.proofs.lemmas.List.{append-nil, length-append, length-set, get_or-set_same, get_or-set_other, map-append}
 use Rattle.std.proofs.lemmas.List.{take_more}
 use Rattle.std.proofs.lemmas.List.Elements.{filter-append}
-use Rattle.suit_tableaus.specs.declared.sparse.Entry.{Entry}
+use Rattle.suit_linear.specs.declared.sparse.Entry.{Entry}
 use Rattle.suit_program.specs.declared.draft.Posting.{Posting}
 use Rattle.suit_program.specs.Drafts.{entries_of}
 

@@ -10,11 +10,11 @@ use Rattle.suit_num.proofs.IntegerLaws.{mul-neg_left}
 use Rattle.suit_game.specs.declared.question.Question.{Question}
 use Rattle.suit_plans.specs.Properness.{sum_of}
 use Rattle.suit_plans.proofs.NumberSums.{sum_kept}
-use Rattle.suit_tableaus.specs.declared.program.ProgramRow.{ProgramRow}
-use Rattle.suit_tableaus.specs.declared.sparse.Entry.{Entry}
-use Rattle.suit_tableaus.specs.Points.{dot, number_at}
-use Rattle.suit_tableaus.specs.Sparse.{dense_entries, sum_in}
-use Rattle.suit_tableaus.proofs.DotProducts.{dot_one, dot_zero}
+use Rattle.suit_linear.specs.declared.program.ProgramRow.{ProgramRow}
+use Rattle.suit_linear.specs.declared.sparse.Entry.{Entry}
+use Rattle.suit_linear.specs.Points.{dot, number_at}
+use Rattle.suit_linear.specs.Sparse.{dense_entries, sum_in}
+use Rattle.suit_linear.proofs.DotProducts.{dot_one, dot_zero}
 use Rattle.suit_program.specs.declared.draft.Draft.{Draft}
 use Rattle.suit_program.specs.declared.draft.Posting.{Posting}
 use Rattle.suit_program.specs.Drafts.{Given, entries_of, entries_value, entry_value, value_of}

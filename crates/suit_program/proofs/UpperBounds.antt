@@ -47,8 +47,8 @@ use Rattle.suit_plans.proofs.SharedSums.{within_sum}
 use Rattle.suit_plans.proofs.TurnMoves.{declarers_moves}
 use Rattle.suit_plans.proofs.WhoseTurns.{Declarers, Defences, Over, WhoseTurn, whose_turn}
 use Rattle.suit_plans.proofs.WorthsAtTurns.{max_picks}
-use Rattle.suit_tableaus.specs.Points.{dot, number_at}
-use Rattle.suit_tableaus.specs.Programs.{IsDualFeasible}
+use Rattle.suit_linear.specs.Points.{dot, number_at}
+use Rattle.suit_linear.specs.Programs.{IsDualFeasible}
 use Rattle.suit_program.specs.Points.{Point}
 use Rattle.suit_program.specs.Programs.{limits, program_of, supported_worth}
 use Rattle.suit_program.specs.Readings.{Reading, defence_of, defence_reading, price_of, read_from, read_mass}

@@ -8,7 +8,7 @@ use Rattle.std.proofs.lemmas.List.{length-map}
 use Rattle.suit_num.specs.declared.fraction.Frac.{Frac}
 use Rattle.suit_game.specs.declared.question.Question.{Question}
 use Rattle.suit_plans.specs.declared.plan.TheConstants.{MOST_DEN}
-use Rattle.suit_tableaus.specs.declared.ends.Optimum.{Optimum}
+use Rattle.suit_linear.specs.declared.ends.Optimum.{Optimum}
 use Rattle.suit_program.specs.Points.{unit_point}
 use Rattle.suit_program.specs.Programs.{columns, program_of}
 use Rattle.suit_program.specs.ReadOptima.{IsPlanDen}

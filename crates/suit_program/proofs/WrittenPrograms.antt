@@ -7,10 +7,10 @@ use Rattle.std.proofs.lemmas.Bool.{cond-false, cond-true, eq-eqb, ne_eqb}
 use Rattle.std.proofs.lemmas.Int.{ints}
 use Rattle.std.proofs.lemmas.List.{length-map}
 use Rattle.suit_game.specs.declared.question.Question.{Question}
-use Rattle.suit_tableaus.specs.declared.program.ProgramRow.{ProgramRow}
-use Rattle.suit_tableaus.specs.declared.sparse.Entry.{Entry}
-use Rattle.suit_tableaus.specs.declared.sparse.SparseRow.{SparseRow}
-use Rattle.suit_tableaus.specs.Sparse.{dense, dense_entries, dense_row}
+use Rattle.suit_linear.specs.declared.program.ProgramRow.{ProgramRow}
+use Rattle.suit_linear.specs.declared.sparse.Entry.{Entry}
+use Rattle.suit_linear.specs.declared.sparse.SparseRow.{SparseRow}
+use Rattle.suit_linear.specs.Sparse.{dense, dense_entries, dense_row}
 use Rattle.suit_program.specs.declared.draft.Draft.{Draft}
 use Rattle.suit_program.specs.Drafted.{IsDrafted, ONE, sparse_row}
 use Rattle.suit_program.specs.declared.limits.TheConstants.{MOST_SIZE}

@@ -1,9 +1,9 @@
 -- A draft that is the program of a support. It serves the contracts of private functions alone.
 use Rattle.std.specs.Prelude.{◌≡◌, ℕ, suc, ◌-◌, ◌^◌, ◌==◌, List, length, if◌then◌else◌, pos, ◌+ℤ◌, neg_ℤ}
 use Rattle.suit_game.specs.declared.question.Question.{Question}
-use Rattle.suit_tableaus.specs.declared.sparse.Entry.{Entry}
-use Rattle.suit_tableaus.specs.declared.sparse.SparseRow.{SparseRow}
-use Rattle.suit_tableaus.specs.Sparse.{sum_in}
+use Rattle.suit_linear.specs.declared.sparse.Entry.{Entry}
+use Rattle.suit_linear.specs.declared.sparse.SparseRow.{SparseRow}
+use Rattle.suit_linear.specs.Sparse.{sum_in}
 use Rattle.suit_program.specs.declared.draft.Draft.{Draft}
 use Rattle.suit_program.specs.Drafts.{Given, HasRows, value_of}
 use Rattle.suit_program.specs.Points.{Point}

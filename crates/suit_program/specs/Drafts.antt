@@ -4,7 +4,7 @@
 use Rattle.std.specs.Prelude.{◌≡◌, ℕ, zero, suc, ◌+◌, ◌<◌, ◌==◌, List, Contains, map, filter}
 use Rattle.std.specs.Prelude.{if◌then◌else◌, ℤ, pos, negsuc, ◌+ℤ◌, ◌*ℤ◌, ◌≤ℤ◌}
 use Rattle.suit_plans.specs.Properness.{sum_of}
-use Rattle.suit_tableaus.specs.declared.sparse.Entry.{Entry}
+use Rattle.suit_linear.specs.declared.sparse.Entry.{Entry}
 use Rattle.suit_program.specs.declared.draft.Account.{Account}
 use Rattle.suit_program.specs.declared.draft.Draft.{Draft}
 use Rattle.suit_program.specs.declared.draft.Posting.{Posting}

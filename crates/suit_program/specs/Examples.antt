@@ -4,7 +4,7 @@ use Rattle.suit_cards.specs.declared.seats.Seat.TheVariants.{S}
 use Rattle.suit_game.specs.Examples.{ten_cards}
 use Rattle.suit_classes.specs.ClassMoves.{ClassHistory}
 use Rattle.suit_classes.specs.declared.class_moves.ClassMove.TheVariants.{Lead, Follow, ShowOut}
-use Rattle.suit_tableaus.specs.declared.program.ProgramRow.{ProgramRow}
+use Rattle.suit_linear.specs.declared.program.ProgramRow.{ProgramRow}
 use Rattle.suit_plans.specs.declared.moves.DefenceMove.{DefenceMove}
 use Rattle.suit_program.specs.Points.{Held, Passed}
 use Rattle.suit_program.specs.Programs.{columns, program_of, size_of, supported_worth}

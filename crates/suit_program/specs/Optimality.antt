@@ -5,8 +5,8 @@ use Rattle.suit_game.specs.declared.question.Question.{Question}
 use Rattle.suit_game.specs.Validity.{IsValid}
 use Rattle.suit_classes.specs.declared.class_moves.ClassMove.{ClassMove}
 use Rattle.suit_classes.specs.ClassMoves.{ClassHistory}
-use Rattle.suit_tableaus.specs.Points.{dot, number_at}
-use Rattle.suit_tableaus.specs.Programs.{IsBounded, IsWellFormed}
+use Rattle.suit_linear.specs.Points.{dot, number_at}
+use Rattle.suit_linear.specs.Programs.{IsBounded, IsWellFormed}
 use Rattle.suit_program.specs.Points.{Column, given_to, no_point, point_of}
 use Rattle.suit_program.specs.Programs.{Answered, Limit, columns, excess, limits, program_of, row_of}
 use Rattle.suit_program.specs.Readings.{price_of}

@@ -4,7 +4,7 @@ use Rattle.suit_game.specs.declared.question.Question.{Question}
 use Rattle.suit_classes.specs.ClassMoves.{ClassHistory}
 use Rattle.suit_plans.specs.declared.plan.Row.{Row}
 use Rattle.suit_plans.specs.Masses.{Shares}
-use Rattle.suit_tableaus.specs.declared.ends.Optimum.{Optimum}
+use Rattle.suit_linear.specs.declared.ends.Optimum.{Optimum}
 use Rattle.suit_program.specs.declared.plan_reader.PlanReader.{PlanReader}
 use Rattle.suit_program.specs.declared.reach.Reach.{Reach}
 use Rattle.suit_program.specs.Programs.{columns, columns_at}

@@ -6,8 +6,8 @@ use Rattle.suit_game.specs.declared.question.Question.{Question}
 use Rattle.suit_classes.specs.declared.class_moves.ClassMove.{ClassMove}
 use Rattle.suit_classes.specs.ClassMoves.{ClassHistory}
 use Rattle.suit_plans.specs.Properness.{sum_of}
-use Rattle.suit_tableaus.specs.declared.program.Program.{Program}
-use Rattle.suit_tableaus.specs.declared.program.ProgramRow.{ProgramRow}
+use Rattle.suit_linear.specs.declared.program.Program.{Program}
+use Rattle.suit_linear.specs.declared.program.ProgramRow.{ProgramRow}
 use Rattle.suit_program.specs.Points.{Column, Held, Passed, Point, no_point, unit_point}
 use Rattle.suit_program.specs.Supports.{Support, declarer_chooses, defence_chooses, reached_histories}
 use Rattle.suit_program.specs.Supports.{reached_layouts, supported_moves}

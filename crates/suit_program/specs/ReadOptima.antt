@@ -4,8 +4,8 @@ use Rattle.suit_game.specs.declared.question.Question.{Question}
 use Rattle.suit_game.specs.Validity.{IsValid}
 use Rattle.suit_plans.specs.declared.plan.Plan.{Plan}
 use Rattle.suit_plans.specs.declared.defence.Defence.{Defence}
-use Rattle.suit_tableaus.specs.declared.ends.Optimum.{Optimum}
-use Rattle.suit_tableaus.specs.Optima.{IsDualOptimum, IsPrimalOptimum}
+use Rattle.suit_linear.specs.declared.ends.Optimum.{Optimum}
+use Rattle.suit_linear.specs.Optima.{IsDualOptimum, IsPrimalOptimum}
 use Rattle.suit_tree.specs.declared.tree.Tree.{Tree}
 use Rattle.suit_tree.specs.Trees.{IsTreeOf}
 use Rattle.suit_program.specs.declared.plan_end.PlanEnd.{PlanEnd}

@@ -7,8 +7,8 @@ use Rattle.suit_plans.specs.BestReplies.{least, least_reply, most, most_reply}
 use Rattle.suit_plans.specs.declared.plan.Plan.{Plan}
 use Rattle.suit_plans.specs.declared.defence.Defence.{Defence}
 use Rattle.suit_plans.specs.Properness.{IsProperDefence, IsProperPlan}
-use Rattle.suit_tableaus.specs.declared.ends.Optimum.{Optimum}
-use Rattle.suit_tableaus.specs.Optima.{IsDualOptimum, IsPrimalOptimum}
+use Rattle.suit_linear.specs.declared.ends.Optimum.{Optimum}
+use Rattle.suit_linear.specs.Optima.{IsDualOptimum, IsPrimalOptimum}
 use Rattle.suit_program.specs.Points.{IsPositive, Point}
 use Rattle.suit_program.specs.Readings.{defence_of, is_wide, parts_of, plan_den, plan_of, plan_reading, read_mass}
 use Rattle.suit_program.specs.Programs.{program_of, supported_worth}

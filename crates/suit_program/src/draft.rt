@@ -6,7 +6,7 @@ ghost use Rattle.suit_program.specs.Drafts.{Adds, Extends, IsFit, credit, given_
 ghost use Rattle.suit_program.specs.declared.draft.Account.{Account};
 
 use std::alloc::AllocError;
-use suit_tableaus::Entry;
+use suit_linear::Entry;
 
 /// Where the worth of a class layout goes: to a row of a draft, so many times.
 #[derive(Clone, Copy, Debug)]

@@ -7,8 +7,8 @@ use super::columns::passed_columns;
 use super::denominators::common_den;
 use super::{PlanEnd, Support};
 use std::alloc::Global;
+use suit_linear::Optimum;
 use suit_plans::MOST_DEN;
-use suit_tableaus::Optimum;
 use suit_tree::Tree;
 
 /// The denominator of the plan that is read from an optimum, where neither it nor the defence's is too wide.

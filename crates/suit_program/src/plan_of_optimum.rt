@@ -9,8 +9,8 @@ use super::plan_reader::PlanReader;
 use super::reach::Reach;
 use super::{PlanEnd, Support};
 use std::alloc::Global;
+use suit_linear::Optimum;
 use suit_plans::{Plan, Row, Rows};
-use suit_tableaus::Optimum;
 use suit_tree::Tree;
 
 /// The plan that is read from an optimum, where its denominator is given, or want of memory.

@@ -2,8 +2,8 @@
 ghost use Rattle.std.specs.Prelude.{◌≡◌, ◌<◌, ◌^◌, ℕ, [], Contains, IfOk, length, get_or, map, neg_ℤ, unsigned_abs};
 ghost use Rattle.std.specs.Prelude.{Vec};
 ghost use Rattle.std.specs.Global.{Global};
-ghost use Rattle.suit_tableaus.specs.Sparse.{dense, sum_in};
-ghost use Rattle.suit_tableaus.specs.declared.sparse.Entry.{Entry};
+ghost use Rattle.suit_linear.specs.Sparse.{dense, sum_in};
+ghost use Rattle.suit_linear.specs.declared.sparse.Entry.{Entry};
 ghost use Rattle.suit_program.specs.Drafted.{sparse_row};
 ghost use Rattle.suit_program.specs.Drafts.{entries_of};
 ghost use Rattle.suit_program.specs.Marks.{support_seen};
@@ -15,7 +15,7 @@ use super::draft::Posting;
 use super::drafting::{ONE, drafted};
 use super::{Memory, Support};
 use std::alloc::{AllocError, Global};
-use suit_tableaus::{
+use suit_linear::{
     Entries, Entry, Numbers, Program, SparseProgram, SparseRow, SparseRows, numbers_of,
 };
 use suit_tree::Tree;

@@ -8,8 +8,8 @@ use super::plan_den::plan_den;
 use super::plan_of_optimum::optimum_plan;
 use super::{PlanEnd, Support};
 use std::alloc::Global;
+use suit_linear::Optimum;
 use suit_plans::{Defence, Plan};
-use suit_tableaus::Optimum;
 use suit_tree::Tree;
 
 /// The plan and the defence that are read from the optimum of a support's program. The plan's denominator is the least

@@ -1,9 +1,9 @@
 -- What a size and an optimum that are told say (`few_told`, `told_columns`).
 use Rattle.std.proofs.Common.{◌≡◌, ℕ, ◌-◌, ◌^◌, ◌≤◌, Ok, arith, length, min}
-use Rattle.suit_tableaus.specs.declared.program.Program.{Program}
-use Rattle.suit_tableaus.specs.declared.ends.Optimum.{Optimum}
-use Rattle.suit_tableaus.specs.Ends.{Tells}
-use Rattle.suit_tableaus.specs.Runs.{RunEnd, AtOptimum, AtBudget, AtWide, AtRay}
+use Rattle.suit_linear.specs.declared.program.Program.{Program}
+use Rattle.suit_linear.specs.declared.ends.Optimum.{Optimum}
+use Rattle.suit_linear.specs.Ends.{Tells}
+use Rattle.suit_linear.specs.Runs.{RunEnd, AtOptimum, AtBudget, AtWide, AtRay}
 
 -- a size that is told to be within the limit is within it
 pub few_told : (size told : ℕ) → told ≡ min size (2 ^ 32 - 1) → told ≤ 4000 → size ≤ 4000

@@ -5,9 +5,9 @@ ghost use Rattle.suit_game.specs.Validity.{IsValid};
 ghost use Rattle.suit_program.specs.Marks.{AreLegalIn, IsGrownTree};
 ghost use Rattle.suit_program.specs.ReadOptima.{IsOptimumFor};
 ghost use Rattle.suit_reply.specs.AgainstPlan.{IsPlanFor};
-ghost use Rattle.suit_tableaus.specs.Optima.{IsDualOptimum, IsPrimalOptimum};
-ghost use Rattle.suit_tableaus.specs.Programs.{IsBounded, IsWellFormed};
-ghost use Rattle.suit_tableaus.specs.Sparse.{dense};
+ghost use Rattle.suit_linear.specs.Optima.{IsDualOptimum, IsPrimalOptimum};
+ghost use Rattle.suit_linear.specs.Programs.{IsBounded, IsWellFormed};
+ghost use Rattle.suit_linear.specs.Sparse.{dense};
 ghost use Rattle.suit_rounds.specs.Rounds.{AreProperOn};
 
 use bumpalo::Bump;

@@ -4,8 +4,8 @@ use Rattle.std.proofs.Common.{sym, ap, ◌∙◌, Some, None, arith, cond, inl, 
 use Rattle.std.specs.Prelude.{ℤ, pos, ◌*ℤ◌, ◌==◌, find, position, slice_get, nat_lt}
 use Rattle.std.specs.List.{position_or_len}
 use Rattle.suit_num.specs.declared.fraction.Frac.{Frac}
-use Rattle.suit_tableaus.specs.Tableaus.{TableauRow, bound, entry}
-use Rattle.suit_tableaus.specs.Ends.{IsBasicValue}
+use Rattle.suit_linear.specs.Tableaus.{TableauRow, bound, entry}
+use Rattle.suit_linear.specs.Ends.{IsBasicValue}
 use Rattle.suit_simplex.specs.Dense.{row_at, seen}
 use Rattle.suit_simplex.specs.declared.dense.Dense.{Dense}
 use Rattle.suit_simplex.proofs.LeavingRows.{seen_row, length-seen}

@@ -3,8 +3,8 @@ use Rattle.std.proofs.Common.{◌^◌, [], arith, lit<}
 use Rattle.std.specs.Prelude.{pos, negsuc, ◌*ℤ◌, ◌+ℤ◌, ◌≤ℤ◌}
 use Rattle.std.proofs.lemmas.Int.{ints}
 use borrow.Author.Differences.{product_is}
-use Rattle.suit_tableaus.specs.Points.{dot}
-use Rattle.suit_tableaus.specs.Programs.{IsBounded}
+use Rattle.suit_linear.specs.Points.{dot}
+use Rattle.suit_linear.specs.Programs.{IsBounded}
 use Rattle.suit_simplex.specs.Examples.{two_columns, one_wide_row, two_wide_rows, nothing_gained, tied}
 
 pub two_columns_bounded : IsBounded two_columns

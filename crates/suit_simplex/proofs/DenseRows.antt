@@ -7,7 +7,7 @@ use Rattle.std.proofs.lemmas.List.{drop-append-le, drop-take, drop-drop}
 use Rattle.std.proofs.Math.Seq.{take-append_seam, drop-append_seam}
 use Rattle.std.proofs.lemmas.Slice.{take-put_mid_below, drop-put_mid}
 use borrow.Rule.Slice.PartMut.{put_mid}
-use Rattle.suit_tableaus.specs.Tableaus.{TableauRow}
+use Rattle.suit_linear.specs.Tableaus.{TableauRow}
 use Rattle.suit_simplex.specs.Dense.{rows_seen}
 
 pub length-rows_seen : (width : ℕ) (basics : List ℕ) (numbers : List ℤ)

@@ -1,20 +1,20 @@
 -- The run over a tableau that is kept as one list (`next_kept`).
 use Rattle.std.proofs.Common.{◌≡◌, ℕ, suc, ◌+◌, ◌<◌, length, ◌∙◌, Some, None, inl, inr, arith, IsTrue}
 use Rattle.std.specs.List.{list_all}
-use Rattle.suit_tableaus.specs.declared.program.Program.{Program}
-use Rattle.suit_tableaus.specs.Programs.{IsBounded}
-use Rattle.suit_tableaus.specs.Tableaus.{first_tableau}
-use Rattle.suit_tableaus.specs.Pivots.{entering, leaving, ratio_products, is_narrow}
-use Rattle.suit_tableaus.specs.Runs.{Wide, To, next}
+use Rattle.suit_linear.specs.declared.program.Program.{Program}
+use Rattle.suit_linear.specs.Programs.{IsBounded}
+use Rattle.suit_linear.specs.Tableaus.{first_tableau}
+use Rattle.suit_linear.specs.Pivots.{entering, leaving, ratio_products, is_narrow}
+use Rattle.suit_linear.specs.Runs.{Wide, To, next}
 use Rattle.suit_simplex.specs.Dense.{seen, IsKept, CanAdvance}
 use Rattle.suit_simplex.specs.declared.dense.Dense.{Dense}
-use Rattle.suit_tableaus.proofs.SoundTableaus.{IsSound}
-use Rattle.suit_tableaus.proofs.SoundRows.{cases_option}
-use Rattle.suit_tableaus.proofs.EnteringColumns.{entering_is_column}
-use Rattle.suit_tableaus.proofs.RatioTest.{leaving_is_row}
-use Rattle.suit_tableaus.proofs.PivotedTableaus.{row_content, objective_content}
-use Rattle.suit_tableaus.proofs.Rays.{no_ray}
-use Rattle.suit_tableaus.proofs.RunSteps.{IsRunning, next_wide_ratio, first_running, next_running}
+use Rattle.suit_linear.proofs.SoundTableaus.{IsSound}
+use Rattle.suit_linear.proofs.SoundRows.{cases_option}
+use Rattle.suit_linear.proofs.EnteringColumns.{entering_is_column}
+use Rattle.suit_linear.proofs.RatioTest.{leaving_is_row}
+use Rattle.suit_linear.proofs.PivotedTableaus.{row_content, objective_content}
+use Rattle.suit_linear.proofs.Rays.{no_ray}
+use Rattle.suit_linear.proofs.RunSteps.{IsRunning, next_wide_ratio, first_running, next_running}
 
 pub wide_ratio : (dense : Dense) (column : ℕ) → CanAdvance dense → entering (seen dense) ≡ Some column
     → ¬ IsTrue (list_all is_narrow (ratio_products column None (seen dense).rows)) → next (seen dense) ≡ Wide

@@ -1,22 +1,22 @@
 -- What an answer that tells the end of a run proves (`told_primal`, `told_dual`).
 use Rattle.std.proofs.Common.{◌≡◌, ℕ, zero, suc, Bool, true, false, refl, cond, None, is_some, subst}
 use Rattle.std.specs.Prelude.{Result, Ok, Err, IfOk}
-use Rattle.suit_tableaus.specs.declared.program.Program.{Program}
-use Rattle.suit_tableaus.specs.declared.ends.Optimum.{Optimum}
-use Rattle.suit_tableaus.specs.declared.ends.SimplexEnd.{SimplexEnd}
-use Rattle.suit_tableaus.specs.Programs.{IsWellFormed}
-use Rattle.suit_tableaus.specs.Tableaus.{Tableau, first_tableau}
-use Rattle.suit_tableaus.specs.Pivots.{entering}
-use Rattle.suit_tableaus.specs.Runs.{Next, Last, Ray, Wide, To, next, RunEnd, AtOptimum, AtBudget, AtWide, AtRay}
-use Rattle.suit_tableaus.specs.Runs.{run_on}
-use Rattle.suit_tableaus.specs.Runs.{run_within, run_end}
-use Rattle.suit_tableaus.specs.Ends.{Tells}
-use Rattle.suit_tableaus.specs.Optima.{IsPrimalOptimum, IsDualOptimum}
-use Rattle.suit_tableaus.proofs.SoundTableaus.{IsSound}
-use Rattle.suit_tableaus.proofs.FirstTableaus.{first_is_sound}
-use Rattle.suit_tableaus.proofs.OptimalPoints.{optimum_is_primal}
-use Rattle.suit_tableaus.proofs.OptimalPrices.{optimum_is_dual}
-use Rattle.suit_tableaus.proofs.RunSteps.{next_is_sound, last_enters_none, none_from_test}
+use Rattle.suit_linear.specs.declared.program.Program.{Program}
+use Rattle.suit_linear.specs.declared.ends.Optimum.{Optimum}
+use Rattle.suit_linear.specs.declared.ends.SimplexEnd.{SimplexEnd}
+use Rattle.suit_linear.specs.Programs.{IsWellFormed}
+use Rattle.suit_linear.specs.Tableaus.{Tableau, first_tableau}
+use Rattle.suit_linear.specs.Pivots.{entering}
+use Rattle.suit_linear.specs.Runs.{Next, Last, Ray, Wide, To, next, RunEnd, AtOptimum, AtBudget, AtWide, AtRay}
+use Rattle.suit_linear.specs.Runs.{run_on}
+use Rattle.suit_linear.specs.Runs.{run_within, run_end}
+use Rattle.suit_linear.specs.Ends.{Tells}
+use Rattle.suit_linear.specs.Optima.{IsPrimalOptimum, IsDualOptimum}
+use Rattle.suit_linear.proofs.SoundTableaus.{IsSound}
+use Rattle.suit_linear.proofs.FirstTableaus.{first_is_sound}
+use Rattle.suit_linear.proofs.OptimalPoints.{optimum_is_primal}
+use Rattle.suit_linear.proofs.OptimalPrices.{optimum_is_dual}
+use Rattle.suit_linear.proofs.RunSteps.{next_is_sound, last_enters_none, none_from_test}
 
 same_end : (a b : Tableau) → AtOptimum a ≡ AtOptimum b → a ≡ b
 same_end a b e = cc

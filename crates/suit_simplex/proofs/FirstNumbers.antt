@@ -12,14 +12,14 @@ use Rattle.std.proofs.lemmas.List.FromFn.{map-range_with_len_more}
 use Rattle.std.proofs.Math.Seq.{take-append_seam, drop-append_seam}
 use Rattle.suit_num.specs.Narrow.{IsNarrow}
 use Rattle.std.proofs.lemmas.List.{take_all}
-use Rattle.suit_tableaus.specs.Points.{number_at}
-use Rattle.suit_tableaus.specs.declared.program.Program.{Program}
-use Rattle.suit_tableaus.specs.declared.program.ProgramRow.{ProgramRow}
-use Rattle.suit_tableaus.specs.Tableaus.{TableauRow, unit_numbers, Tableau, first_row, first_tableau}
+use Rattle.suit_linear.specs.Points.{number_at}
+use Rattle.suit_linear.specs.declared.program.Program.{Program}
+use Rattle.suit_linear.specs.declared.program.ProgramRow.{ProgramRow}
+use Rattle.suit_linear.specs.Tableaus.{TableauRow, unit_numbers, Tableau, first_row, first_tableau}
 use Rattle.suit_simplex.specs.declared.dense.Dense.{Dense}
-use Rattle.suit_tableaus.specs.Programs.{IsWellFormed}
+use Rattle.suit_linear.specs.Programs.{IsWellFormed}
 use Rattle.suit_simplex.specs.Dense.{rows_seen, seen, IsKept}
-use Rattle.suit_tableaus.proofs.FirstTableaus.{first_row_at, length-first, first_is_sound}
+use Rattle.suit_linear.proofs.FirstTableaus.{first_row_at, length-first, first_is_sound}
 
 -- numbers with more of them behind, all narrow
 pub record IsWritten (was now more : List ℤ) : Type 0 where

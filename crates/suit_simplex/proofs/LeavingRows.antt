@@ -4,11 +4,11 @@ use Rattle.std.proofs.Common.{refl, sym, ap, ◌∙◌, Option, Some, None, IsTr
 use Rattle.std.specs.Prelude.{fold, slice_get, option_map}
 use Rattle.std.specs.List.{list_all}
 use Rattle.std.specs.Option.{ForSome}
-use Rattle.suit_tableaus.specs.Tableaus.{TableauRow}
-use Rattle.suit_tableaus.specs.Pivots.{kept, leaving, compared, ratio_products, is_narrow}
+use Rattle.suit_linear.specs.Tableaus.{TableauRow}
+use Rattle.suit_linear.specs.Pivots.{kept, leaving, compared, ratio_products, is_narrow}
 use Rattle.suit_simplex.specs.Dense.{row_at, seen}
 use Rattle.suit_simplex.specs.declared.dense.Dense.{Dense}
-use Rattle.suit_tableaus.proofs.CombinedRows.{test_append, first_true}
+use Rattle.suit_linear.proofs.CombinedRows.{test_append, first_true}
 use Rattle.suit_simplex.proofs.DenseRows.{length-rows_seen, rows_seen_at}
 
 pub length-seen : (dense : Dense) → length (seen dense).rows ≡ length dense.basics.items

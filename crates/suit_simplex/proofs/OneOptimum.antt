@@ -8,16 +8,16 @@ use mathlib.Core.HLevel.{is_prop→PathP}
 use Rattle.suit_num.specs.Divisors.{IsCoprime}
 use Rattle.suit_num.specs.declared.fraction.Frac.{Frac}
 use Rattle.suit_num.proofs.FractionLaws.{fraction_same_trans, same_reduced}
-use Rattle.suit_tableaus.specs.declared.program.Program.{Program}
-use Rattle.suit_tableaus.specs.declared.ends.Optimum.{Optimum}
-use Rattle.suit_tableaus.specs.declared.ends.SimplexEnd.{SimplexEnd}
-use Rattle.suit_tableaus.specs.declared.ends.SimplexEnd.TheVariants as ends
-use Rattle.suit_tableaus.specs.Programs.{IsWellFormed}
-use Rattle.suit_tableaus.specs.Tableaus.{TableauRow, Tableau, bound, entry}
-use Rattle.suit_tableaus.specs.Runs.{RunEnd, AtOptimum, AtBudget, AtWide, AtRay, run_end}
-use Rattle.suit_tableaus.specs.Ends.{IsBasicValue, IsOptimumOf, Tells}
-use Rattle.suit_tableaus.proofs.SoundTableaus.{IsSound}
-use Rattle.suit_tableaus.proofs.SoundRows.{found_row}
+use Rattle.suit_linear.specs.declared.program.Program.{Program}
+use Rattle.suit_linear.specs.declared.ends.Optimum.{Optimum}
+use Rattle.suit_linear.specs.declared.ends.SimplexEnd.{SimplexEnd}
+use Rattle.suit_linear.specs.declared.ends.SimplexEnd.TheVariants as ends
+use Rattle.suit_linear.specs.Programs.{IsWellFormed}
+use Rattle.suit_linear.specs.Tableaus.{TableauRow, Tableau, bound, entry}
+use Rattle.suit_linear.specs.Runs.{RunEnd, AtOptimum, AtBudget, AtWide, AtRay, run_end}
+use Rattle.suit_linear.specs.Ends.{IsBasicValue, IsOptimumOf, Tells}
+use Rattle.suit_linear.proofs.SoundTableaus.{IsSound}
+use Rattle.suit_linear.proofs.SoundRows.{found_row}
 use Rattle.suit_simplex.proofs.FastAnswers.{last_of}
 
 -- ---- fractions

@@ -4,14 +4,14 @@ use Rattle.std.proofs.Common.{length, map, take, drop, set, refl, sym, ap, ap₂
 use Rattle.std.proofs.Common.{add-one}
 use Rattle.std.specs.Prelude.{ℤ, pos, slice_get, ◌↔◌}
 use Rattle.std.proofs.lemmas.List.{take_all}
-use Rattle.suit_tableaus.specs.Points.{number_at}
-use Rattle.suit_tableaus.proofs.Elements.{contains_at}
+use Rattle.suit_linear.specs.Points.{number_at}
+use Rattle.suit_linear.proofs.Elements.{contains_at}
 use Rattle.std.specs.List.{list_all, flat_map}
-use Rattle.suit_tableaus.specs.Tableaus.{TableauRow, Tableau, entry, reduced_cost}
-use Rattle.suit_tableaus.specs.Pivots.{cleared, clearing, pivoted_row, pivoting_row, pivoted, changing, is_narrow}
+use Rattle.suit_linear.specs.Tableaus.{TableauRow, Tableau, entry, reduced_cost}
+use Rattle.suit_linear.specs.Pivots.{cleared, clearing, pivoted_row, pivoting_row, pivoted, changing, is_narrow}
 use Rattle.suit_simplex.specs.Dense.{row_at, leaver_row, seen, with_row, IsKept, KeepsShape, CanPivot, CanClear}
 use Rattle.suit_simplex.specs.declared.dense.Dense.{Dense}
-use Rattle.suit_tableaus.proofs.CombinedRows.{test_append, both_true, first_true, second_true}
+use Rattle.suit_linear.proofs.CombinedRows.{test_append, both_true, first_true, second_true}
 use Rattle.suit_simplex.proofs.LeavingRows.{seen_row, length-seen}
 
 -- ---- lists that are mapped up to an index

@@ -8,14 +8,14 @@ use Rattle.std.proofs.Common.{eq-eqb}
 use Rattle.std.proofs.lemmas.Bool.{ne_eqb}
 use Rattle.std.proofs.lemmas.Int.{ints}
 use Rattle.std.proofs.lemmas.List.{get_or_default, get_or-drop}
-use Rattle.suit_tableaus.specs.Points.{number_at}
+use Rattle.suit_linear.specs.Points.{number_at}
 use Rattle.std.proofs.lemmas.List.Elements.{All-append, All-take, All-drop, All-set}
 use Rattle.std.proofs.lemmas.List.{with_items_is}
 use Rattle.std.specs.Vec.{with_items}
 use borrow.Rule.Slice.PartMut.{put_mid}
 use Rattle.suit_num.specs.Narrow.{IsNarrow}
-use Rattle.suit_tableaus.specs.Tableaus.{TableauRow, Tableau, entry}
-use Rattle.suit_tableaus.specs.Pivots.{cleared, clearing, pivoted_row, pivoting_row}
+use Rattle.suit_linear.specs.Tableaus.{TableauRow, Tableau, entry}
+use Rattle.suit_linear.specs.Pivots.{cleared, clearing, pivoted_row, pivoting_row}
 use Rattle.suit_simplex.specs.Dense.{row_at, seen, with_row, IsKept}
 use Rattle.suit_simplex.specs.declared.dense.Dense.{Dense}
 use Rattle.suit_simplex.proofs.DenseRows.{rows_seen-put_mid, rows_seen-put_behind, rows_seen-set, behind_put_mid}

@@ -5,14 +5,14 @@ use Rattle.std.specs.Prelude.{ℤ, pos, ◌+ℤ◌, ◌==◌, map}
 use Rattle.std.proofs.lemmas.Int.{ints}
 use Rattle.std.proofs.lemmas.List.{take_all, take_more, map_push}
 use Rattle.std.proofs.lemmas.List.FromFn.{fill_by_all}
-use Rattle.suit_tableaus.specs.declared.program.Program.{Program}
-use Rattle.suit_tableaus.specs.declared.program.ProgramRow.{ProgramRow}
-use Rattle.suit_tableaus.specs.declared.sparse.Entry.{Entry}
-use Rattle.suit_tableaus.specs.declared.sparse.SparseRow.{SparseRow}
-use Rattle.suit_tableaus.specs.Points.{number_at}
-use Rattle.suit_tableaus.specs.Programs.{IsWellFormed}
-use Rattle.suit_tableaus.specs.Sparse.{part_of, sum_in, dense_entries, dense_row}
-use Rattle.suit_pivots.proofs.SparsePrograms.{number_at_more}
+use Rattle.suit_linear.specs.declared.program.Program.{Program}
+use Rattle.suit_linear.specs.declared.program.ProgramRow.{ProgramRow}
+use Rattle.suit_linear.specs.declared.sparse.Entry.{Entry}
+use Rattle.suit_linear.specs.declared.sparse.SparseRow.{SparseRow}
+use Rattle.suit_linear.specs.Points.{number_at}
+use Rattle.suit_linear.specs.Programs.{IsWellFormed}
+use Rattle.suit_linear.specs.Sparse.{part_of, sum_in, dense_entries, dense_row}
+use Rattle.suit_linear_fast.proofs.SparsePrograms.{number_at_more}
 
 pub sum_in_push : (entries : List Entry) (entry : Entry) (column : ℕ)
     → sum_in (entries ++ entry ∷ []) column ≡ sum_in entries column +ℤ part_of entry column

@@ -2,10 +2,10 @@
 use Rattle.std.proofs.Common.{refl}
 use Rattle.suit_simplex.specs.Examples.{TwoColumnsBegin, TwoColumnsOnce, TwoColumnsTwice, TwoColumnsShort, OneWideRow}
 use Rattle.suit_simplex.specs.Examples.{TwoWideRows, NothingGained, TieBroken, Unlimited}
-use Rattle.suit_tableaus.specs.Tableaus.{unit_numbers, first_tableau}
-use Rattle.suit_tableaus.specs.Pivots.{kept, compared, ratio_products, combined, combining, content, pivoted_row}
-use Rattle.suit_tableaus.specs.Pivots.{pivoting_row, pivoted, changing}
-use Rattle.suit_tableaus.specs.Runs.{next, run_within}
+use Rattle.suit_linear.specs.Tableaus.{unit_numbers, first_tableau}
+use Rattle.suit_linear.specs.Pivots.{kept, compared, ratio_products, combined, combining, content, pivoted_row}
+use Rattle.suit_linear.specs.Pivots.{pivoting_row, pivoted, changing}
+use Rattle.suit_linear.specs.Runs.{next, run_within}
 use Rattle.suit_num.specs.Divisors.{gcd_of, gcd_within}
 
 pub two_columns_begin : TwoColumnsBegin

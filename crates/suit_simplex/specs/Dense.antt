@@ -3,13 +3,13 @@ use Rattle.std.specs.Prelude.{◌≡◌, ◌≢◌, ℕ, suc, ◌+◌, ◌*◌, 
 use Rattle.std.specs.Prelude.{slice_index, set, All, Contains, Some, None, Result, Ok, Err}
 use Rattle.suit_num.specs.Narrow.{IsNarrow}
 use Rattle.suit_simplex.specs.declared.dense.Dense.{Dense}
-use Rattle.suit_tableaus.specs.Points.{number_at}
-use Rattle.suit_tableaus.specs.Pivots.{combined, content, share, entering, leaving}
-use Rattle.suit_tableaus.specs.Runs.{next, Last, Wide, To}
+use Rattle.suit_linear.specs.Points.{number_at}
+use Rattle.suit_linear.specs.Pivots.{combined, content, share, entering, leaving}
+use Rattle.suit_linear.specs.Runs.{next, Last, Wide, To}
 use Rattle.suit_simplex.specs.declared.row.TooWide.{TooWide}
 use Rattle.suit_simplex.specs.declared.solving.Progress.{Progress}
 use Rattle.suit_simplex.specs.declared.solving.Progress.TheVariants as advances
-use Rattle.suit_tableaus.specs.Tableaus.{TableauRow, Tableau, entry, reduced_cost}
+use Rattle.suit_linear.specs.Tableaus.{TableauRow, Tableau, entry, reduced_cost}
 
 -- the rows by their basic columns, each of as many numbers as the width
 unfoldable pub rows_seen : ℕ → List ℕ → List ℤ → List TableauRow

@@ -1,9 +1,9 @@
 -- Worked runs, which compute.
 use Rattle.std.specs.Prelude.{◌≡◌, ℕ, ◌+◌, ◌^◌, ℤ, pos, negsuc, List, [], ◌∷◌}
-use Rattle.suit_tableaus.specs.declared.program.Program.{Program}
-use Rattle.suit_tableaus.specs.declared.program.ProgramRow.{ProgramRow}
-use Rattle.suit_tableaus.specs.Tableaus.{TableauRow, Tableau, first_tableau}
-use Rattle.suit_tableaus.specs.Runs.{AtOptimum, AtBudget, AtWide, AtRay, To, next, run_end}
+use Rattle.suit_linear.specs.declared.program.Program.{Program}
+use Rattle.suit_linear.specs.declared.program.ProgramRow.{ProgramRow}
+use Rattle.suit_linear.specs.Tableaus.{TableauRow, Tableau, first_tableau}
+use Rattle.suit_linear.specs.Runs.{AtOptimum, AtBudget, AtWide, AtRay, To, next, run_end}
 
 abbrev pub row_of : List ℤ → ℤ → ProgramRow
 row_of entries bound = record { entries = entries; bound = bound }

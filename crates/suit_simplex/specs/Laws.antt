@@ -1,15 +1,15 @@
 -- Laws of runs and of points.
 use Rattle.std.specs.Prelude.{◌≡◌, ◌≢◌, ℕ, ℤ, List, Result, Err}
 use Rattle.suit_num.specs.declared.fraction.Frac.{Frac}
-use Rattle.suit_tableaus.specs.declared.program.Program.{Program}
-use Rattle.suit_tableaus.specs.declared.ends.Optimum.{Optimum}
-use Rattle.suit_tableaus.specs.declared.ends.SimplexEnd.{SimplexEnd}
-use Rattle.suit_tableaus.specs.declared.ends.SimplexEnd.TheVariants as ends
-use Rattle.suit_tableaus.specs.Programs.{IsWellFormed, IsBounded}
-use Rattle.suit_tableaus.specs.Tableaus.{Tableau}
-use Rattle.suit_tableaus.specs.Runs.{AtOptimum, AtRay, run_end}
-use Rattle.suit_tableaus.specs.Ends.{IsOptimumOf, Tells}
-use Rattle.suit_tableaus.specs.Optima.{IsCommon}
+use Rattle.suit_linear.specs.declared.program.Program.{Program}
+use Rattle.suit_linear.specs.declared.ends.Optimum.{Optimum}
+use Rattle.suit_linear.specs.declared.ends.SimplexEnd.{SimplexEnd}
+use Rattle.suit_linear.specs.declared.ends.SimplexEnd.TheVariants as ends
+use Rattle.suit_linear.specs.Programs.{IsWellFormed, IsBounded}
+use Rattle.suit_linear.specs.Tableaus.{Tableau}
+use Rattle.suit_linear.specs.Runs.{AtOptimum, AtRay, run_end}
+use Rattle.suit_linear.specs.Ends.{IsOptimumOf, Tells}
+use Rattle.suit_linear.specs.Optima.{IsCommon}
 
 -- where the objective has a limit, an entering column always has a row to leave
 abbrev pub BoundedRunsMeetNoRay : Type 0

@@ -7,10 +7,10 @@ ghost use Rattle.std.specs.Option.{ForSome};
 ghost use Rattle.std.specs.Result.{OkIff};
 ghost use Rattle.std.specs.Ordering.{int_eq};
 ghost use Rattle.suit_num.specs.Narrow.{IsNarrow};
-ghost use Rattle.suit_tableaus.specs.Tableaus.{TableauRow, first_tableau, bound, entry, reduced_cost};
-ghost use Rattle.suit_tableaus.specs.Pivots.{entering, leaving, pivoted, pivoting, pivoted_row, pivoting_row, cleared};
-ghost use Rattle.suit_tableaus.specs.Pivots.{clearing, changing, ratio_products, compared, compared_pair, is_better};
-ghost use Rattle.suit_tableaus.specs.Pivots.{kept, is_narrow};
+ghost use Rattle.suit_linear.specs.Tableaus.{TableauRow, first_tableau, bound, entry, reduced_cost};
+ghost use Rattle.suit_linear.specs.Pivots.{entering, leaving, pivoted, pivoting, pivoted_row, pivoting_row, cleared};
+ghost use Rattle.suit_linear.specs.Pivots.{clearing, changing, ratio_products, compared, compared_pair, is_better};
+ghost use Rattle.suit_linear.specs.Pivots.{kept, is_narrow};
 ghost use Rattle.suit_simplex.specs.Dense.{seen, row_at, leaver_row, with_row, IsKept, KeepsShape, CanClear, CanPivot};
 
 // The rows one after another, each its bound and then its entries, and then the objective row: its
@@ -107,7 +107,7 @@ impl Dense {
 
     // The better of the best row so far and one more row, by their indices. The error comes where a
     // product is too wide.
-    #[tactic(auto, unfolding(suit_tableaus::specs::Pivots::kept, suit_tableaus::specs::Pivots::compared))]
+    #[tactic(auto, unfolding(suit_linear::specs::Pivots::kept, suit_linear::specs::Pivots::compared))]
     fn better(
         &self,
         column: usize,

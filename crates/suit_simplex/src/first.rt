@@ -2,8 +2,8 @@
 ghost use Rattle.std.specs.Prelude.{◌≡◌, ◌≢◌, ℕ, suc, ◌+◌, ◌*◌, ◌<◌, ◌^◌, ℤ, pos, neg_ℤ, List, [], ◌∷◌, ◌++◌, length};
 ghost use Rattle.std.specs.Prelude.{map, replicate, IfOk, IfSome, OnOk, All, ◌==◌, if◌then◌else◌};
 ghost use Rattle.suit_num.specs.Narrow.{IsNarrow};
-ghost use Rattle.suit_tableaus.specs.Programs.{IsWellFormed};
-ghost use Rattle.suit_tableaus.specs.Tableaus.{first_row, first_tableau, unit_numbers};
+ghost use Rattle.suit_linear.specs.Programs.{IsWellFormed};
+ghost use Rattle.suit_linear.specs.Tableaus.{first_row, first_tableau, unit_numbers};
 ghost use Rattle.suit_simplex.specs.Dense.{seen, IsKept};
 
 use super::dense::Dense;

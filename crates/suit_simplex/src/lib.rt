@@ -12,7 +12,7 @@ mod solving;
 mod sparse;
 
 pub use solving::{optimum, sparse_optimum};
-pub use suit_tableaus::{
+pub use suit_linear::{
     Entries, Entry, Fracs, Numbers, Optimum, Program, ProgramRow, ProgramRows, SimplexEnd,
     SparseProgram, SparseRow, SparseRows,
 };

@@ -2,8 +2,8 @@
 ghost use Rattle.std.specs.Prelude.{◌≡◌, ℕ, suc, ◌+◌, ◌<◌, ◌==◌, ℤ, pos, ◌<ℤ◌, length, drop, find, position, IfOk, All};
 ghost use Rattle.std.specs.Prelude.{Some, slice_get};
 ghost use Rattle.suit_num.specs.declared.fraction.Frac.{Frac};
-ghost use Rattle.suit_tableaus.specs.Tableaus.{TableauRow, entry, scale, value};
-ghost use Rattle.suit_tableaus.specs.Ends.{IsBasicValue, IsOptimumOf};
+ghost use Rattle.suit_linear.specs.Tableaus.{TableauRow, entry, scale, value};
+ghost use Rattle.suit_linear.specs.Ends.{IsBasicValue, IsOptimumOf};
 ghost use Rattle.suit_simplex.specs.Dense.{seen, row_at, IsKept};
 
 use super::dense::Dense;

@@ -3,11 +3,11 @@ ghost use Rattle.std.specs.Prelude.{◌≡◌, ◌<◌, ◌↔◌, ℤ, pos, ◌
 ghost use Rattle.std.specs.Prelude.{IsTrue, IsOk, OnOk, length, All, SomeIff};
 ghost use Rattle.std.specs.List.{list_all};
 ghost use Rattle.suit_num.specs.Narrow.{IsNarrow};
-ghost use Rattle.suit_tableaus.specs.Pivots.{combined, combining, combining_at, content, is_narrow, share};
-ghost use Rattle.suit_tableaus.specs.Pivots.{cleared, clearing};
+ghost use Rattle.suit_linear.specs.Pivots.{combined, combining, combining_at, content, is_narrow, share};
+ghost use Rattle.suit_linear.specs.Pivots.{cleared, clearing};
 
+use suit_linear_fast::make_primitive;
 use suit_num::{gcd, mul, sub};
-use suit_pivots::make_primitive;
 
 // A number is past 127 bits and a sign.
 #[derive(Clone, Copy, Debug)]

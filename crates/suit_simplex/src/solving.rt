@@ -1,12 +1,12 @@
 //! The run of the simplex.
 ghost use Rattle.std.specs.Prelude.{◌≡◌, ℕ, suc, ◌+◌, ℤ, pos, ◌<ℤ◌, length, All, IfOk, IfSome, MatchResult};
-ghost use Rattle.suit_tableaus.specs.declared.ends.SimplexEnd.TheVariants as ends;
-ghost use Rattle.suit_tableaus.specs.Programs.{IsWellFormed, IsBounded};
-ghost use Rattle.suit_tableaus.specs.Sparse.{dense};
-ghost use Rattle.suit_tableaus.specs.Tableaus.{entry};
-ghost use Rattle.suit_tableaus.specs.Runs.{run_end};
-ghost use Rattle.suit_tableaus.specs.Ends.{IsOptimumOf, Tells};
-ghost use Rattle.suit_tableaus.specs.Optima.{IsPrimalOptimum, IsDualOptimum};
+ghost use Rattle.suit_linear.specs.declared.ends.SimplexEnd.TheVariants as ends;
+ghost use Rattle.suit_linear.specs.Programs.{IsWellFormed, IsBounded};
+ghost use Rattle.suit_linear.specs.Sparse.{dense};
+ghost use Rattle.suit_linear.specs.Tableaus.{entry};
+ghost use Rattle.suit_linear.specs.Runs.{run_end};
+ghost use Rattle.suit_linear.specs.Ends.{IsOptimumOf, Tells};
+ghost use Rattle.suit_linear.specs.Optima.{IsPrimalOptimum, IsDualOptimum};
 ghost use Rattle.suit_simplex.specs.Dense.{seen, IsKept, CanAdvance, Advances};
 
 use super::dense::Dense;
@@ -16,7 +16,7 @@ use super::row::TooWide;
 use super::sparse::sparse_program;
 use super::{Optimum, Program, SimplexEnd, SparseProgram};
 use std::alloc::{AllocError, Global};
-use suit_pivots::fast;
+use suit_linear_fast::fast;
 
 // How far one step takes the run.
 pub(crate) enum Progress {

@@ -1,7 +1,7 @@
 //! A program in sparse form.
 ghost use Rattle.std.specs.Prelude.{◌≡◌, ◌==◌, ◌+ℤ◌, pos, ℕ, IfOk, IfSome, IsTrue, if◌then◌else◌, length};
-ghost use Rattle.suit_tableaus.specs.Programs.{IsWellFormed};
-ghost use Rattle.suit_tableaus.specs.Sparse.{dense, dense_row, dense_entries, sum_in};
+ghost use Rattle.suit_linear.specs.Programs.{IsWellFormed};
+ghost use Rattle.suit_linear.specs.Sparse.{dense, dense_row, dense_entries, sum_in};
 
 use super::{Entries, Entry, Numbers, Program, ProgramRow, SparseProgram, SparseRow, SparseRows};
 use std::alloc::{AllocError, Global};

@@ -8,14 +8,14 @@ use Rattle.std.proofs.lemmas.Int.{ints}
 use Rattle.std.proofs.lemmas.List.Elements.{recursion_from_All}
 use Rattle.suit_num.specs.declared.fraction.Frac.{Frac}
 use Rattle.suit_num.proofs.IntegerLaws.{mul-one}
-use Rattle.suit_tableaus.specs.declared.program.Program.{Program}
-use Rattle.suit_tableaus.specs.declared.ends.Optimum.{Optimum}
-use Rattle.suit_tableaus.specs.Programs.{IsWellFormed}
-use Rattle.suit_tableaus.specs.Tableaus.{TableauRow, Tableau, bound, entry}
-use Rattle.suit_tableaus.specs.Runs.{RunEnd, AtOptimum, run_end}
-use Rattle.suit_tableaus.specs.Ends.{IsBasicValue, IsOptimumOf, Tells}
-use Rattle.suit_tableaus.specs.Optima.{IsDualOptimum, IsPrimalOptimum}
-use Rattle.suit_tableaus.proofs.SoundTableaus.{IsSound}
+use Rattle.suit_linear.specs.declared.program.Program.{Program}
+use Rattle.suit_linear.specs.declared.ends.Optimum.{Optimum}
+use Rattle.suit_linear.specs.Programs.{IsWellFormed}
+use Rattle.suit_linear.specs.Tableaus.{TableauRow, Tableau, bound, entry}
+use Rattle.suit_linear.specs.Runs.{RunEnd, AtOptimum, run_end}
+use Rattle.suit_linear.specs.Ends.{IsBasicValue, IsOptimumOf, Tells}
+use Rattle.suit_linear.specs.Optima.{IsDualOptimum, IsPrimalOptimum}
+use Rattle.suit_linear.proofs.SoundTableaus.{IsSound}
 use Rattle.suit_simplex.proofs.FastAnswers.{last_of, told_dual, told_primal}
 use Rattle.suit_simplex.proofs.OneOptimum.{one_optimum}
 use Rattle.suit_answer.specs.Reduced.{fraction}

@@ -17,13 +17,13 @@ use Rattle.suit_plans.specs.BestReplies.{least, least_reply, most, most_reply}
 use Rattle.suit_plans.specs.declared.plan.Plan.{Plan}
 use Rattle.suit_plans.specs.declared.defence.Defence.{Defence}
 use Rattle.suit_plans.specs.Properness.{IsProperDefence, IsProperPlan}
-use Rattle.suit_tableaus.specs.declared.program.Program.{Program}
-use Rattle.suit_tableaus.specs.declared.ends.Optimum.{Optimum}
-use Rattle.suit_tableaus.specs.declared.ends.SimplexEnd.{SimplexEnd}
-use Rattle.suit_tableaus.specs.declared.ends.SimplexEnd.TheVariants as ends
-use Rattle.suit_tableaus.specs.Ends.{IsOptimumOf, Tells}
-use Rattle.suit_tableaus.specs.Tableaus.{Tableau}
-use Rattle.suit_tableaus.specs.Runs.{RunEnd, AtOptimum, AtBudget, AtWide, AtRay, run_end}
+use Rattle.suit_linear.specs.declared.program.Program.{Program}
+use Rattle.suit_linear.specs.declared.ends.Optimum.{Optimum}
+use Rattle.suit_linear.specs.declared.ends.SimplexEnd.{SimplexEnd}
+use Rattle.suit_linear.specs.declared.ends.SimplexEnd.TheVariants as ends
+use Rattle.suit_linear.specs.Ends.{IsOptimumOf, Tells}
+use Rattle.suit_linear.specs.Tableaus.{Tableau}
+use Rattle.suit_linear.specs.Runs.{RunEnd, AtOptimum, AtBudget, AtWide, AtRay, run_end}
 use Rattle.suit_program.specs.Programs.{program_of, size_of}
 use Rattle.suit_program.specs.ReadingLaws.{IsPriced, IsReadable, defence_read, plan_read}
 use Rattle.suit_program.specs.Readings.{is_wide, parts_of}

@@ -48,7 +48,7 @@ use Rattle.suit_plans.proofs.PublicMoves.{layout_tells, some_passing}
 use Rattle.suit_plans.proofs.RowLimits.{weight_at_most}
 use Rattle.suit_plans.proofs.SharedSums.{within_sum}
 use Rattle.suit_layouts.specs.ClassLayouts.{class_layouts}
-use Rattle.suit_tableaus.specs.declared.ends.Optimum.{Optimum}
+use Rattle.suit_linear.specs.declared.ends.Optimum.{Optimum}
 use Rattle.suit_program.specs.ReadingLaws.{defence_read, plan_read}
 use Rattle.suit_program.specs.Readings.{parts_of, plan_point}
 use Rattle.suit_program.specs.Supports.{Support}

@@ -36,7 +36,7 @@ use Rattle.suit_program.proofs.ChoicePlaces.{own_place, their_place}
 use Rattle.suit_program.proofs.ReachedPairs.{flat_map_from}
 use Rattle.suit_program.proofs.ReadDefences.{defence_masses}
 use Rattle.suit_program.proofs.RowFacts.{sum_kept_counts}
-use Rattle.suit_tableaus.specs.Programs.{IsDualFeasible}
+use Rattle.suit_linear.specs.Programs.{IsDualFeasible}
 use Rattle.suit_solve.specs.Limits.{most_size}
 use Rattle.suit_solve.proofs.LayoutCounts.{layouts_few}
 

@@ -2,9 +2,9 @@
 use Rattle.std.specs.Prelude.{ℕ, ◌+◌, ◌==◌, pos, Option, Some, None, length, map, find, drop}
 use Rattle.std.specs.List.{range_with_len}
 use Rattle.suit_num.specs.declared.fraction.Frac.{Frac}
-use Rattle.suit_tableaus.specs.declared.program.Program.{Program}
-use Rattle.suit_tableaus.specs.declared.ends.Optimum.{Optimum}
-use Rattle.suit_tableaus.specs.Tableaus.{TableauRow, Tableau, bound, entry, scale, value}
+use Rattle.suit_linear.specs.declared.program.Program.{Program}
+use Rattle.suit_linear.specs.declared.ends.Optimum.{Optimum}
+use Rattle.suit_linear.specs.Tableaus.{TableauRow, Tableau, bound, entry, scale, value}
 use Rattle.suit_answer.specs.Reduced.{fraction}
 
 -- the value of a column by the row in which it is basic: the row's bound over its entry there, and 0 where there is no

@@ -6,8 +6,8 @@ use Rattle.suit_plans.specs.declared.moves.DefenceMove.{DefenceMove}
 use Rattle.suit_plans.specs.declared.plan.Plan.{Plan}
 use Rattle.suit_plans.specs.declared.defence.Defence.{Defence}
 use Rattle.suit_plans.specs.BestReplies.{least_reply, most_reply}
-use Rattle.suit_tableaus.specs.declared.ends.Optimum.{Optimum}
-use Rattle.suit_tableaus.specs.Runs.{RunEnd, AtOptimum, AtBudget, AtWide, AtRay, run_end}
+use Rattle.suit_linear.specs.declared.ends.Optimum.{Optimum}
+use Rattle.suit_linear.specs.Runs.{RunEnd, AtOptimum, AtBudget, AtWide, AtRay, run_end}
 use Rattle.suit_program.specs.Programs.{program_of, size_of}
 use Rattle.suit_program.specs.ReadingLaws.{defence_read, plan_read}
 use Rattle.suit_program.specs.Readings.{is_wide, parts_of}

@@ -1,6 +1,6 @@
 use Rattle.std.specs.Prelude.{◌≡◌, map, Vec}
 use Rattle.std.specs.Global.{Global}
-use Rattle.suit_tableaus.specs.declared.sparse.Entry.{Entry}
+use Rattle.suit_linear.specs.declared.sparse.Entry.{Entry}
 use Rattle.suit_program.specs.Drafted.{sparse_row}
 use Rattle.suit_program.proofs.programs.rows_of.Given as goal
 

@@ -1,7 +1,7 @@
 use Rattle.std.proofs.Common.{◌≡◌, ◌<◌, ℕ, List, get_or, ap, subst, ◌∙◌, Vec, Global}
 use Rattle.std.specs.Prelude.{Contains}
-use Rattle.suit_tableaus.specs.declared.sparse.Entry.{Entry}
-use Rattle.suit_tableaus.specs.Sparse.{dense_entries}
+use Rattle.suit_linear.specs.declared.sparse.Entry.{Entry}
+use Rattle.suit_linear.specs.Sparse.{dense_entries}
 use Rattle.suit_program.specs.declared.draft.Draft.{Draft}
 use Rattle.suit_program.specs.declared.draft.Posting.{Posting}
 use Rattle.suit_program.specs.Drafted.{sparse_row}

@@ -1,5 +1,5 @@
-use Rattle.suit_tableaus.specs.Runs.{run_end}
-use Rattle.suit_tableaus.specs.Sparse.{dense}
+use Rattle.suit_linear.specs.Runs.{run_end}
+use Rattle.suit_linear.specs.Sparse.{dense}
 use Rattle.suit_rounds.proofs.ToldColumns.{told_columns}
 use Rattle.suit_rounds.proofs.rounds.optimum_by.Goals as goal
 

@@ -1,9 +1,9 @@
 use Rattle.std.proofs.Common.{◌≡◌, ◌≤◌, sym, subst, arith}
 use Rattle.std.specs.Prelude.{length}
-use Rattle.suit_tableaus.specs.declared.program.Program.{Program}
-use Rattle.suit_tableaus.specs.Optima.{IsDualOptimum, IsPrimalOptimum}
-use Rattle.suit_tableaus.specs.Programs.{IsBounded, IsWellFormed}
-use Rattle.suit_tableaus.specs.Sparse.{dense}
+use Rattle.suit_linear.specs.declared.program.Program.{Program}
+use Rattle.suit_linear.specs.Optima.{IsDualOptimum, IsPrimalOptimum}
+use Rattle.suit_linear.specs.Programs.{IsBounded, IsWellFormed}
+use Rattle.suit_linear.specs.Sparse.{dense}
 use Rattle.suit_program.specs.Marks.{support_seen}
 use Rattle.suit_program.specs.Programs.{program_of, size_of}
 use Rattle.suit_program.specs.Sized.{IsSized}

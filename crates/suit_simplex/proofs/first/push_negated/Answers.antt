@@ -2,7 +2,7 @@ use Rattle.std.proofs.Common.{rules, arith, ◌≡◌, ◌+◌, map, take}
 use Rattle.std.specs.Prelude.{FitsSigned, neg_ℤ}
 use Rattle.std.specs.Int.{w128}
 use Rattle.std.proofs.lemmas.Int.{to_z-of_z}
-use Rattle.suit_tableaus.specs.Points.{number_at}
+use Rattle.suit_linear.specs.Points.{number_at}
 use Rattle.suit_simplex.proofs.FirstNumbers.{one_written, negated_next, neg_narrow}
 use Rattle.suit_simplex.proofs.first.push_negated.Goals as goal
 

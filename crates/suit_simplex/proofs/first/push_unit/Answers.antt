@@ -2,7 +2,7 @@ use Rattle.std.proofs.Common.{rules, ◌≡◌, ◌+◌, cond}
 use Rattle.std.specs.Prelude.{FitsSigned, pos, ◌==◌}
 use Rattle.std.specs.Int.{w128}
 use Rattle.std.proofs.lemmas.Int.{to_z-of_z}
-use Rattle.suit_tableaus.specs.Tableaus.{unit_numbers}
+use Rattle.suit_linear.specs.Tableaus.{unit_numbers}
 use Rattle.suit_simplex.proofs.FirstNumbers.{nothing_written, one_written, unit_none, unit_next, unit_narrow}
 use Rattle.suit_simplex.proofs.first.push_unit.Goals as goal
 

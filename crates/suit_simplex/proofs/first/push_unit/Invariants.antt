@@ -1,4 +1,4 @@
-use Rattle.suit_tableaus.specs.Tableaus.{unit_numbers}
+use Rattle.suit_linear.specs.Tableaus.{unit_numbers}
 use Rattle.suit_simplex.proofs.FirstNumbers.{IsWritten}
 use Rattle.suit_simplex.proofs.first.push_unit.Given as goal
 

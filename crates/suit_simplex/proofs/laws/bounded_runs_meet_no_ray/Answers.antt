@@ -1,4 +1,4 @@
-use Rattle.suit_tableaus.proofs.RunSteps.{bounded_run_meets_no_ray}
+use Rattle.suit_linear.proofs.RunSteps.{bounded_run_meets_no_ray}
 use Rattle.suit_simplex.proofs.laws.bounded_runs_meet_no_ray.Goals as goal
 
 pub returns : goal.returns

@@ -2,7 +2,7 @@ use Rattle.std.proofs.Common.{rules, ◌≡◌}
 use Rattle.std.specs.Prelude.{FitsSigned}
 use Rattle.std.specs.Int.{w128}
 use Rattle.std.proofs.lemmas.Int.{to_z-of_z}
-use Rattle.suit_tableaus.specs.Pivots.{combined, share}
+use Rattle.suit_linear.specs.Pivots.{combined, share}
 use Rattle.suit_simplex.proofs.row.clear.Goals as goal
 
 pub make_primitive-requires-clause-some : goal.make_primitive-requires-clause-some

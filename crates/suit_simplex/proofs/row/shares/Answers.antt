@@ -2,7 +2,7 @@ use Rattle.std.proofs.Common.{rules}
 use Rattle.std.specs.Prelude.{FitsSigned, int_div}
 use Rattle.std.specs.Int.{w128}
 use Rattle.std.proofs.lemmas.Int.{to_z-of_z, quot_fits}
-use Rattle.suit_tableaus.proofs.CommonDivisors.{shares_are}
+use Rattle.suit_linear.proofs.CommonDivisors.{shares_are}
 use Rattle.suit_simplex.proofs.row.shares.Goals as goal
 
 pub returns : goal.returns

@@ -1,11 +1,11 @@
 use Rattle.std.proofs.Common.{◌≡◌, ◌∙◌, Some, refl, sym, ap, Bool, true, false}
 use Rattle.std.proofs.lemmas.Result.{err_from_is_err_and}
-use Rattle.suit_tableaus.specs.Tableaus.{Tableau}
-use Rattle.suit_tableaus.specs.Pivots.{leaving}
-use Rattle.suit_tableaus.specs.Runs.{To}
+use Rattle.suit_linear.specs.Tableaus.{Tableau}
+use Rattle.suit_linear.specs.Pivots.{leaving}
+use Rattle.suit_linear.specs.Runs.{To}
 use Rattle.suit_simplex.specs.Dense.{seen, row_at}
 use Rattle.suit_simplex.proofs.DenseRuns.{wide_ratio}
-use Rattle.suit_tableaus.proofs.RunSteps.{next_last, next_wide_change, next_to}
+use Rattle.suit_linear.proofs.RunSteps.{next_last, next_wide_change, next_to}
 use Rattle.suit_simplex.proofs.solving.advance.Goals as goal
 
 same_false : ◌≡◌ {A = Bool} false true → ⊥

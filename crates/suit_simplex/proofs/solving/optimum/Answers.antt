@@ -1,5 +1,5 @@
-use Rattle.suit_tableaus.specs.Runs.{run_end}
-use Rattle.suit_tableaus.specs.Ends.{Tells}
+use Rattle.suit_linear.specs.Runs.{run_end}
+use Rattle.suit_linear.specs.Ends.{Tells}
 use Rattle.suit_simplex.proofs.FastAnswers.{told_primal, told_dual}
 use Rattle.suit_simplex.proofs.solving.optimum.Goals as goal
 

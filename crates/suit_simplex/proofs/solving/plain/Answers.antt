@@ -1,13 +1,13 @@
 use Rattle.std.proofs.Common.{◌≡◌, ℕ, ◌∙◌, None, Ok, sym, ap, add-one, true, false, is_some}
 use Rattle.std.specs.Prelude.{Option}
-use Rattle.suit_tableaus.specs.Tableaus.{Tableau}
-use Rattle.suit_tableaus.specs.Pivots.{entering}
-use Rattle.suit_tableaus.specs.Runs.{AtOptimum}
+use Rattle.suit_linear.specs.Tableaus.{Tableau}
+use Rattle.suit_linear.specs.Pivots.{entering}
+use Rattle.suit_linear.specs.Runs.{AtOptimum}
 use Rattle.suit_simplex.specs.Dense.{seen}
-use Rattle.suit_tableaus.proofs.FirstTableaus.{first_is_sound}
+use Rattle.suit_linear.proofs.FirstTableaus.{first_is_sound}
 use Rattle.suit_simplex.proofs.DenseRuns.{first_kept_run, next_kept, sound_advances}
-use Rattle.suit_tableaus.proofs.RunSteps.{ends_last, ends_wide, ends_budget, ends_done, last_enters_none}
-use Rattle.suit_tableaus.proofs.RunSteps.{none_from_test, tells_read, proves_primal, proves_dual}
+use Rattle.suit_linear.proofs.RunSteps.{ends_last, ends_wide, ends_budget, ends_done, last_enters_none}
+use Rattle.suit_linear.proofs.RunSteps.{none_from_test, tells_read, proves_primal, proves_dual}
 use Rattle.suit_simplex.proofs.solving.plain.Goals as goal
 
 pub loop-made-init : goal.loop-made-init

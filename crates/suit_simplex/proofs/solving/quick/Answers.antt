@@ -1,10 +1,10 @@
 use Rattle.std.proofs.Common.{◌≡◌, sym, subst}
 use Rattle.std.specs.Prelude.{IfOk, IfSome}
-use Rattle.suit_tableaus.specs.declared.program.Program.{Program}
-use Rattle.suit_tableaus.specs.Programs.{IsWellFormed}
-use Rattle.suit_tableaus.specs.Runs.{run_end}
-use Rattle.suit_tableaus.specs.Ends.{Tells}
-use Rattle.suit_tableaus.specs.Sparse.{dense}
+use Rattle.suit_linear.specs.declared.program.Program.{Program}
+use Rattle.suit_linear.specs.Programs.{IsWellFormed}
+use Rattle.suit_linear.specs.Runs.{run_end}
+use Rattle.suit_linear.specs.Ends.{Tells}
+use Rattle.suit_linear.specs.Sparse.{dense}
 use Rattle.suit_simplex.proofs.solving.quick.Goals as goal
 
 pub fast-requires : goal.fast-requires

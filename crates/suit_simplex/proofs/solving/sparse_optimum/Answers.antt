@@ -1,6 +1,6 @@
-use Rattle.suit_tableaus.specs.Runs.{run_end}
-use Rattle.suit_tableaus.specs.Ends.{Tells}
-use Rattle.suit_tableaus.specs.Sparse.{dense}
+use Rattle.suit_linear.specs.Runs.{run_end}
+use Rattle.suit_linear.specs.Ends.{Tells}
+use Rattle.suit_linear.specs.Sparse.{dense}
 use Rattle.suit_simplex.proofs.FastAnswers.{told_primal, told_dual}
 use Rattle.suit_simplex.proofs.solving.sparse_optimum.Goals as goal
 

@@ -2,8 +2,8 @@ use Rattle.std.proofs.Common.{rules, ◌≡◌, ap, ◌∙◌, ◌++◌, ◌∷�
 use Rattle.std.specs.Prelude.{FitsSigned}
 use Rattle.std.specs.Int.{w64, w128}
 use Rattle.std.proofs.lemmas.Int.{to_z-of_z}
-use Rattle.suit_tableaus.specs.declared.sparse.Entry.{Entry}
-use Rattle.suit_tableaus.specs.Sparse.{sum_in}
+use Rattle.suit_linear.specs.declared.sparse.Entry.{Entry}
+use Rattle.suit_linear.specs.Sparse.{sum_in}
 use Rattle.suit_simplex.proofs.SparsePrograms.{sum_in_push}
 use Rattle.suit_simplex.proofs.sparse.push_entry.Goals as goal
 

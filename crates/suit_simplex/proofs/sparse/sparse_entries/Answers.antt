@@ -2,7 +2,7 @@ use Rattle.std.proofs.Common.{rules}
 use Rattle.std.specs.Prelude.{FitsSigned}
 use Rattle.std.specs.Int.{w128}
 use Rattle.std.proofs.lemmas.Int.{to_z-of_z}
-use Rattle.suit_tableaus.specs.Points.{number_at}
+use Rattle.suit_linear.specs.Points.{number_at}
 use Rattle.suit_simplex.proofs.SparsePrograms.{none_thinned, more_thinned, all_thinned}
 use Rattle.suit_simplex.proofs.sparse.sparse_entries.Goals as goal
 

@@ -1,6 +1,6 @@
 use Rattle.std.proofs.Common.{◌≡◌, ap, ◌∙◌, length, refl, List}
 use Rattle.std.specs.Prelude.{get_or, ◌<◌}
-use Rattle.suit_tableaus.specs.declared.program.ProgramRow.{ProgramRow}
+use Rattle.suit_linear.specs.declared.program.ProgramRow.{ProgramRow}
 use Rattle.suit_simplex.proofs.SparsePrograms.{one_thinned}
 use Rattle.suit_simplex.proofs.sparse.sparse_program.Goals as goal
 

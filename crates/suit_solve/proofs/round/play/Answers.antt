@@ -1,8 +1,8 @@
 use Rattle.std.proofs.Common.{◌≡◌, ◌<◌, ◌≤◌, true, refl, sym, ◌∙◌, subst, arith, Err}
 use Rattle.suit_plans.specs.Properness.{IsProperDefence, IsProperPlan}
-use Rattle.suit_tableaus.specs.declared.ends.SimplexEnd.{SimplexEnd}
-use Rattle.suit_tableaus.specs.Ends.{Tells}
-use Rattle.suit_tableaus.specs.Runs.{run_end}
+use Rattle.suit_linear.specs.declared.ends.SimplexEnd.{SimplexEnd}
+use Rattle.suit_linear.specs.Ends.{Tells}
+use Rattle.suit_linear.specs.Runs.{run_end}
 use Rattle.suit_program.specs.declared.plan_end.PlanEnd.{PlanEnd}
 use Rattle.suit_program.specs.Marks.{support_seen}
 use Rattle.suit_program.specs.Programs.{program_of}

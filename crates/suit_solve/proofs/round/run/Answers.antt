@@ -1,11 +1,11 @@
 use Rattle.std.proofs.Common.{◌≡◌, sym, subst}
 use Rattle.std.specs.Prelude.{IfOk}
-use Rattle.suit_tableaus.specs.declared.program.Program.{Program}
-use Rattle.suit_tableaus.specs.Ends.{Tells}
-use Rattle.suit_tableaus.specs.Optima.{IsDualOptimum, IsPrimalOptimum}
-use Rattle.suit_tableaus.specs.Programs.{IsBounded, IsWellFormed}
-use Rattle.suit_tableaus.specs.Runs.{run_end}
-use Rattle.suit_tableaus.specs.Sparse.{dense}
+use Rattle.suit_linear.specs.declared.program.Program.{Program}
+use Rattle.suit_linear.specs.Ends.{Tells}
+use Rattle.suit_linear.specs.Optima.{IsDualOptimum, IsPrimalOptimum}
+use Rattle.suit_linear.specs.Programs.{IsBounded, IsWellFormed}
+use Rattle.suit_linear.specs.Runs.{run_end}
+use Rattle.suit_linear.specs.Sparse.{dense}
 use Rattle.suit_program.specs.Marks.{support_seen}
 use Rattle.suit_program.specs.Programs.{program_of}
 use Rattle.suit_program.proofs.BoundedPrograms.{programs_are_bounded}

@@ -5,8 +5,8 @@ use Rattle.std.specs.Prelude.{FitsSigned, ℤ}
 use Rattle.std.specs.Int.{w128}
 use Rattle.std.proofs.lemmas.Int.{to_z-of_z}
 use Rattle.suit_num.specs.Narrow.{IsNarrow}
-use Rattle.suit_tableaus.specs.Tableaus.{Tableau, entry, reduced_cost}
-use Rattle.suit_tableaus.specs.Pivots.{cleared}
+use Rattle.suit_linear.specs.Tableaus.{Tableau, entry, reduced_cost}
+use Rattle.suit_linear.specs.Pivots.{cleared}
 use Rattle.suit_simplex.specs.Dense.{leaver_row, seen}
 use Rattle.suit_simplex.proofs.PivotedRows.{objective_part, seen_with_objective, kept_with_part, with_part}
 use Rattle.suit_simplex.proofs.PivotedRows.{part_written, pivot_read, on_ok}

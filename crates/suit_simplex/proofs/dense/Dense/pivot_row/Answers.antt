@@ -5,11 +5,11 @@ use Rattle.std.specs.Int.{w128, cast_unsigned}
 use Rattle.std.proofs.lemmas.Int.{to_z-of_z}
 use Rattle.std.proofs.lemmas.List.Elements.{All-take, All-drop}
 use Rattle.suit_num.specs.Narrow.{IsNarrow}
-use Rattle.suit_tableaus.specs.Tableaus.{TableauRow, entry}
+use Rattle.suit_linear.specs.Tableaus.{TableauRow, entry}
 use Rattle.suit_simplex.specs.Dense.{row_at, leaver_row, seen, with_row}
 use Rattle.std.specs.Prelude.{OnOk}
-use Rattle.suit_tableaus.specs.Pivots.{cleared}
-use Rattle.suit_tableaus.proofs.CommonDivisors.{zero_bits}
+use Rattle.suit_linear.specs.Pivots.{cleared}
+use Rattle.suit_linear.proofs.CommonDivisors.{zero_bits}
 use Rattle.suit_simplex.proofs.PivotedRows.{row_leaves, row_stays, row_is_cleared, seen_same, seen_with_basic}
 use Rattle.suit_simplex.proofs.PivotedRows.{seen_with_part, kept_with_part, with_part, part_written, part_is}
 use Rattle.suit_simplex.proofs.PivotedRows.{behind_first, basic_read, pivot_read, on_ok}

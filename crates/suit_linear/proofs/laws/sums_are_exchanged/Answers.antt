@@ -1,0 +1,5 @@
+use Rattle.suit_linear.proofs.ExchangedSums.{sums_exchanged}
+use Rattle.suit_linear.proofs.laws.sums_are_exchanged.Goals as goal
+
+pub returns : goal.returns
+returns c = sums_exchanged

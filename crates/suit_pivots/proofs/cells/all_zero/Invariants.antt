@@ -1,5 +1,0 @@
-use Rattle.suit_pivots.proofs.CellSums.{AreZero}
-use Rattle.suit_pivots.proofs.cells.all_zero.Given as goal
-
-abbrev pub invariant-loop-number : goal.invariant-loop-number
-invariant-loop-number l = AreZero l.number-index l.numbers

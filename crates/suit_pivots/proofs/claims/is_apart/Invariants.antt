@@ -1,5 +1,0 @@
-use Rattle.suit_pivots.proofs.ClaimSums.{IsApartBelow}
-use Rattle.suit_pivots.proofs.claims.is_apart.Given as goal
-
-abbrev pub invariant-loop-index : goal.invariant-loop-index
-invariant-loop-index l = IsApartBelow l.lines l.leaving l.numbers l.index

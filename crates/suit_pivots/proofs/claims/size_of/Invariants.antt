@@ -1,5 +1,0 @@
-use Rattle.suit_pivots.proofs.ClaimSums.{IsWithin}
-use Rattle.suit_pivots.proofs.claims.size_of.Given as goal
-
-abbrev pub invariant-loop-number : goal.invariant-loop-number
-invariant-loop-number l = IsWithin l.numbers l.number-index l.size

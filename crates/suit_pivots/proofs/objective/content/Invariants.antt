@@ -1,5 +1,0 @@
-use Rattle.suit_pivots.proofs.Contents.{IsContentBelow}
-use Rattle.suit_pivots.proofs.objective.content.Given as goal
-
-abbrev pub invariant-loop-number : goal.invariant-loop-number
-invariant-loop-number l = IsContentBelow l.numbers l.divisor l.number-index

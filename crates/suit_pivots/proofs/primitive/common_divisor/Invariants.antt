@@ -1,5 +1,0 @@
-use Rattle.suit_tableaus.proofs.CommonDivisors.{IsDivisorBelow}
-use Rattle.suit_pivots.proofs.primitive.common_divisor.Given as goal
-
-abbrev pub invariant-loop-number : goal.invariant-loop-number
-invariant-loop-number l = IsDivisorBelow l.numbers l.divisor l.number-index

@@ -1,5 +1,0 @@
-use Rattle.suit_tableaus.proofs.CommonDivisors.{IsDividedBelow}
-use Rattle.suit_pivots.proofs.primitive.make_primitive.Given as goal
-
-abbrev pub invariant-loop-number : goal.invariant-loop-number
-invariant-loop-number l = IsDividedBelow l.fn.numbers l.divisor l.numbers l.number-index

@@ -1,5 +1,0 @@
-use Rattle.suit_pivots.proofs.Readings.{NoneBelow}
-use Rattle.suit_pivots.proofs.reading.column_value.Given as goal
-
-abbrev pub invariant-loop-index : goal.invariant-loop-index
-invariant-loop-index l = NoneBelow l.lines l.column l.index

@@ -1,6 +1,0 @@
-use Rattle.suit_tableaus.specs.Sparse.{dense}
-use Rattle.suit_pivots.proofs.FastRuns.{AreFirstBelow}
-use Rattle.suit_pivots.proofs.running.first_lines.Given as goal
-
-abbrev pub invariant-loop-index : goal.invariant-loop-index
-invariant-loop-index l = AreFirstBelow (dense l.program) l.index l.lines.items

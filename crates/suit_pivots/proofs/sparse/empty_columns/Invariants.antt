@@ -1,6 +1,0 @@
-use Rattle.std.specs.Prelude.{◌≡◌, replicate, []}
-use Rattle.suit_pivots.specs.Sparse.{cells_of}
-use Rattle.suit_pivots.proofs.sparse.empty_columns.Given as goal
-
-abbrev pub invariant-loop-made : goal.invariant-loop-made
-invariant-loop-made l = cells_of l.columns.items ≡ replicate l.made []

@@ -1,7 +1,0 @@
-use Rattle.suit_tableaus.specs.Sparse.{dense}
-use Rattle.suit_pivots.proofs.SparsePrograms.{sparse_is}
-use Rattle.suit_pivots.proofs.sparse.sparse_of.Goals as goal
-
-pub returns : goal.returns
-returns c = sparse_is (dense c.args.program.now) _ c.requires (rw c.in-Some.is at c.in_ok-rows.ensures)
-    c.in_ok-columns.ensures

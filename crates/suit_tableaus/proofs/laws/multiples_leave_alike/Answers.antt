@@ -1,5 +1,0 @@
-use Rattle.suit_tableaus.proofs.Multiples.{leaving_same}
-use Rattle.suit_tableaus.proofs.laws.multiples_leave_alike.Goals as goal
-
-pub returns : goal.returns
-returns c = leaving_same

@@ -1,5 +1,0 @@
-use Rattle.suit_tableaus.proofs.ExchangedSums.{prices_outweigh}
-use Rattle.suit_tableaus.proofs.laws.prices_outweigh_points.Goals as goal
-
-pub returns : goal.returns
-returns c = prices_outweigh

@@ -1,5 +1,0 @@
-use Rattle.suit_tableaus.proofs.SmallTableaus.{next_small}
-use Rattle.suit_tableaus.proofs.laws.small_pivots_are_made.Goals as goal
-
-pub returns : goal.returns
-returns c = next_small
