@@ -21,3 +21,6 @@ pub const DEFAULT_NODES: u32 = 200_000;
 
 /// How many pivots a question allows that does not say so.
 pub const DEFAULT_PIVOTS: u32 = 100_000;
+
+/// The most rows and columns that the program of a round's support may have.
+pub const MOST_SUPPORT: u32 = 4_000;
