@@ -1,0 +1,11 @@
+pub mod Basics
+pub mod Elements
+pub mod Maps
+pub mod Tests
+pub mod Filters
+pub mod Indices
+pub mod Walks
+pub mod FlatMaps
+pub mod Once
+pub mod Chains
+pub mod Sums
