@@ -13,7 +13,8 @@ use Rattle.std.specs.Int.{bit_at, w16}
 use Rattle.suit_cards.specs.Holdings.{holds, suit, with_rank, without_rank, others_of}
 use Rattle.suit_cards.specs.Masks.{marks, ranks_of, mask_of, suit_is, mask_of-ranks_of}
 use Rattle.suit_cards.proofs.HeldRanks.{list_any-filter}
-use Rattle.suit_cards.proofs.SuitRuns.{filter-filter, length-marked_lowest, filter_suit-agree, holds-filter_suit}
+use Rattle.suit_cards.proofs.SuitRuns.{length-marked_lowest, filter_suit-agree, holds-filter_suit}
+use Rattle.suit_lists.proofs.Filters.{filter-filter}
 
 -- the bit of a rank, shifted down, tells whether the rank is held
 pub holds-ranks_of : (mask index rank : ℕ) → index + 2 ≡ rank → index < 13

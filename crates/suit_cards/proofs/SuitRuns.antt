@@ -8,16 +8,7 @@ use Rattle.std.proofs.lemmas.Nat.{mod-pow-add, ones_cat, ones_le_self, zero_from
 use Rattle.std.proofs.lemmas.Nat.Bits.{bit_at-lt}
 use Rattle.suit_cards.specs.Holdings.{FallsBelow, IsHolding, holds, suit}
 use Rattle.suit_cards.specs.Masks.{marks, lowest, suit_is}
-
--- what a test kept, filtered by another
-pub filter-filter : {X : Type 0} (p q : X → Bool) (xs : List X) → filter q (filter p xs) ≡ filter (λ x. p x && q x) xs
-filter-filter p q [] = refl
-filter-filter {X} p q (x ∷ xs) =
-    elim (p x) as (λ b. filter q (cond b (x ∷ filter p xs) (filter p xs))
-    ≡ cond (b && q x) (x ∷ filter (λ y. p y && q y) xs) (filter (λ y. p y && q y) xs)) [
-      | true ↦ ap (λ (rest : List X). cond (q x) (x ∷ rest) rest) (filter-filter p q xs)
-      | false ↦ filter-filter p q xs
-    ]
+pub use Rattle.suit_lists.proofs.Filters.{filter-filter}
 
 -- what a test keeps of the lowest ranks falls
 pub FallsBelow-filter_lowest : (p : ℕ → Bool) (n top : ℕ) → n + 2 ≤ top → FallsBelow top (filter p (lowest n))

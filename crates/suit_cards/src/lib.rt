@@ -9,6 +9,3 @@ mod sharing;
 pub use holdings::{CardFault, Holding};
 pub use ranks::Rank;
 pub use seats::Seat;
-
-#[cfg(test)]
-mod tests;

@@ -14,6 +14,3 @@ pub use binomials::choose;
 pub use divisors::{gcd, lcm};
 pub use fraction::Frac;
 pub use narrow::{mul, sub};
-
-#[cfg(test)]
-mod tests;

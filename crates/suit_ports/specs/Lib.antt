@@ -1,5 +1,5 @@
 pub mod Bytes
-pub mod Counts
+pub mod PortCounts
 pub mod Held
 pub mod Reading
 pub mod Room

@@ -8,8 +8,6 @@ mod sink;
 mod source;
 mod standard;
 mod sure;
-#[cfg(test)]
-mod tests;
 mod transfer;
 
 pub use sink::Sink;

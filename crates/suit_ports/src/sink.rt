@@ -3,7 +3,7 @@ ghost use Rattle.std.specs.Prelude.{◌≡◌, ℕ, ◌<◌, Option, Some, IsSom
 ghost use Rattle.std.specs.Io.{WritesAtMost};
 ghost use Rattle.std.specs.Io.KnownBytes.{WriteAppends};
 ghost use Rattle.suit_ports.specs.Bytes.{Bytes};
-ghost use Rattle.suit_ports.specs.Counts.{Counts, Rose};
+ghost use Rattle.suit_ports.specs.PortCounts.{CountStands, Rose};
 ghost use Rattle.suit_ports.specs.Room.{KeepsRoom, IsFull, TookNone};
 
 use super::PortFault;
@@ -34,9 +34,9 @@ pub trait Sink {
         ensures bound { WritesAtMost result from.now }
         ensures bytes { WriteAppends (written self.old) (written self.new) result from.now }
         ensures room_kept { KeepsRoom (room self.old) (room self.new) }
-        ensures counts { Counts (faults self.old) (faults self.new) }
+        ensures counts { CountStands (faults self.old) (faults self.new) }
         ensures fault { OnErr result (Rose (faults self.old) (faults self.new)) }
-        ensures empty_counts { Counts (empties self.old) (empties self.new) }
+        ensures empty_counts { CountStands (empties self.old) (empties self.new) }
         ensures empty { TookNone result from.now → Rose (empties self.old) (empties self.new) }
         ensures only_empty { empties self.old < empties self.new → TookNone result from.now }
         ensures full { TookNone result from.now → IsFull (written self.new) (room self.new) };

@@ -3,7 +3,7 @@ ghost use Rattle.std.specs.Prelude.{ℕ, Option, OnErr};
 ghost use Rattle.std.specs.Io.{ReadsAtMost};
 ghost use Rattle.std.specs.Io.KnownBytes.{ReadConsumes};
 ghost use Rattle.suit_ports.specs.Bytes.{Bytes};
-ghost use Rattle.suit_ports.specs.Counts.{Counts, Rose};
+ghost use Rattle.suit_ports.specs.PortCounts.{CountStands, Rose};
 
 use thiserror::Error;
 
@@ -30,6 +30,6 @@ pub trait Source {
     fn take(&mut self, into: &mut [u8]) -> Result<usize, PortFault>
         ensures bound { ReadsAtMost result into.new }
         ensures bytes { ReadConsumes (left self.old) (left self.new) result into.new }
-        ensures counts { Counts (faults self.old) (faults self.new) }
+        ensures counts { CountStands (faults self.old) (faults self.new) }
         ensures fault { OnErr result (Rose (faults self.old) (faults self.new)) };
 }

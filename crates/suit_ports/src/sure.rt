@@ -2,7 +2,7 @@
 ghost use Rattle.std.specs.Prelude.{◌≡◌, ℕ, ◌+◌, ◌-◌, ◌<◌, ◌^◌, ◌++◌, [], Ok, IfOk, OnErr, length, min, take, drop};
 ghost use Rattle.std.specs.Io.{ReadsAtMost, WritesAtMost};
 ghost use Rattle.std.specs.Io.KnownBytes.{ReadConsumes, WriteAppends};
-ghost use Rattle.suit_ports.specs.Counts.{Counts, Rose};
+ghost use Rattle.suit_ports.specs.PortCounts.{CountStands, Rose};
 ghost use Rattle.suit_ports.specs.Held.{fitting, put_into};
 ghost use Rattle.suit_ports.specs.Room.{KeepsRoom, IsFull, TookNone};
 
@@ -48,7 +48,7 @@ impl Source for SureSource {
         ensures exact { result ≡ Ok (min (length into.old) (length self.old)) }
         ensures bound { ReadsAtMost result into.new }
         ensures bytes { ReadConsumes (Some self.old) (Some self.new) result into.new }
-        ensures counts { Counts 0 0 }
+        ensures counts { CountStands 0 0 }
         ensures fault { OnErr result (Rose 0 0) }
     {
         let left = &self.bytes[self.given..];
@@ -120,9 +120,9 @@ impl Sink for SureSink {
         ensures bound { WritesAtMost result from.now }
         ensures bytes { WriteAppends (Some self.old.bytes) (Some self.new.bytes) result from.now }
         ensures room_kept { KeepsRoom (Some self.old.room) (Some self.new.room) }
-        ensures counts { Counts 0 0 }
+        ensures counts { CountStands 0 0 }
         ensures fault { OnErr result (Rose 0 0) }
-        ensures empty_counts { Counts self.old.empties self.new.empties }
+        ensures empty_counts { CountStands self.old.empties self.new.empties }
         ensures empty { TookNone result from.now → Rose self.old.empties self.new.empties }
         ensures only_empty { self.old.empties < self.new.empties → TookNone result from.now }
         ensures full { TookNone result from.now → IsFull (Some self.new.bytes) (Some self.new.room) }

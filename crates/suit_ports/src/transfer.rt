@@ -2,7 +2,7 @@
 ghost use Rattle.std.specs.Prelude.{◌≡◌, ℕ, ◌<◌, ◌≤◌, OnOk, OnErr, IfErr, IsErr, IsErrOf, length, take, ◌⊎◌};
 ghost use Rattle.std.specs.Io.KnownBytes.{Appends, Consumes, IsAtEnd};
 ghost use Rattle.suit_ports.specs.Bytes.{Bytes};
-ghost use Rattle.suit_ports.specs.Counts.{Counts, Rose};
+ghost use Rattle.suit_ports.specs.PortCounts.{CountStands, Rose};
 ghost use Rattle.suit_ports.specs.Room.{KeepsRoom, IsFull};
 ghost use Rattle.suit_ports.specs.Reading.{Took};
 
@@ -71,7 +71,7 @@ pub fn read_all<S: Source>(alloc: Global, source: &mut S, limit: usize) -> Resul
     requires { limit < usize.MAX }
     ensures taken { (taken : Bytes) × Took limit result taken × Consumes (S.left source.old) (S.left source.new) taken }
     ensures whole { OnOk result (IsAtEnd (S.left source.new)) }
-    ensures counts { Counts (S.faults source.old) (S.faults source.new) }
+    ensures counts { CountStands (S.faults source.old) (S.faults source.new) }
     ensures fault { IsErrOf result ReadEnd.Fault → Rose (S.faults source.old) (S.faults source.new) }
 {
     let mut bytes = Vec::new(alloc);

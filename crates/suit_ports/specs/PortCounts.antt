@@ -2,7 +2,7 @@
 use Rattle.std.specs.Prelude.{◌≡◌, ℕ, ◌-◌, ◌^◌, ◌<◌, ◌≤◌, ◌⊎◌}
 
 -- a count is a `u64`, and no call lowers it
-pub record Counts (before after : ℕ) : Type 0 where
+pub record CountStands (before after : ℕ) : Type 0 where
   pub never_falls : before ≤ after
   pub fits : after < 2 ^ 64
 
