@@ -1,0 +1,9 @@
+pub mod FirstPlaces
+pub mod LooseLines
+pub mod LooseLinesBack
+pub mod LooseNumbersBack
+pub mod LooseWords
+pub mod ShortNumbers
+pub mod Splits
+pub mod StrictLines
+pub mod TooLarge
