@@ -9,10 +9,11 @@ use Rattle.suit_game.specs.declared.question.Question.{Question}
 use Rattle.suit_game.specs.declared.moves.Move.{Move}
 use Rattle.suit_game.specs.declared.moves.Move.TheVariants.{Lead, Follow, ShowOut}
 use Rattle.suit_game.specs.Positions.{Position, leads_at, follows_of, declarer_hand}
-use Rattle.suit_game.proofs.EachElement.{each_map, each_in}
 use Rattle.suit_game.proofs.HeldCards.{IsFirst, holds-first, each_held}
 use Rattle.suit_game.proofs.LegalPlays.{lead_cases}
 use Rattle.suit_game.proofs.BoundedPays.{allowed_in, allowed_each}
+use Rattle.suit_lists.proofs.Elements.{each_in}
+use Rattle.suit_lists.proofs.Maps.{each_map}
 
 -- a card that may be followed with: one that is held, and the first where no other is allowed
 abbrev pub IsPlayable : Bool → Bool → List ℕ → ℕ → Type 0

@@ -10,9 +10,10 @@ use Rattle.suit_game.specs.Positions.{Position, after, step, legal_at, has_ended
 use Rattle.suit_game.specs.Strategies.{Way, DefenceWay, Weighed, chosen}
 use Rattle.suit_game.specs.Gains.{is_declarer_turn, played, pay_within}
 use Rattle.suit_game.proofs.LegalPlays.{after_move}
-use Rattle.suit_game.proofs.EachElement.{each_map, each_gives}
 use Rattle.suit_game.proofs.ChosenMoves.{first_of, first_of_each, chosen_each, chosen_first}
 use Rattle.suit_game.proofs.PayDenominators.{played-weight}
+use Rattle.suit_lists.proofs.Elements.{each_gives}
+use Rattle.suit_lists.proofs.Maps.{each_map}
 
 -- the moves that may be played: any legal ones, or only the first where it is the defenders' turn and they always play
 -- that

@@ -8,7 +8,7 @@ use Rattle.std.proofs.lemmas.List.Sums.{sum_by-append, sum_by-cons}
 use Rattle.suit_num.specs.Binomials.{binomial}
 use Rattle.suit_num.proofs.BinomialLaws.{pascal, binomial-none, binomial_past}
 use Rattle.suit_game.specs.Layouts.{choices_of}
-use Rattle.suit_game.proofs.ListSums.{length_filter, sum_by_map, sum_by_none, sum_by_same}
+use Rattle.suit_lists.proofs.Sums.{length_filter, sum_by_map, sum_by_none, sum_by_same}
 
 -- each choice has the first card or not
 pub choices_split : (f : ℕ → ℕ) (card : ℕ) (cards : List ℕ)

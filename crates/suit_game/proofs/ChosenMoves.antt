@@ -5,7 +5,7 @@ use Rattle.std.specs.List.{AllByRecursion}
 use Rattle.suit_game.specs.declared.moves.Move.{Move}
 use Rattle.suit_game.specs.Fractions.{Fraction, total_weight}
 use Rattle.suit_game.specs.Strategies.{Weighed, kept, weighed, or_first, chosen}
-use Rattle.suit_game.proofs.EachElement.{each_at, each_contained}
+use Rattle.suit_lists.proofs.Elements.{each_at, each_contained}
 
 -- the first move alone
 abbrev pub first_of : List Move → List Move

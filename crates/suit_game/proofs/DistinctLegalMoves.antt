@@ -14,9 +14,10 @@ use Rattle.suit_game.specs.Histories.{History}
 use Rattle.suit_game.specs.PlaceViews.{IsPlay}
 use Rattle.suit_game.specs.Positions.{Position, Trick, Closed, Open, dealt, follows_of, legal, legal_in, legal_at}
 use Rattle.suit_game.specs.Positions.{may_lead_n, may_lead_s, without, after}
-use Rattle.suit_game.proofs.DistinctElements.{IsOnce, once_append, once_map}
-use Rattle.suit_game.proofs.EachElement.{each_of, each_map}
 use Rattle.suit_game.proofs.LayoutCards.{dealt-falls, layouts_are_deals}
+use Rattle.suit_lists.proofs.Elements.{each_of}
+use Rattle.suit_lists.proofs.Maps.{each_map}
+use Rattle.suit_lists.proofs.Once.{IsOnce, once_append, once_map}
 
 apart_above : (high top : ℕ) (cards : Cards) → top ≤ high → FallsBelow top cards
     → AllByRecursion (λ card. high ≡ card → ⊥) cards

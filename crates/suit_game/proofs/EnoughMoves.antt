@@ -15,10 +15,10 @@ use Rattle.suit_game.specs.Positions.{Position, Trick, Closed, Open, is_empty, a
 use Rattle.suit_game.specs.Positions.{payoff, IsLegal, declarer_hand}
 use Rattle.suit_game.specs.Strategies.{Way, DefenceWay, Weighed}
 use Rattle.suit_game.proofs.ChosenMoves.{chosen_from}
-use Rattle.suit_game.proofs.EachElement.{map_same}
 use Rattle.suit_game.proofs.LegalPlays.{leads_at-none, after_move}
 use Rattle.suit_game.proofs.LongestPlay.{holdings_fit, histories_use_room}
 use Rattle.suit_game.proofs.Room.{room_falls}
+use Rattle.suit_lists.proofs.Maps.{map_same}
 
 ended_in_no_room : (question : Question) (place : Position) (trick : Trick)
     → 4 * cards_left question place + seats_left trick ≤ 0

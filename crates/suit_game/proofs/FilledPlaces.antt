@@ -14,7 +14,7 @@ use Rattle.suit_game.specs.Layouts.{choices_of, is_west_length, layouts, weight,
 use Rattle.suit_game.specs.Validity.{IsValid}
 use Rattle.suit_game.specs.Weights.{weight_in_range, HasPlaces}
 use Rattle.suit_game.proofs.ChoiceSums.{range_sum_more, choices_split, choices_summed}
-use Rattle.suit_game.proofs.ListSums.{sum_by_same, sum_by_none, sum_by_filter}
+use Rattle.suit_lists.proofs.Sums.{sum_by_filter, sum_by_none, sum_by_same}
 
 -- the ways to choose so many among the others that the whole is made
 abbrev pub fill : ℕ → ℕ → ℕ → ℕ

@@ -11,9 +11,10 @@ use Rattle.suit_game.specs.Question.{missing}
 use Rattle.suit_game.specs.Positions.{payoff}
 use Rattle.suit_game.specs.Strategies.{Way, DefenceWay}
 use Rattle.suit_game.specs.Gains.{pay, gain}
-use Rattle.suit_game.proofs.EachElement.{each_gives, each_map}
 use Rattle.suit_game.proofs.WeightedMeans.{mean-least, mean-most}
 use Rattle.suit_game.proofs.LayoutCards.{IsPart, layouts-parts}
+use Rattle.suit_lists.proofs.Elements.{each_gives}
+use Rattle.suit_lists.proofs.Maps.{each_map}
 
 -- more tricks are never worth less
 pub payoff-grows : (goal : Goal) (fewer more : ℕ) → fewer ≤ more → payoff goal fewer ≤ payoff goal more

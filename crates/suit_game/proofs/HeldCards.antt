@@ -13,7 +13,7 @@ use Rattle.suit_cards.proofs.HeldRanks.{holds_tells}
 use Rattle.suit_cards.proofs.HeldSuits.{holds-above, holds-filter}
 use Rattle.suit_cards.specs.Cards.{Cards}
 use Rattle.suit_game.specs.Positions.{without}
-use Rattle.suit_game.proofs.EachElement.{each_in, Contains-cons_cases, Contains-nil}
+use Rattle.suit_lists.proofs.Elements.{Contains-cons_cases, Contains-nil, each_in}
 
 -- a card that stands first is held
 pub holds-first : (card : ℕ) (cards : List ℕ) → holds (card ∷ cards) card ≡ true

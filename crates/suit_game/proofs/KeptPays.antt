@@ -14,7 +14,8 @@ use Rattle.suit_game.proofs.LegalPlays.{after_move, legal_moves_extend}
 use Rattle.suit_game.proofs.ReachedPlaces.{thirteen_tricks}
 use Rattle.suit_game.proofs.WeightedMeans.{mean-least, mean-most}
 use Rattle.suit_game.proofs.ChosenMoves.{chosen_each}
-use Rattle.suit_game.proofs.EachElement.{each_in, each_map}
+use Rattle.suit_lists.proofs.Elements.{each_in}
+use Rattle.suit_lists.proofs.Maps.{each_map}
 
 -- a fact of positions that legal moves keep, and a fact of fractions that it gives of payoffs and that means keep
 pub record Keeps (question : Question) (west : List ℕ) (At : Position → Type 0) (Good : Fraction

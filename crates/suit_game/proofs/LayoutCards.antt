@@ -13,8 +13,10 @@ use Rattle.suit_game.specs.Deals.{IsDeal}
 use Rattle.suit_game.specs.Question.{missing}
 use Rattle.suit_game.specs.Layouts.{choices_of, layouts, is_west_length}
 use Rattle.suit_game.specs.Positions.{without, dealt}
-use Rattle.suit_game.proofs.EachElement.{each_at, each_gives, each_map, each_append, each_filter}
 use Rattle.suit_game.proofs.HeldCards.{holds-from_filter, holds-from_without}
+use Rattle.suit_lists.proofs.Elements.{each_append, each_at, each_gives}
+use Rattle.suit_lists.proofs.Filters.{each_filter}
+use Rattle.suit_lists.proofs.Maps.{each_map}
 
 -- some of the cards, in their order, falling below a top
 pub record IsPart (top : ℕ) (cards taken : List ℕ) : Type 0 where

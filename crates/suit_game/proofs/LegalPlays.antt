@@ -10,13 +10,9 @@ use Rattle.suit_game.specs.declared.question.Question.{Question}
 use Rattle.suit_game.specs.declared.moves.Move.{Move}
 use Rattle.suit_game.specs.Positions.{Position, without, may_lead_n, may_lead_s, leads_at, follows_of, start_place}
 use Rattle.suit_game.specs.Positions.{step, after, legal, LegalFrom, IsLegal, declarer_hand}
-use Rattle.suit_game.proofs.EachElement.{Contains-cons_cases, Contains-map_from, Contains-nil}
 use Rattle.suit_game.specs.Histories.{History}
-
--- what a choice between a list and none contains is in the list
-Contains-if : {X : Type 0} (b : Bool) (xs : List X) (y : X) → Contains (if b then xs else []) y → Contains xs y
-Contains-if true xs y found = found
-Contains-if false xs y found = absurd (Contains-nil y found)
+use Rattle.suit_lists.proofs.Elements.{Contains-cons_cases, Contains-if, Contains-nil}
+use Rattle.suit_lists.proofs.Maps.{Contains-map_from}
 
 -- a lead is of a card that North holds, or South
 pub lead_cases : (question : Question) (place : Position) (move : Move) → Contains (leads_at question place) move

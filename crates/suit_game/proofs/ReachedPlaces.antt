@@ -11,11 +11,11 @@ use Rattle.suit_game.specs.Deals.{IsDeal}
 use Rattle.suit_game.specs.Positions.{Position, Trick, Closed, Open, dealt, start_place, step, after, legal_at}
 use Rattle.suit_game.specs.Positions.{LegalFrom, IsLegal}
 use Rattle.suit_game.specs.Reached.{seats_played, held_at_trick, IsTrickAt, IsReached}
-use Rattle.suit_game.proofs.EachElement.{Contains-nil}
 use Rattle.suit_game.proofs.HeldCards.{without-none}
 use Rattle.suit_game.proofs.LongestPlay.{holdings_fit}
 use Rattle.suit_game.proofs.MovesCounted.{Counted, tricks_later, counted_later, held_later}
 use Rattle.suit_game.proofs.TricksReached.{own_at, once_later, from_hands_later, trick_later}
+use Rattle.suit_lists.proofs.Elements.{Contains-nil}
 
 -- the facts, after so many moves and finished tricks
 record Facts (question : Question) (west : List ℕ) (place : Position) (count tricks : ℕ) : Type 0 where

@@ -8,7 +8,6 @@ use Rattle.suit_cards.specs.declared.seats.Seat.{Seat}
 use Rattle.suit_cards.specs.Holdings.{IsHolding, holds, without_rank, others_of}
 use Rattle.suit_cards.proofs.HeldSuits.{same_holding, IsHolding-filter, IsHolding-others_of, holds-filter}
 use Rattle.suit_cards.proofs.HeldSuits.{holds-others_of}
-use Rattle.suit_cards.proofs.SuitRuns.{filter-filter}
 use Rattle.suit_game.specs.declared.question.Question.{Question}
 use Rattle.suit_game.specs.declared.moves.Move.{Move}
 use Rattle.suit_game.specs.declared.moves.Move.TheVariants.{Lead, Follow, ShowOut}
@@ -23,6 +22,7 @@ use Rattle.suit_game.proofs.HeldCards.{without-none}
 use Rattle.suit_game.proofs.LayoutCards.{layouts_are_deals}
 use Rattle.suit_game.proofs.LegalPlays.{legal_moves_extend}
 use Rattle.suit_game.proofs.ReachedPlaces.{thirteen_tricks}
+use Rattle.suit_lists.proofs.Filters.{filter-filter}
 
 filter_same : (p q : ℕ → Bool) (cards : List ℕ) → ((card : ℕ) → p card ≡ q card) → filter p cards ≡ filter q cards
 filter_same p q [] same = refl

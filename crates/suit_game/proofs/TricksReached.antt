@@ -17,12 +17,12 @@ use Rattle.suit_game.specs.Positions.{Position, Trick, Closed, Open, without, de
 use Rattle.suit_game.specs.Positions.{step, turn_passed, ended_trick}
 use Rattle.suit_game.specs.Reached.{is_to_play, IsOpen, IsTrickAt}
 use Rattle.suit_game.specs.Strategies.{same_seat}
-use Rattle.suit_game.proofs.EachElement.{Contains-cons_cases, Contains-first, Contains-later}
 use Rattle.suit_game.proofs.HeldCards.{holds-from_without}
 use Rattle.suit_game.proofs.OwnCards.{PlaysOwn}
 use Rattle.suit_game.proofs.LegalPlays.{lead_cases, follow_or_show}
 use Rattle.suit_game.proofs.TrickStates.{comes}
 use Rattle.suit_game.proofs.TurnsTaken.{follow_plays_own, lead_opens}
+use Rattle.suit_lists.proofs.Elements.{Contains-cons_cases, Contains-first, Contains-later, Contains-same}
 
 -- a card that is left of a hand was dealt to it
 dealt_from_hand : (cards gone : List ℕ) (card : ℕ) → Contains (without cards gone) card → Contains cards card
@@ -65,7 +65,7 @@ pub from_hands_later : (question : Question) (west gone later : List ℕ) (seat 
     → PlaysOwn (dealt question west seat) gone later
     → (card : ℕ) → Contains later card → (seat : Seat) × Contains (dealt question west seat) card
 from_hands_later question west gone later seat before plays other found = elim plays [
-  | inl card ↦ elim (Contains-cons_cases card.0 gone other (subst (λ (l : List ℕ). Contains l other) card.2 found)) [
+  | inl card ↦ elim (Contains-cons_cases card.0 gone other (Contains-same other card.2 found)) [
     | inl here ↦ (
       seat,
       subst (λ (c : ℕ). Contains (dealt question west seat) c) here
@@ -73,7 +73,7 @@ from_hands_later question west gone later seat before plays other found = elim p
     )
     | inr there ↦ before other there
   ]
-  | inr none ↦ before other (subst (λ (l : List ℕ). Contains l other) none.1 found)
+  | inr none ↦ before other (Contains-same other none.1 found)
 ]
 
 -- a seat that is no longer to play is not among the seats after the one on turn

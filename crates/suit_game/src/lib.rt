@@ -8,12 +8,8 @@ pub mod laws;
 mod limits;
 mod moves;
 mod place;
-#[cfg(test)]
-mod place_tests;
 mod question;
 mod sharing;
-#[cfg(test)]
-mod tests;
 mod trick;
 mod turn;
 mod validity;
