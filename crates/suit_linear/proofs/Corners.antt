@@ -17,10 +17,10 @@ use Rattle.suit_linear.specs.declared.program.Program.{Program}
 use Rattle.suit_linear.specs.Points.{number_at, dot}
 use Rattle.suit_linear.specs.Tableaus.{TableauRow, Tableau, bound, entry, value, reduced_cost}
 use Rattle.suit_linear.proofs.SoundTableaus.{IsSound, Solves}
-use Rattle.suit_linear.proofs.Elements.{all_from_contains}
 use Rattle.suit_linear.proofs.DotProducts.{dot_first, number_at-drop, dot-add, dot_one, dot_zero}
 use Rattle.suit_linear.proofs.SoundRows.{found_row, row_found, cases_option}
 use Rattle.suit_linear.proofs.Signs.{times_zero, zero_times}
+use Rattle.suit_lists.proofs.Elements.{all_from_contains}
 
 -- ---- the product of the basic entries
 

@@ -15,6 +15,7 @@ use Rattle.suit_linear.specs.Tableaus.{Tableau, reduced_cost}
 use Rattle.suit_linear.specs.Pivots.{entering}
 use Rattle.suit_linear.proofs.SoundTableaus.{IsSound}
 use Rattle.suit_num.proofs.IntegerLaws.{int_lt-true, int_lt-false}
+use Rattle.suit_lists.proofs.Indices.{none_first}
 
 pub number_at-drop_two : (xs : List ℤ) (index : ℕ) → number_at (drop 2 xs) index ≡ number_at xs (suc (suc index))
 number_at-drop_two [] index = refl
@@ -39,17 +40,6 @@ entering_is_column program tableau column sound h =
           (int_lt-true (number_at costs column) (pos 0) found.1),
     )
 
-position_none : {X : Type 0} (p : X → Bool) (xs : List X) → position p xs ≡ None → length xs ≤ position_or_len p xs
-position_none p xs h =
-    elim (cases_Bool (nat_lt (position_or_len p xs) (length xs))) [
-      | inl less ↦
-          let found : position p xs ≡ Some (position_or_len p xs) =
-          cond-true (nat_lt (position_or_len p xs) (length xs)) (Some (position_or_len p xs)) None less in
-          let both : None ≡ Some (position_or_len p xs) = sym h ∙ found in
-          cc
-      | inr more ↦ ltb-false (position_or_len p xs) (length xs) more
-    ]
-
 -- where no column enters, no cost is negative
 pub none_enters : (tableau : Tableau) → entering tableau ≡ None → (column : ℕ) → pos 0 ≤ℤ reduced_cost tableau column
 none_enters tableau h column =
@@ -58,7 +48,7 @@ none_enters tableau h column =
     subst (λ (z : ℤ). pos 0 ≤ℤ z) (number_at-drop_two tableau.objective column)
     (elim (cases_lt column (length costs)) [
       | inl less ↦
-          let inside : column < prefix_len (λ x. not (p x)) costs = omega (arith, position_none p costs h) in
+          let inside : column < prefix_len (λ x. not (p x)) costs = omega (arith, none_first p costs h) in
           int_lt-false (number_at costs column) (pos 0)
           (not-true (p (number_at costs column)) (prefix_len_passes (λ x. not (p x)) costs column (pos 0) inside))
       | inr past ↦ not_less (number_at costs column) (get_or_past costs column (pos 0) past)

@@ -17,8 +17,8 @@ use Rattle.suit_linear.specs.Programs.{IsWellFormed}
 use Rattle.suit_linear.specs.Tableaus.{TableauRow, bound, entry, reduced_cost, unit_numbers, first_row, first_tableau}
 use Rattle.suit_linear.proofs.SoundTableaus.{IsSound, Solves}
 use Rattle.suit_linear.proofs.DotProducts.{dot_zero, dot_one, dot-append, dot-neg_numbers}
-use Rattle.suit_linear.proofs.Elements.{contains_map}
 use Rattle.suit_linear.proofs.Signs.{zero_times}
+use Rattle.suit_lists.proofs.Maps.{Contains-map_from}
 
 -- ---- the numbers of a slack column
 
@@ -80,7 +80,7 @@ pub first_row_of : (program : Program) (row : TableauRow) → Contains (first_ta
     × (first_row (length program.costs) (length program.rows) placed ≡ row)
 unfolding first_tableau
 first_row_of program row h =
-    let found = contains_map (first_row (length program.costs) (length program.rows)) (enumerate_from 0 program.rows)
+    let found = Contains-map_from (first_row (length program.costs) (length program.rows)) (enumerate_from 0 program.rows)
     row h in (
       found.0,
       All-contains (IsPlaced program.rows) (enumerate_from 0 program.rows) found.0 (enumerated program.rows)

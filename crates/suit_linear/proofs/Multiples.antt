@@ -13,7 +13,7 @@ use Rattle.suit_linear.specs.Points.{number_at}
 use Rattle.suit_linear.specs.Tableaus.{TableauRow, Tableau, bound, entry}
 use Rattle.suit_linear.specs.Pivots.{is_better, kept, leaving}
 use Rattle.suit_linear.specs.Multiples.{AreMultiples, IsMultipleRow, AreMultipleRows, IsMultipleChoice}
-use Rattle.suit_linear.proofs.ClearedRows.{IsCleared}
+use Rattle.suit_linear.proofs.ClearingByGcd.{IsCleared}
 
 -- ---- products of four
 

@@ -11,7 +11,7 @@ use Rattle.suit_num.proofs.IntegerLaws.{int_lt-true, int_lt-false}
 use Rattle.suit_num.proofs.FractionLaws.{fraction_le_trans}
 use Rattle.suit_linear.specs.Tableaus.{TableauRow, Tableau, bound, entry}
 use Rattle.suit_linear.specs.Pivots.{kept, leaving, is_better}
-use Rattle.suit_linear.proofs.Elements.{contains_head, contains_tail, contains_cases}
+use Rattle.suit_lists.proofs.Elements.{Contains-cons_cases, Contains-first, Contains-later}
 
 -- ---- the best row so far
 
@@ -76,13 +76,13 @@ chosen_replaced : (column : ℕ) (best row : TableauRow) (rows : List TableauRow
     → pos 0 <ℤ entry best column → pos 0 <ℤ entry row column → NoMore column row best
     → IsChosen column (row ∷ rows) leaver → IsChosen column (best ∷ row ∷ rows) leaver
 chosen_replaced column best row rows leaver some_best some_row less h = record {
-  inside = contains_tail best (row ∷ rows) leaver h.inside;
+  inside = Contains-later best (row ∷ rows) leaver h.inside;
   positive = h.positive;
   least = λ other inside some_other.
-      elim (contains_cases best (row ∷ rows) other inside) [
+      elim (Contains-cons_cases best (row ∷ rows) other inside) [
         | inl is ↦ subst (NoMore column leaver) is
             (through column leaver row best h.positive some_row some_best
-            (h.least row (contains_head row rows) some_row) less)
+            (h.least row (Contains-first row rows) some_row) less)
         | inr later ↦ h.least other later some_other
       ];
 }
@@ -92,23 +92,23 @@ chosen_kept : (column : ℕ) (best row : TableauRow) (rows : List TableauRow) (l
     → IsChosen column (best ∷ rows) leaver → IsChosen column (best ∷ row ∷ rows) leaver
 chosen_kept column best row rows leaver some_best less h = record {
   inside =
-      elim (contains_cases best rows leaver h.inside) [
-        | inl is ↦ subst (Contains (best ∷ row ∷ rows)) is (contains_head best (row ∷ rows))
-        | inr later ↦ contains_tail best (row ∷ rows) leaver (contains_tail row rows leaver later)
+      elim (Contains-cons_cases best rows leaver h.inside) [
+        | inl is ↦ subst (Contains (best ∷ row ∷ rows)) is (Contains-first best (row ∷ rows))
+        | inr later ↦ Contains-later best (row ∷ rows) leaver (Contains-later row rows leaver later)
       ];
   positive = h.positive;
   least = λ other inside some_other.
-      elim (contains_cases best (row ∷ rows) other inside) [
-        | inl is ↦ h.least other (subst (Contains (best ∷ rows)) is (contains_head best rows)) some_other
+      elim (Contains-cons_cases best (row ∷ rows) other inside) [
+        | inl is ↦ h.least other (subst (Contains (best ∷ rows)) is (Contains-first best rows)) some_other
         | inr later ↦
-            elim (contains_cases row rows other later) [
+            elim (Contains-cons_cases row rows other later) [
               | inl is ↦
                   let some_row : pos 0 <ℤ entry row column =
                   subst (λ (r : TableauRow). pos 0 <ℤ entry r column) (sym is) some_other in
                   subst (NoMore column leaver) is
                   (through column leaver best row h.positive some_best some_row
-                  (h.least best (contains_head best rows) some_best) (less some_row))
-              | inr last ↦ h.least other (contains_tail best rows other last) some_other
+                  (h.least best (Contains-first best rows) some_best) (less some_row))
+              | inr last ↦ h.least other (Contains-later best rows other last) some_other
             ]
       ];
 }
@@ -116,10 +116,10 @@ chosen_kept column best row rows leaver some_best less h = record {
 chosen_alone : (column : ℕ) (best leaver : TableauRow) → pos 0 <ℤ entry best column → best ≡ leaver
     → IsChosen column (best ∷ []) leaver
 chosen_alone column best leaver some is = record {
-  inside = subst (Contains (best ∷ [])) is (contains_head best []);
+  inside = subst (Contains (best ∷ [])) is (Contains-first best []);
   positive = subst (λ (r : TableauRow). pos 0 <ℤ entry r column) is some;
   least = λ other inside some_other.
-      elim (contains_cases best [] other inside) [
+      elim (Contains-cons_cases best [] other inside) [
         | inl same ↦
             let both : leaver ≡ other = sym is ∙ same in
             subst (NoMore column leaver) both (same_no_more (bound leaver *ℤ entry leaver column) _ refl)
@@ -158,10 +158,10 @@ chosen_after column (row ∷ rows) best leaver some h =
 chosen_later : (column : ℕ) (row : TableauRow) (rows : List TableauRow) (leaver : TableauRow)
     → entry row column ≤ℤ pos 0 → IsChosen column rows leaver → IsChosen column (row ∷ rows) leaver
 chosen_later column row rows leaver none h = record {
-  inside = contains_tail row rows leaver h.inside;
+  inside = Contains-later row rows leaver h.inside;
   positive = h.positive;
   least = λ other inside some_other.
-      elim (contains_cases row rows other inside) [
+      elim (Contains-cons_cases row rows other inside) [
         | inl is ↦
             let some_row : pos 0 <ℤ entry row column =
             subst (λ (r : TableauRow). pos 0 <ℤ entry r column) (sym is) some_other in

@@ -16,10 +16,10 @@ use Rattle.suit_linear.specs.Optima.{IsPrimalOptimum, IsDualOptimum}
 use Rattle.std.specs.Prelude.{Result, Ok, Err, MatchResult, IfOk}
 use Rattle.suit_linear.proofs.OptimalPoints.{optimum_is_primal}
 use Rattle.suit_linear.proofs.OptimalPrices.{optimum_is_dual}
-use Rattle.suit_linear.proofs.CombinedRows.{test_append, both_true, first_true, second_true}
+use Rattle.suit_linear.proofs.CombinationByIndex.{test_append, both_true, first_true, second_true}
 use Rattle.suit_linear.proofs.SoundTableaus.{IsSound}
 use Rattle.suit_linear.proofs.SoundRows.{cases_option}
-use Rattle.suit_linear.proofs.PivotedTableaus.{pivoted_is_sound}
+use Rattle.suit_linear.proofs.PivotKeepsSound.{pivoted_is_sound}
 use Rattle.suit_linear.proofs.Rays.{no_ray}
 use Rattle.suit_linear.proofs.FirstTableaus.{first_is_sound}
 

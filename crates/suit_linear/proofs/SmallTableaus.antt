@@ -9,15 +9,16 @@ use Rattle.std.proofs.lemmas.List.Elements.{All-cons, All-head, All-tail, All-co
 use Rattle.std.proofs.Math.Nat.{mul-le-mul_right, mul_comm}
 use Rattle.suit_num.specs.Divisors.{gcd_of}
 use Rattle.suit_num.specs.Narrow.{IsNarrow}
+use Rattle.suit_linear.specs.declared.limits.TheConstants.{MOST_SMALL}
 use Rattle.suit_linear.specs.Points.{number_at}
 use Rattle.suit_linear.specs.Tableaus.{TableauRow, Tableau, bound, entry, reduced_cost}
 use Rattle.suit_linear.specs.Pivots.{kept, compared, compared_pair, ratio_products, combining, combining_at, clearing}
 use Rattle.suit_linear.specs.Pivots.{share, pivoting_row, changing, entering, leaving, pivoted, is_better, is_narrow}
 use Rattle.suit_linear.specs.Runs.{To, next}
 use Rattle.suit_linear.specs.Multiples.{IsSmall, IsSmallTableau}
-use Rattle.suit_linear.proofs.ClearedRows.{gcd_positive, share_whole, share_other}
-use Rattle.suit_linear.proofs.CombinedRows.{test_append, both_true, combines}
-use Rattle.suit_linear.proofs.KeptRows.{pair_narrow}
+use Rattle.suit_linear.proofs.ClearingByGcd.{gcd_positive, share_whole, share_other}
+use Rattle.suit_linear.proofs.CombinationByIndex.{test_append, both_true, combines}
+use Rattle.suit_linear.proofs.RatioTestByRow.{pair_narrow}
 use Rattle.suit_linear.proofs.RatioTest.{leaving_is_row}
 use Rattle.suit_linear.proofs.RunSteps.{next_to}
 
@@ -50,10 +51,10 @@ changed_size own x times y size other h k =
     low : (n : ℕ) → n ≤ n
     low n = omega arith
 
-small_product : (a b : ℤ) → IsSmall a → IsSmall b → unsigned_abs (a *ℤ b) ≤ 2 ^ 124
-small_product a b h k = rw (unsigned_abs-mul a b) (product_low (unsigned_abs a) (unsigned_abs b) (2 ^ 62) (2 ^ 62) h k)
+small_product : (a b : ℤ) → IsSmall a → IsSmall b → unsigned_abs (a *ℤ b) ≤ MOST_SMALL * MOST_SMALL
+small_product a b h k = rw (unsigned_abs-mul a b) (product_low (unsigned_abs a) (unsigned_abs b) MOST_SMALL MOST_SMALL h k)
 
-small_narrow : (n : ℕ) → n ≤ 2 ^ 124 → n < 2 ^ 127
+small_narrow : (n : ℕ) → n ≤ MOST_SMALL * MOST_SMALL → n < 2 ^ 127
 small_narrow n h = omega arith
 
 product_narrow : (a b : ℤ) → IsSmall a → IsSmall b → IsNarrow (a *ℤ b)
@@ -64,7 +65,7 @@ difference_fits a b c d h k l m =
     by_sizes (unsigned_abs (a *ℤ b -ℤ c *ℤ d)) (unsigned_abs (a *ℤ b)) (unsigned_abs (c *ℤ d))
     (size-difference (a *ℤ b) (c *ℤ d)) (small_product a b h k) (small_product c d l m)
   where
-    by_sizes : (n p q : ℕ) → n ≤ p + q → p ≤ 2 ^ 124 → q ≤ 2 ^ 124 → n < 2 ^ 127
+    by_sizes : (n p q : ℕ) → n ≤ p + q → p ≤ MOST_SMALL * MOST_SMALL → q ≤ MOST_SMALL * MOST_SMALL → n < 2 ^ 127
     by_sizes n p q e f g = omega arith
 
 pub small_zero : IsSmall (pos 0)

@@ -7,7 +7,7 @@ use Rattle.std.proofs.lemmas.Option.{slice_get-get_or}
 use Rattle.suit_linear.specs.declared.program.Program.{Program}
 use Rattle.suit_linear.specs.Tableaus.{TableauRow, Tableau}
 use Rattle.suit_linear.proofs.SoundTableaus.{IsSound}
-use Rattle.suit_linear.proofs.Elements.{contains_head, contains_tail}
+use Rattle.suit_lists.proofs.Elements.{Contains-first, Contains-later}
 
 row_at : (rows : List TableauRow) (row : TableauRow) (h : Contains rows row) → slice_get rows h.0 ≡ Some row
 row_at rows row (index, less, is) = slice_get-get_or rows index row less ∙ ap (λ (r : TableauRow). Some r) is
@@ -34,7 +34,7 @@ found_row (first ∷ rows) column row h =
           let found : Some first ≡ Some row =
           sym (cond-true (first.basic == column) (Some first) (find (λ r. r.basic == column) rows) here) ∙ h in
           let is : first ≡ row = cc in (
-            subst (Contains (first ∷ rows)) is (contains_head first rows),
+            subst (Contains (first ∷ rows)) is (Contains-first first rows),
             ap (λ (r : TableauRow). r.basic) (sym is)
                 ∙ eqb-true first.basic column here,
           )
@@ -42,7 +42,7 @@ found_row (first ∷ rows) column row h =
           let later = found_row rows column row
           (sym (cond-false (first.basic == column) (Some first) (find (λ r. r.basic == column) rows) elsewhere)
           ∙ h) in
-          (contains_tail first rows row later.0, later.1)
+          (Contains-later first rows row later.0, later.1)
     ]
 
 -- where a row is basic in the column, some row is found

@@ -1,6 +1,7 @@
 -- Numbers that are multiples of others: what a tableau may be kept as.
-use Rattle.std.specs.Prelude.{◌≡◌, ℕ, ◌≤◌, ◌^◌, ℤ, pos, ◌*ℤ◌, ◌<ℤ◌, unsigned_abs, List, [], ◌∷◌, All, Option, Some}
+use Rattle.std.specs.Prelude.{◌≡◌, ℕ, ◌≤◌, ℤ, pos, ◌*ℤ◌, ◌<ℤ◌, unsigned_abs, List, [], ◌∷◌, All, Option, Some}
 use Rattle.std.specs.Prelude.{None}
+use Rattle.suit_linear.specs.declared.limits.TheConstants.{MOST_SMALL}
 use Rattle.suit_linear.specs.Points.{number_at}
 use Rattle.suit_linear.specs.Tableaus.{TableauRow, Tableau}
 
@@ -33,7 +34,7 @@ IsMultipleChoice (Some row) None = ⊥
 
 -- a number that two factors of its kind, and the difference of two such products, leave within 127 bits
 abbrev pub IsSmall : ℤ → Type 0
-IsSmall number = unsigned_abs number ≤ 2 ^ 62
+IsSmall number = unsigned_abs number ≤ MOST_SMALL
 
 -- every number of a tableau is small
 pub record IsSmallTableau (tableau : Tableau) : Type 0 where

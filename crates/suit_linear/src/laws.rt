@@ -13,7 +13,7 @@ pub fn multiples_divide_back()
     ensures { MultiplesDivideBack }
 {}
 
-/// Where no number of a tableau is above 2^62 in size, its pivot makes none past 127 bits and a sign.
+/// Where all numbers of a tableau are small, its pivot makes none past 127 bits and a sign.
 pub fn small_pivots_are_made()
     ensures { SmallPivotsAreMade }
 {}

@@ -12,7 +12,6 @@ use Rattle.suit_linear.specs.declared.program.Program.{Program}
 use Rattle.suit_linear.specs.Points.{number_at, dot}
 use Rattle.suit_linear.specs.Tableaus.{TableauRow, entry, first_tableau}
 use Rattle.suit_linear.proofs.DotProducts.{dot_first, number_at-drop}
-use Rattle.suit_linear.proofs.Elements.{all_from_contains, contains_at}
 use Rattle.suit_linear.proofs.FirstTableaus.{length-first}
 use Rattle.suit_linear.proofs.Signs.{times_zero, zero_times}
 use Rattle.std.proofs.lemmas.List.Elements.{All-contains}
@@ -24,6 +23,8 @@ use Rattle.suit_linear_fast.specs.Lines.{IsColumn, IsShared, shared, exchange}
 use Rattle.suit_linear_fast.specs.States.{AreSolved, IsApart}
 use Rattle.suit_linear_fast.specs.Sparse.{IsSparse, HoldRow, AddsColumn, AddsRow}
 use Rattle.suit_linear_fast.proofs.ColumnClaims.{dot_exchange}
+use Rattle.suit_lists.proofs.Elements.{all_from_contains}
+use Rattle.suit_lists.proofs.Indices.{contains_at}
 
 -- ---- sizes
 

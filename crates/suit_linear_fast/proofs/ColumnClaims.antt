@@ -13,13 +13,13 @@ use Rattle.suit_linear.specs.Tableaus.{TableauRow, Tableau, entry}
 use Rattle.suit_linear.proofs.SoundTableaus.{IsSound}
 use Rattle.suit_linear.proofs.DotProducts.{dot-add, dot-scaled, dot_one, dot_zero, dot-agree}
 use Rattle.suit_linear.proofs.Signs.{times_zero}
-use Rattle.suit_linear.proofs.Elements.{contains_at}
 use Rattle.std.proofs.lemmas.Bool.{cond-true, cond-false, eq-eqb, ne_eqb}
 use Rattle.std.proofs.lemmas.Option.{slice_get_cases, slice_get_within}
 use Rattle.std.proofs.lemmas.List.Elements.{All-contains}
 use Rattle.suit_linear_fast.specs.declared.lines.Line.{Line}
 use Rattle.suit_linear_fast.specs.States.{AreLinesOf}
 use Rattle.suit_linear_fast.specs.Lines.{IsLineOf, IsColumn, unit, spread, shared, exchange}
+use Rattle.suit_lists.proofs.Indices.{contains_at}
 
 -- ---- sums of shares
 

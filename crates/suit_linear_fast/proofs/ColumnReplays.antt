@@ -13,8 +13,8 @@ use Rattle.std.proofs.Math.IntN.{zero-*ℤ}
 use Rattle.suit_num.proofs.IntegerLaws.{div_is, int_lt-true}
 use Rattle.suit_linear.specs.Points.{number_at}
 use Rattle.suit_linear_fast.specs.declared.cells.Cell.{Cell}
-use Rattle.suit_linear_fast.specs.declared.history.Leaver.{Leaver}
-use Rattle.suit_linear_fast.specs.declared.history.History.{History}
+use Rattle.suit_linear_fast.specs.declared.past_pivots.Leaver.{Leaver}
+use Rattle.suit_linear_fast.specs.declared.past_pivots.PastPivots.{PastPivots}
 use Rattle.suit_linear_fast.specs.declared.sparse.Sparse.{Sparse}
 use Rattle.suit_linear_fast.specs.Cells.{number_in}
 use Rattle.suit_linear_fast.specs.Replays.{wrapped, times_in, factor_in, share_of, AreTaken, AreMultiplied, changes_of}
@@ -23,28 +23,28 @@ use Rattle.suit_linear_fast.specs.Replays.{IsProgramColumn, IsBegun}
 
 -- ---- one pivot
 
-pivoted_here : (history : History) (pivot : ℕ) (leaver : Leaver) (before after : List ℤ)
-    → slice_get history.leavers.items pivot ≡ Some leaver → IsPivoted history pivot leaver before after
-    → IsPivotedAt history pivot before after
-pivoted_here history pivot leaver before after found h =
+pivoted_here : (past : PastPivots) (pivot : ℕ) (leaver : Leaver) (before after : List ℤ)
+    → slice_get past.leavers.items pivot ≡ Some leaver → IsPivoted past pivot leaver before after
+    → IsPivotedAt past pivot before after
+pivoted_here past pivot leaver before after found h =
     subst
-    (λ (o : Option Leaver). MatchOption o (after ≡ before) (λ leaver. IsPivoted history pivot leaver before after))
+    (λ (o : Option Leaver). MatchOption o (after ≡ before) (λ leaver. IsPivoted past pivot leaver before after))
     (sym found) h
 
-pub pivot_made : (history : History) (pivot : ℕ) (leaver : Leaver) (before middle after : List ℤ) (entry : ℤ)
-    → slice_get history.leavers.items pivot ≡ Some leaver
-    → AreMultiplied before (factor_in (multiples_of history pivot leaver)) middle
+pub pivot_made : (past : PastPivots) (pivot : ℕ) (leaver : Leaver) (before middle after : List ℤ) (entry : ℤ)
+    → slice_get past.leavers.items pivot ≡ Some leaver
+    → AreMultiplied before (factor_in (multiples_of past pivot leaver)) middle
     → FitsSigned w64 (number_at middle leaver.row)
     → entry ≡ share_of (number_at middle leaver.row) leaver.divisor
-    → AreTaken (set middle leaver.row entry) entry (times_in (changes_of history pivot leaver)) after
-    → IsPivotedAt history pivot before after
-pivot_made history pivot leaver before middle after entry found multiplied short e taken =
-    pivoted_here history pivot leaver before after found (record {
+    → AreTaken (set middle leaver.row entry) entry (times_in (changes_of past pivot leaver)) after
+    → IsPivotedAt past pivot before after
+pivot_made past pivot leaver before middle after entry found multiplied short e taken =
+    pivoted_here past pivot leaver before after found (record {
       middle = middle;
       multiplied = multiplied;
       short = λ within. short;
       cleared =
-          subst (λ (z : ℤ). AreTaken (set middle leaver.row z) z (times_in (changes_of history pivot leaver)) after) e
+          subst (λ (z : ℤ). AreTaken (set middle leaver.row z) z (times_in (changes_of past pivot leaver)) after) e
           taken;
     })
 
@@ -81,54 +81,54 @@ idle middle row entry times e none = record {
 }
 
 -- an entry that is 0 changes no row
-pub pivot_idle : (history : History) (pivot : ℕ) (leaver : Leaver) (before middle : List ℤ)
-    → slice_get history.leavers.items pivot ≡ Some leaver
-    → AreMultiplied before (factor_in (multiples_of history pivot leaver)) middle
-    → number_at middle leaver.row ≡ pos 0 → IsPivotedAt history pivot before middle
-pivot_idle history pivot leaver before middle found multiplied none =
-    pivoted_here history pivot leaver before middle found (record {
+pub pivot_idle : (past : PastPivots) (pivot : ℕ) (leaver : Leaver) (before middle : List ℤ)
+    → slice_get past.leavers.items pivot ≡ Some leaver
+    → AreMultiplied before (factor_in (multiples_of past pivot leaver)) middle
+    → number_at middle leaver.row ≡ pos 0 → IsPivotedAt past pivot before middle
+pivot_idle past pivot leaver before middle found multiplied none =
+    pivoted_here past pivot leaver before middle found (record {
       middle = middle;
       multiplied = multiplied;
       short = λ within. subst (FitsSigned w64) (sym none) (record { sfits = omega arith });
       cleared =
           idle middle leaver.row (share_of (number_at middle leaver.row) leaver.divisor)
-          (times_in (changes_of history pivot leaver)) (share_none (number_at middle leaver.row) leaver.divisor none)
+          (times_in (changes_of past pivot leaver)) (share_none (number_at middle leaver.row) leaver.divisor none)
           none;
     })
 
 -- ---- where a column begins
 
-pub begun_again : (sparse : Sparse) (history : History) (column count : ℕ) (leaver : Leaver)
-    (before entries after : List ℤ) → 0 < count → slice_get history.leavers.items (count - 1) ≡ Some leaver
+pub begun_again : (sparse : Sparse) (past : PastPivots) (column count : ℕ) (leaver : Leaver)
+    (before entries after : List ℤ) → 0 < count → slice_get past.leavers.items (count - 1) ≡ Some leaver
     → entries ≡ set before leaver.row leaver.own
-    → AreTaken entries leaver.own (times_in (changes_of history (count - 1) leaver)) after
-    → IsBegun sparse history column count count before after
-begun_again sparse history column count leaver before entries after some found e taken =
+    → AreTaken entries leaver.own (times_in (changes_of past (count - 1) leaver)) after
+    → IsBegun sparse past column count count before after
+begun_again sparse past column count leaver before entries after some found e taken =
     let is : count ≡ suc (count - 1) = omega arith in
-    subst (λ (n : ℕ). IsBegun sparse history column n count before after) (sym is)
+    subst (λ (n : ℕ). IsBegun sparse past column n count before after) (sym is)
     (subst
     (λ (o : Option Leaver). MatchOption o ((count ≡ 0) × IsProgramColumn sparse column before after)
-    (λ leaver. (count ≡ suc (count - 1)) × IsCleared history (count - 1) leaver leaver.own before after))
+    (λ leaver. (count ≡ suc (count - 1)) × IsCleared past (count - 1) leaver leaver.own before after))
     (sym found) (
       is,
-      subst (λ (xs : List ℤ). AreTaken xs leaver.own (times_in (changes_of history (count - 1) leaver)) after) e taken,
+      subst (λ (xs : List ℤ). AreTaken xs leaver.own (times_in (changes_of past (count - 1) leaver)) after) e taken,
     ))
 
-pub begun_first : (sparse : Sparse) (history : History) (column count : ℕ) (before after : List ℤ) → count ≡ 0
-    → IsProgramColumn sparse column before after → IsBegun sparse history column count 0 before after
-begun_first sparse history column count before after none h =
-    subst (λ (n : ℕ). IsBegun sparse history column n 0 before after) (sym none) (refl, h)
+pub begun_first : (sparse : Sparse) (past : PastPivots) (column count : ℕ) (before after : List ℤ) → count ≡ 0
+    → IsProgramColumn sparse column before after → IsBegun sparse past column count 0 before after
+begun_first sparse past column count before after none h =
+    subst (λ (n : ℕ). IsBegun sparse past column n 0 before after) (sym none) (refl, h)
 
-pub begun_nowhere : (sparse : Sparse) (history : History) (column count : ℕ) (before after : List ℤ) → 0 < count
-    → slice_get history.leavers.items (count - 1) ≡ None → IsProgramColumn sparse column before after
-    → IsBegun sparse history column count 0 before after
-begun_nowhere sparse history column count before after some found h =
+pub begun_nowhere : (sparse : Sparse) (past : PastPivots) (column count : ℕ) (before after : List ℤ) → 0 < count
+    → slice_get past.leavers.items (count - 1) ≡ None → IsProgramColumn sparse column before after
+    → IsBegun sparse past column count 0 before after
+begun_nowhere sparse past column count before after some found h =
     let none : ℕ = 0 in
     let is : count ≡ suc (count - 1) = omega arith in
-    subst (λ (n : ℕ). IsBegun sparse history column n 0 before after) (sym is)
+    subst (λ (n : ℕ). IsBegun sparse past column n 0 before after) (sym is)
     (subst
     (λ (o : Option Leaver). MatchOption o ((none ≡ 0) × IsProgramColumn sparse column before after)
-    (λ leaver. (none ≡ suc (count - 1)) × IsCleared history (count - 1) leaver leaver.own before after))
+    (λ leaver. (none ≡ suc (count - 1)) × IsCleared past (count - 1) leaver leaver.own before after))
     (sym found) (refl, h))
 
 pub program_column : (sparse : Sparse) (column : ℕ) (cells : Vec Cell Global) (before after : List ℤ)
@@ -150,16 +150,16 @@ no_column sparse column before found =
 
 -- ---- pivot after pivot
 
-pub replay_begins : (history : History) (first count : ℕ) (entries : List ℤ) → count ≡ 0
-    → Replays history first count entries entries
+pub replay_begins : (past : PastPivots) (first count : ℕ) (entries : List ℤ) → count ≡ 0
+    → Replays past first count entries entries
 unfolding Replays
-replay_begins history first count entries none =
-    subst (λ (n : ℕ). Replays history first n entries entries) (sym none) refl
+replay_begins past first count entries none =
+    subst (λ (n : ℕ). Replays past first n entries entries) (sym none) refl
 
-pub replay_more : (history : History) (first pivot count next : ℕ) (before middle after : List ℤ)
-    → first + count ≡ pivot → next ≡ suc count → Replays history first count before middle
-    → IsPivotedAt history pivot middle after → Replays history first next before after
+pub replay_more : (past : PastPivots) (first pivot count next : ℕ) (before middle after : List ℤ)
+    → first + count ≡ pivot → next ≡ suc count → Replays past first count before middle
+    → IsPivotedAt past pivot middle after → Replays past first next before after
 unfolding Replays
-replay_more history first pivot count next before middle after e k h step =
-    subst (λ (n : ℕ). Replays history first n before after) (sym k)
-    (middle, h, subst (λ (n : ℕ). IsPivotedAt history n middle after) (sym e) step)
+replay_more past first pivot count next before middle after e k h step =
+    subst (λ (n : ℕ). Replays past first n before after) (sym k)
+    (middle, h, subst (λ (n : ℕ). IsPivotedAt past n middle after) (sym e) step)

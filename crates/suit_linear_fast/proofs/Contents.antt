@@ -22,7 +22,7 @@ use Rattle.suit_num.proofs.DivisorLaws.{IsGcd-gcd_of}
 use Rattle.suit_linear.specs.Points.{number_at}
 use Rattle.suit_linear.specs.Pivots.{content}
 use Rattle.suit_linear_fast.specs.Replays.{short_content, Knows, IsRow, IsDividedRow}
-use Rattle.suit_linear_fast.specs.declared.history.History.{History}
+use Rattle.suit_linear_fast.specs.declared.past_pivots.PastPivots.{PastPivots}
 use Rattle.suit_linear.proofs.Contents.{content_divides, content_greatest}
 
 -- ---- two numbers
@@ -168,10 +168,10 @@ not_negative numbers =
     ]
 
 -- numbers that have no common divisor but 1, or are all 0, stay
-pub none_divided : (history : History) (row : ℕ) (before : List ℤ) (divisor : ℤ)
-    → (Knows history row → row < length before → IsRow history row before) → divisor ≡ short_content before
-    → divisor ≤ℤ pos 1 → IsDividedRow history row divisor before
-none_divided history row before divisor told e low = record {
+pub none_divided : (past : PastPivots) (row : ℕ) (before : List ℤ) (divisor : ℤ)
+    → (Knows past row → row < length before → IsRow past row before) → divisor ≡ short_content before
+    → divisor ≤ℤ pos 1 → IsDividedRow past row divisor before
+none_divided past row before divisor told e low = record {
   guess = before;
   told = told;
   divisor_is = e;

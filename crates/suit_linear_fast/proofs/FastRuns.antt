@@ -11,6 +11,7 @@ use Rattle.std.proofs.lemmas.List.{get_or_past, length-append, append_assoc, app
 use Rattle.std.proofs.lemmas.List.{take_all}
 use Rattle.std.proofs.lemmas.List.Elements.{All-nil, All-cons, All-append}
 use Rattle.std.proofs.lemmas.Option.{get_or_from_slice_get}
+use Rattle.suit_linear.specs.declared.limits.TheConstants.{MOST_SMALL}
 use Rattle.suit_linear.specs.declared.program.Program.{Program}
 use Rattle.suit_linear.specs.declared.program.ProgramRow.{ProgramRow}
 use Rattle.suit_linear.specs.declared.sparse.Entry.{Entry}
@@ -34,7 +35,8 @@ use Rattle.suit_linear_fast.proofs.PrimitiveRows.{first_primitive}
 use Rattle.suit_linear_fast.proofs.Advancing.{enters}
 use Rattle.std.specs.Vec.{with_items}
 use Rattle.std.proofs.lemmas.List.{with_items_is}
-use Rattle.suit_linear_fast.proofs.SparsePrograms.{split_row, first_at, wide, pushed_each}
+use Rattle.suit_linear_fast.proofs.SparsePrograms.{split_row, first_at, wide}
+use Rattle.suit_lists.proofs.Indices.{pushed_each}
 
 -- ---- the first lines
 
@@ -135,7 +137,7 @@ first_state program lines objective well first is small = record {
 pub record IsSizeBelow (entries : List Entry) (count size : ℕ) : Type 0 where
   pub below : (column : ℕ) → unsigned_abs (sum_in (take count entries) column) ≤ size
   pub some : 1 ≤ size
-  pub small : size ≤ 2 ^ 62
+  pub small : size ≤ MOST_SMALL
 
 pub no_size : (entries : List Entry) → IsSizeBelow entries 0 1
 unfolding sum_in
@@ -149,7 +151,7 @@ part_size entry column = by_test (column == entry.column)
     by_test false = omega (arith, ints)
 
 pub more_size : (entries : List Entry) (count size : ℕ) (other : Entry) (sum : ℕ) → count < length entries
-    → IsSizeBelow entries count size → sum ≡ size + unsigned_abs (get_or entries count other).number → sum ≤ 2 ^ 62
+    → IsSizeBelow entries count size → sum ≡ size + unsigned_abs (get_or entries count other).number → sum ≤ MOST_SMALL
     → IsSizeBelow entries (count + 1) sum
 more_size entries count size other sum less h e small = record {
   below = λ column. rw (sum_in_more entries count other column less)
@@ -172,7 +174,7 @@ all_size entries count size past h column =
 pub first_line_made : (columns index : ℕ) (row : ProgramRow) (line : Line) (size : ℕ) (bound : ℤ)
     → line.basic ≡ columns + index → line.own ≡ pos 1 → line.bound ≡ bound → line.size ≡ max size (unsigned_abs bound)
     → bound ≡ row.bound → IsSmall bound → ((column : ℕ) → unsigned_abs (number_at row.entries column) ≤ size)
-    → 1 ≤ size → size ≤ 2 ^ 62 → IsFirstLine columns index row line
+    → 1 ≤ size → size ≤ MOST_SMALL → IsFirstLine columns index row line
 first_line_made columns index row line size bound basic own at sizes is small entries some low = record {
   basic = basic;
   own = own;
@@ -190,7 +192,7 @@ first_line_made columns index row line size bound basic own at sizes is small en
     wider : (a b c d : ℕ) → a ≤ b → d ≡ max b c → a ≤ d
     wider a b c d l k = omega arith
 
-    both : (a b d : ℕ) → a ≤ 2 ^ 62 → b ≤ 2 ^ 62 → d ≡ max a b → d ≤ 2 ^ 62
+    both : (a b d : ℕ) → a ≤ MOST_SMALL → b ≤ MOST_SMALL → d ≡ max a b → d ≤ MOST_SMALL
     both a b d h k e = omega arith
 
 pub record AreFirstBelow (program : Program) (count : ℕ) (lines : List Line) : Type 0 where

@@ -3,7 +3,7 @@ pub mod CellSums
 pub mod ClaimSums
 pub mod ColumnClaims
 pub mod ColumnReplays
-pub mod LeavingLines
+pub mod RatioTestOnLines
 pub mod LineSteps
 pub mod ObjectiveSteps
 pub mod PrimitiveRows

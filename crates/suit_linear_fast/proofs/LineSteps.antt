@@ -6,7 +6,7 @@ use Rattle.suit_linear.specs.Points.{number_at}
 use Rattle.suit_linear.specs.Tableaus.{TableauRow}
 use Rattle.suit_linear.specs.Pivots.{combined}
 use Rattle.suit_linear.specs.Multiples.{AreMultiples}
-use Rattle.suit_linear.proofs.ClearedRows.{IsCleared}
+use Rattle.suit_linear.proofs.ClearingByGcd.{IsCleared}
 use Rattle.suit_linear.proofs.Contents.{length-combined, number_at-combined}
 use Rattle.suit_linear.proofs.Multiples.{multiples_cleared}
 use Rattle.suit_linear.proofs.SmallTableaus.{changed_size}

@@ -20,10 +20,11 @@ use Rattle.suit_linear.proofs.SoundTableaus.{IsSound}
 use Rattle.suit_linear_fast.specs.States.{IsPrimitive}
 use Rattle.suit_linear.proofs.Contents.{content_divides}
 use Rattle.suit_linear.proofs.PrimitiveMultiples.{content_primitive}
-use Rattle.suit_linear.proofs.PivotedTableaus.{row_content, objective_content, pivoted_leaver, pivoted_kept}
-use Rattle.suit_linear.proofs.PivotedTableaus.{pivoted_cleared}
-use Rattle.suit_linear.proofs.Elements.{all_from_contains, contains_map}
+use Rattle.suit_linear.proofs.PivotKeepsSound.{row_content, objective_content, pivoted_leaver, pivoted_kept}
+use Rattle.suit_linear.proofs.PivotKeepsSound.{pivoted_cleared}
 use Rattle.suit_linear.proofs.FirstTableaus.{first_row_of, unit_here}
+use Rattle.suit_lists.proofs.Elements.{all_from_contains}
+use Rattle.suit_lists.proofs.Maps.{Contains-map_from}
 
 -- ---- a number that is 1
 
@@ -67,7 +68,7 @@ module _ (program : Program) (tableau : Tableau) (column : ℕ) (leaver : Tablea
     rows =
         all_from_contains (λ (r : TableauRow). content r.numbers ≡ 1) (map (pivoted_row column leaver) tableau.rows)
         (λ row inside.
-        let from = contains_map (pivoted_row column leaver) tableau.rows row inside in
+        let from = Contains-map_from (pivoted_row column leaver) tableau.rows row inside in
         subst (λ (r : TableauRow). content r.numbers ≡ 1) from.2 (row_after from.0 from.1));
     objective = content_primitive
         (combined (share (entry leaver column) (reduced_cost tableau column)) tableau.objective

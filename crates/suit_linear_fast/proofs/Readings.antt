@@ -12,6 +12,7 @@ use Rattle.std.proofs.Math.IntN.{*ℤ_comm, zero-*ℤ}
 use Rattle.suit_num.specs.declared.fraction.Frac.{Frac}
 use Rattle.suit_num.specs.Narrow.{IsNarrow}
 use Rattle.suit_num.proofs.IntegerLaws.{mul_assoc, mul_left_comm, same_from_mul, mul-one}
+use Rattle.suit_linear.specs.declared.limits.TheConstants.{MOST_SMALL}
 use Rattle.suit_linear.specs.declared.program.Program.{Program}
 use Rattle.suit_linear.specs.declared.ends.Optimum.{Optimum}
 use Rattle.suit_linear.specs.Points.{number_at}
@@ -20,22 +21,21 @@ use Rattle.suit_linear.specs.Tableaus.{TableauRow, Tableau, bound, entry}
 use Rattle.suit_linear.specs.Pivots.{content, primitive}
 use Rattle.suit_linear.specs.Ends.{IsBasicValue, IsOptimumOf}
 use Rattle.suit_linear.proofs.Contents.{content_positive}
-use Rattle.suit_linear.proofs.Elements.{contains_at}
 use Rattle.suit_linear.proofs.PrimitiveMultiples.{primitive_is_row}
 use Rattle.suit_linear.proofs.SoundRows.{row_found, found_row, cases_option}
 use Rattle.suit_linear_fast.specs.declared.lines.Line.{Line}
 use Rattle.suit_linear_fast.specs.Lines.{IsLineOf, IsLineValue}
 use Rattle.suit_linear_fast.specs.States.{IsStateOf}
 use Rattle.suit_linear_fast.proofs.ColumnClaims.{row_of_line}
-use Rattle.suit_linear_fast.proofs.SparsePrograms.{pushed_each}
 use Rattle.suit_linear_fast.proofs.States.{line_of_row}
+use Rattle.suit_lists.proofs.Indices.{contains_at, pushed_each}
 
 -- ---- the objective row
 
 pub narrow_small : (numbers : List ℤ) → All IsSmall numbers → All IsNarrow numbers
 narrow_small numbers h = All-weaker IsSmall IsNarrow (λ z small. low (unsigned_abs z) small) numbers h
   where
-    low : (n : ℕ) → n ≤ 2 ^ 62 → n < 2 ^ 127
+    low : (n : ℕ) → n ≤ MOST_SMALL → n < 2 ^ 127
     low n h = omega arith
 
 pub content_some : (numbers : List ℤ) → 0 < length numbers → pos 0 <ℤ number_at numbers 0 → 0 < content numbers

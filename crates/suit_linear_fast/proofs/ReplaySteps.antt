@@ -10,7 +10,7 @@ use Rattle.suit_num.proofs.IntegerLaws.{mul-add_left, mul_assoc, mul_left_comm, 
 use Rattle.std.proofs.Math.IntN.{*ℤ_comm}
 use Rattle.suit_linear.specs.Points.{number_at}
 use Rattle.suit_linear_fast.specs.declared.cells.Cell.{Cell}
-use Rattle.suit_linear_fast.specs.declared.history.Change.{Change}
+use Rattle.suit_linear_fast.specs.declared.past_pivots.Change.{Change}
 use Rattle.suit_linear_fast.specs.Cells.{number_in}
 use Rattle.suit_linear_fast.specs.Replays.{wrapped, Agree, times_of, times_in, factor_of, factor_in, AreTaken, AreMultiplied}
 use Rattle.suit_linear_fast.proofs.CellSums.{number_in_more}

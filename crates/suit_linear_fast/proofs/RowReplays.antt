@@ -8,9 +8,9 @@ use Rattle.std.proofs.lemmas.Int.{ints, int_wrap-add_same, int_wrap-sub_right, i
 use Rattle.suit_num.proofs.IntegerLaws.{mul_assoc, mul-one, mul-sub_left, mul-neg_left}
 use Rattle.std.proofs.Math.IntN.{*ℤ_comm}
 use Rattle.suit_linear.specs.Points.{number_at}
-use Rattle.suit_linear_fast.specs.declared.history.Change.{Change}
-use Rattle.suit_linear_fast.specs.declared.history.Leaver.{Leaver}
-use Rattle.suit_linear_fast.specs.declared.history.History.{History}
+use Rattle.suit_linear_fast.specs.declared.past_pivots.Change.{Change}
+use Rattle.suit_linear_fast.specs.declared.past_pivots.Leaver.{Leaver}
+use Rattle.suit_linear_fast.specs.declared.past_pivots.PastPivots.{PastPivots}
 use Rattle.suit_linear_fast.specs.Cells.{number_in}
 use Rattle.suit_linear_fast.specs.Replays.{wrapped, Agree, AreTaken, weights_of, taken_by, taken_at, row_first, row_changed}
 use Rattle.suit_linear_fast.specs.Replays.{row_after, row_now, IsRow}
@@ -47,19 +47,19 @@ taken_wrapped before times whole others after e h = record {
 
 -- ---- the row that left
 
-pub taken_here : (history : History) (pivot : ℕ) (leaver : Leaver) (times : ℤ) (before after : List ℤ)
-    → slice_get history.leavers.items pivot ≡ Some leaver
-    → AreTaken before times (number_in (weights_of history pivot leaver)) after
-    → AreTaken before times (taken_at history pivot) after
-taken_here history pivot leaver times before after e h =
-    taken_same before times (number_in (weights_of history pivot leaver)) (taken_at history pivot) after
-    (λ index. ap (λ (found : Option Leaver). taken_by history pivot found index) e) h
+pub taken_here : (past : PastPivots) (pivot : ℕ) (leaver : Leaver) (times : ℤ) (before after : List ℤ)
+    → slice_get past.leavers.items pivot ≡ Some leaver
+    → AreTaken before times (number_in (weights_of past pivot leaver)) after
+    → AreTaken before times (taken_at past pivot) after
+taken_here past pivot leaver times before after e h =
+    taken_same before times (number_in (weights_of past pivot leaver)) (taken_at past pivot) after
+    (λ index. ap (λ (found : Option Leaver). taken_by past pivot found index) e) h
 
-pub taken_nowhere : (history : History) (pivot : ℕ) (times : ℤ) (before : List ℤ)
-    → slice_get history.leavers.items pivot ≡ None → AreTaken before times (taken_at history pivot) before
-taken_nowhere history pivot times before e =
-    none_taken before times (taken_at history pivot)
-    (λ index. ap (λ (found : Option Leaver). taken_by history pivot found index) e)
+pub taken_nowhere : (past : PastPivots) (pivot : ℕ) (times : ℤ) (before : List ℤ)
+    → slice_get past.leavers.items pivot ≡ None → AreTaken before times (taken_at past pivot) before
+taken_nowhere past pivot times before e =
+    none_taken before times (taken_at past pivot)
+    (λ index. ap (λ (found : Option Leaver). taken_by past pivot found index) e)
 
 -- ---- the row before it changes
 
@@ -69,42 +69,42 @@ itself a f = let one = mul-one (neg_ℤ f) in omega (arith, ints)
 plus_nothing : (a : ℤ) → a ≡ a +ℤ pos 0
 plus_nothing a = omega (arith, ints)
 
-pub itself_added : (history : History) (row left : ℕ) (factor value : ℤ) (weights : List ℤ) → left ≡ 0
+pub itself_added : (past : PastPivots) (row left : ℕ) (factor value : ℤ) (weights : List ℤ) → left ≡ 0
     → row < length weights → value ≡ wrapped (number_at weights row +ℤ factor)
-    → AreTaken weights (neg_ℤ factor) (row_first history row left) (set weights row value)
-itself_added history row left factor value weights none within e =
-    taken_same weights (neg_ℤ factor) _ (row_first history row left) _
-    (λ index. ap (λ (n : ℕ). row_first history row n index) none
+    → AreTaken weights (neg_ℤ factor) (row_first past row left) (set weights row value)
+itself_added past row left factor value weights none within e =
+    taken_same weights (neg_ℤ factor) _ (row_first past row left) _
+    (λ index. ap (λ (n : ℕ). row_first past row n index) none
     ∙ plus_nothing (if index == row then pos 1 else pos 0))
     (taken_more weights (neg_ℤ factor) (λ index. pos 0) weights row (pos 1) value within
     (none_taken weights (neg_ℤ factor) (λ index. pos 0) (λ index. refl))
     (e ∙ ap wrapped (itself (number_at weights row) factor)))
 
-pub left_added : (history : History) (row left : ℕ) (factor times : ℤ) (weights after : List ℤ) → 0 < left
-    → times ≡ wrapped (neg_ℤ factor) → AreTaken weights times (taken_at history (left - 1)) after
-    → AreTaken weights (neg_ℤ factor) (row_first history row left) after
-left_added history row left factor times weights after some e h =
+pub left_added : (past : PastPivots) (row left : ℕ) (factor times : ℤ) (weights after : List ℤ) → 0 < left
+    → times ≡ wrapped (neg_ℤ factor) → AreTaken weights times (taken_at past (left - 1)) after
+    → AreTaken weights (neg_ℤ factor) (row_first past row left) after
+left_added past row left factor times weights after some e h =
     let is : left ≡ suc (left - 1) = omega arith in
-    taken_same weights (neg_ℤ factor) (taken_at history (left - 1)) (row_first history row left) after
-    (λ index. ap (λ (n : ℕ). row_first history row n index) is)
-    (taken_wrapped weights times (neg_ℤ factor) (taken_at history (left - 1)) after e h)
+    taken_same weights (neg_ℤ factor) (taken_at past (left - 1)) (row_first past row left) after
+    (λ index. ap (λ (n : ℕ). row_first past row n index) is)
+    (taken_wrapped weights times (neg_ℤ factor) (taken_at past (left - 1)) after e h)
 
 -- ---- change by change
 
 -- with the rest of the row by a factor, weights are the row
-pub record IsRowLeft (history : History) (row most count : ℕ) (factor : ℤ) (weights : List ℤ) : Type 0 where
+pub record IsRowLeft (past : PastPivots) (row most count : ℕ) (factor : ℤ) (weights : List ℤ) : Type 0 where
   pub numbers : (index : ℕ) → index < length weights
-      → Agree (number_at weights index +ℤ factor *ℤ row_after most history row count index)
-      (row_now history row index)
+      → Agree (number_at weights index +ℤ factor *ℤ row_after most past row count index)
+      (row_now past row index)
 
-pub row_begins : (history : History) (row last : ℕ) (weights : List ℤ)
-    → last ≡ slice_index_or history.last.items row 0 → ((index : ℕ) → number_at weights index ≡ pos 0)
-    → IsRowLeft history row (length history.changes.items) last (pos 1) weights
-row_begins history row last weights e none = record {
+pub row_begins : (past : PastPivots) (row last : ℕ) (weights : List ℤ)
+    → last ≡ slice_index_or past.last.items row 0 → ((index : ℕ) → number_at weights index ≡ pos 0)
+    → IsRowLeft past row (length past.changes.items) last (pos 1) weights
+row_begins past row last weights e none = record {
   numbers = λ index less.
       ap wrapped
-      (once (number_at weights index) (row_after (length history.changes.items) history row last index) (none index)
-      ∙ ap (λ (n : ℕ). row_after (length history.changes.items) history row n index) e);
+      (once (number_at weights index) (row_after (length past.changes.items) past row last index) (none index)
+      ∙ ap (λ (n : ℕ). row_after (length past.changes.items) past row n index) e);
 }
   where
     once : (a b : ℤ) → a ≡ pos 0 → a +ℤ pos 1 *ℤ b ≡ b
@@ -126,73 +126,73 @@ step w n f t o r l m g h e k =
         let split = mul-sub_left f (o *ℤ r) (t *ℤ l) in
         omega (arith, ints)
 
-after_is : (history : History) (row most last : ℕ) (found : Option Change) (index : ℕ)
-    → slice_get history.changes.items last ≡ found
-    → row_after (suc most) history row (suc last) index
-    ≡ row_changed history found (row_after most history row) index
+after_is : (past : PastPivots) (row most last : ℕ) (found : Option Change) (index : ℕ)
+    → slice_get past.changes.items last ≡ found
+    → row_after (suc most) past row (suc last) index
+    ≡ row_changed past found (row_after most past row) index
 unfolding row_after
-after_is history row most last found index e =
-    ap (λ (o : Option Change). row_changed history o (row_after most history row) index) e
+after_is past row most last found index e =
+    ap (λ (o : Option Change). row_changed past o (row_after most past row) index) e
 
-pub row_more : (history : History) (row most count : ℕ) (change : Change) (factor times next_factor : ℤ)
-    (weights next : List ℤ) → 0 < count → slice_get history.changes.items (count - 1) ≡ Some change
+pub row_more : (past : PastPivots) (row most count : ℕ) (change : Change) (factor times next_factor : ℤ)
+    (weights next : List ℤ) → 0 < count → slice_get past.changes.items (count - 1) ≡ Some change
     → times ≡ wrapped (factor *ℤ change.times) → next_factor ≡ wrapped (factor *ℤ pos change.own)
-    → AreTaken weights times (taken_at history change.pivot) next
-    → IsRowLeft history row (suc most) count factor weights → IsRowLeft history row most change.before next_factor next
-row_more history row most count change factor times next_factor weights next some found e k taken h = record {
+    → AreTaken weights times (taken_at past change.pivot) next
+    → IsRowLeft past row (suc most) count factor weights → IsRowLeft past row most change.before next_factor next
+row_more past row most count change factor times next_factor weights next some found e k taken h = record {
   numbers = λ index less.
       let same = taken.count in
       let within : index < length weights = omega arith in
       let is : count ≡ suc (count - 1) = omega arith in
       step (number_at weights index) (number_at next index) factor change.times (pos change.own)
-      (row_after most history row change.before index) (taken_at history change.pivot index) times next_factor
+      (row_after most past row change.before index) (taken_at past change.pivot index) times next_factor
       (taken.numbers index within) e k
       ∙ ap (λ (z : ℤ). wrapped (number_at weights index +ℤ factor *ℤ z))
-      (sym (ap (λ (n : ℕ). row_after (suc most) history row n index) is
-      ∙ after_is history row most (count - 1) (Some change) index found))
+      (sym (ap (λ (n : ℕ). row_after (suc most) past row n index) is
+      ∙ after_is past row most (count - 1) (Some change) index found))
       ∙ h.numbers index within;
 }
 
--- a change that the history does not have
-pub row_stops : (history : History) (row most count : ℕ) (factor : ℤ) (weights : List ℤ) → 0 < count
-    → slice_get history.changes.items (count - 1) ≡ None → IsRowLeft history row (suc most) count factor weights
-    → IsRow history row weights
-row_stops history row most count factor weights some found h = record {
+-- a change that is not kept
+pub row_stops : (past : PastPivots) (row most count : ℕ) (factor : ℤ) (weights : List ℤ) → 0 < count
+    → slice_get past.changes.items (count - 1) ≡ None → IsRowLeft past row (suc most) count factor weights
+    → IsRow past row weights
+row_stops past row most count factor weights some found h = record {
   numbers = λ index less.
       let is : count ≡ suc (count - 1) = omega arith in
       ap wrapped
       (nothing (number_at weights index) factor
       ∙ ap (λ (z : ℤ). number_at weights index +ℤ factor *ℤ z)
-      (sym (ap (λ (n : ℕ). row_after (suc most) history row n index) is
-      ∙ after_is history row most (count - 1) None index found)))
+      (sym (ap (λ (n : ℕ). row_after (suc most) past row n index) is
+      ∙ after_is past row most (count - 1) None index found)))
       ∙ h.numbers index less;
 }
   where
     nothing : (a b : ℤ) → a ≡ a +ℤ b *ℤ pos 0
     nothing a b = omega (arith, ints)
 
-first_is : (history : History) (row most count index : ℕ) → (most ≡ 0) ⊎ (count ≡ 0)
-    → row_after most history row count index ≡ row_first history row (slice_index_or history.left.items row 0) index
+first_is : (past : PastPivots) (row most count index : ℕ) → (most ≡ 0) ⊎ (count ≡ 0)
+    → row_after most past row count index ≡ row_first past row (slice_index_or past.left.items row 0) index
 unfolding row_after
-first_is history row zero count index h = refl
-first_is history row (suc most) zero index h = refl
-first_is history row (suc most) (suc count) index (inl e) = absurd (omega arith)
-first_is history row (suc most) (suc count) index (inr e) = absurd (omega arith)
+first_is past row zero count index h = refl
+first_is past row (suc most) zero index h = refl
+first_is past row (suc most) (suc count) index (inl e) = absurd (omega arith)
+first_is past row (suc most) (suc count) index (inr e) = absurd (omega arith)
 
-pub row_ends : (history : History) (row most count : ℕ) (factor : ℤ) (weights after : List ℤ)
-    → (most ≡ 0) ⊎ (count ≡ 0) → IsRowLeft history row most count factor weights
-    → AreTaken weights (neg_ℤ factor) (row_first history row (slice_index_or history.left.items row 0)) after
-    → IsRow history row after
-row_ends history row most count factor weights after end h taken = record {
+pub row_ends : (past : PastPivots) (row most count : ℕ) (factor : ℤ) (weights after : List ℤ)
+    → (most ≡ 0) ⊎ (count ≡ 0) → IsRowLeft past row most count factor weights
+    → AreTaken weights (neg_ℤ factor) (row_first past row (slice_index_or past.left.items row 0)) after
+    → IsRow past row after
+row_ends past row most count factor weights after end h taken = record {
   numbers = λ index less.
       let same = taken.count in
       let within : index < length weights = omega arith in
       taken.numbers index within
       ∙ ap wrapped
       (turned (number_at weights index) factor
-      (row_first history row (slice_index_or history.left.items row 0) index)
+      (row_first past row (slice_index_or past.left.items row 0) index)
       ∙ ap (λ (z : ℤ). number_at weights index +ℤ factor *ℤ z)
-      (sym (first_is history row most count index end)))
+      (sym (first_is past row most count index end)))
       ∙ h.numbers index within;
 }
   where

@@ -22,6 +22,7 @@ use Rattle.suit_linear_fast.specs.Cells.{number_of, number_in}
 use Rattle.suit_linear_fast.specs.Lines.{unit}
 use Rattle.suit_linear_fast.specs.Sparse.{IsSparse, HoldRow, HoldColumn, HoldProgramRow, HoldProgramColumn, AreRows}
 use Rattle.suit_linear_fast.specs.Sparse.{AreColumns}
+use Rattle.suit_lists.proofs.Indices.{pushed_each}
 
 -- ---- one more cell
 
@@ -84,17 +85,6 @@ number_at_more (x ∷ xs) (suc count) (suc index) less =
           | inr differs ↦ ne_eqb a b differs
               ∙ sym (ne_eqb (suc a) (suc b) (λ (e : suc a ≡ suc b). differs (omega arith)))
         ]
-
--- ---- lists that grow
-
-pub pushed_each : {X : Type 0} (P : ℕ → X → Type 0) (xs : List X) (y : X)
-    → ((index : ℕ) (x : X) → slice_get xs index ≡ Some x → P index x) → P (length xs) y
-    → (index : ℕ) (x : X) → slice_get (xs ++ y ∷ []) index ≡ Some x → P index x
-pushed_each P [] y h here zero x at = let is : y ≡ x = cc in subst (P 0) is here
-pushed_each P [] y h here (suc index) x at = absurd (cc)
-pushed_each P (first ∷ xs) y h here zero x at = h zero x at
-pushed_each P (first ∷ xs) y h here (suc index) x at =
-    pushed_each (λ n z. P (suc n) z) xs y (λ n z found. h (suc n) z found) here index x at
 
 -- ---- the first rows
 

@@ -12,17 +12,17 @@ use Rattle.std.proofs.lemmas.List.Elements.{All-contains}
 use Rattle.std.proofs.lemmas.Option.{slice_get-get_or, slice_get_within, slice_get_cases}
 use Rattle.suit_num.proofs.IntegerLaws.{mul_assoc, mul_positive}
 use Rattle.std.proofs.Math.IntN.{*ℤ_comm}
+use Rattle.suit_linear.specs.declared.limits.TheConstants.{MOST_SMALL}
 use Rattle.suit_linear.specs.declared.program.Program.{Program}
 use Rattle.suit_linear.specs.Points.{number_at}
 use Rattle.suit_linear.specs.Tableaus.{TableauRow, Tableau, entry, reduced_cost}
 use Rattle.suit_linear.specs.Pivots.{content, entering, leaving, pivoted, pivoted_row}
 use Rattle.suit_linear.specs.Multiples.{AreMultiples, IsSmall, IsSmallTableau}
-use Rattle.suit_linear.proofs.Elements.{all_from_contains, contains_at, mapped_at}
 use Rattle.suit_linear.proofs.EnteringColumns.{number_at-drop_two}
 use Rattle.suit_linear.proofs.Multiples.{negative_same}
 use Rattle.suit_linear.proofs.PrimitiveMultiples.{small_row}
 use Rattle.suit_linear.proofs.RatioTest.{leaving_is_row}
-use Rattle.suit_linear.proofs.PivotedTableaus.{moved, pivot_case, pivoted_leaver, objective_cleared, pivoted_is_sound}
+use Rattle.suit_linear.proofs.PivotKeepsSound.{moved, pivot_case, pivoted_leaver, objective_cleared, pivoted_is_sound}
 use Rattle.suit_linear_fast.specs.declared.lines.Line.{Line}
 use Rattle.suit_linear_fast.specs.Lines.{IsLineOf, IsColumn, IsChangedLine}
 use Rattle.suit_linear_fast.specs.States.{AreLinesOf, IsStateOf, AreSolved, IsApart, IsTop, AreChanged}
@@ -31,6 +31,8 @@ use Rattle.suit_linear_fast.proofs.ColumnClaims.{entry_is}
 use Rattle.suit_linear_fast.proofs.LineSteps.{line_changed, both_cleared, same_multiples}
 use Rattle.suit_linear_fast.proofs.PrimitiveRows.{pivoted_primitive}
 use Rattle.suit_linear_fast.proofs.RowClaims.{IsRowOf, row_is_multiple}
+use Rattle.suit_lists.proofs.Elements.{all_from_contains}
+use Rattle.suit_lists.proofs.Indices.{contains_at, mapped_at}
 
 -- ---- small numbers
 
@@ -72,7 +74,7 @@ module _ (program : Program) (lines : List Line) (objective : List ℤ) (tableau
       let line_is : IsLineOf line.0 row = is.told.each inside.0 line.0 row line.1 at in
       all_small row.numbers
       (λ index. through (unsigned_abs (number_at row.numbers index)) (unsigned_abs (number_at line_is.multiple index))
-      line.0.size (2 ^ 62)
+      line.0.size MOST_SMALL
       (small_row line_is.multiple row.numbers index line_is.numbers line_is.width
       (All-contains (λ (r : TableauRow). content r.numbers ≡ 1) tableau.rows row is.primitive.rows inside))
       (line_is.sizes index) line_is.small)
@@ -84,7 +86,7 @@ module _ (program : Program) (lines : List Line) (objective : List ℤ) (tableau
     objective =
         all_small tableau.objective
         (λ index. low (unsigned_abs (number_at tableau.objective index)) (unsigned_abs (number_at objective index))
-        (2 ^ 62) (small_row objective tableau.objective index is.numbers is.width is.primitive.objective)
+        MOST_SMALL (small_row objective tableau.objective index is.numbers is.width is.primitive.objective)
         (small_at objective index is.small));
   }
     where
@@ -277,7 +279,7 @@ shrunk_small before after is h =
     (λ index. smaller (number_at after index) (number_at before index) is.divisor is.positive (is.numbers index)
     (small_at before index h))
   where
-    by_product : (m n k : ℕ) → 0 < n → m * n ≡ k → k ≤ 2 ^ 62 → m ≤ 2 ^ 62
+    by_product : (m n k : ℕ) → 0 < n → m * n ≡ k → k ≤ MOST_SMALL → m ≤ MOST_SMALL
     by_product m zero k h e l = absurd (omega arith)
     by_product m (suc n) k h e l = omega (arith, e)
 

@@ -6,6 +6,7 @@ use Rattle.std.specs.Prelude.{nat_lt}
 use Rattle.std.specs.Ordering.{int_eq}
 use Rattle.suit_num.specs.declared.fraction.Frac.{Frac}
 use Rattle.suit_linear_fast.specs.declared.lines.Line.{Line}
+use Rattle.suit_linear.specs.declared.limits.TheConstants.{MOST_SMALL}
 use Rattle.suit_linear.specs.Points.{number_at, dot}
 use Rattle.suit_linear.specs.declared.program.Program.{Program}
 use Rattle.suit_linear.specs.Tableaus.{TableauRow, bound, entry, first_tableau}
@@ -21,7 +22,7 @@ pub record IsLineOf (line : Line) (row : TableauRow) : Type 0 where
   pub own : number_at multiple (suc row.basic) ≡ line.own
   pub bound : number_at multiple 0 ≡ line.bound
   pub sizes : (index : ℕ) → unsigned_abs (number_at multiple index) ≤ line.size
-  pub small : line.size ≤ 2 ^ 62
+  pub small : line.size ≤ MOST_SMALL
 
 -- 1 at an index and 0 elsewhere
 abbrev pub unit : ℕ → ℕ → ℤ
@@ -80,7 +81,7 @@ pub record IsChangedLine (line : Line) (entry pivot : ℤ) (leaver next : Line) 
   pub owns : next.own ≡ own *ℤ line.own
   pub bounds : next.bound ≡ own *ℤ line.bound -ℤ times *ℤ leaver.bound
   pub sizes : unsigned_abs own * line.size + unsigned_abs times * leaver.size ≤ next.size
-  pub small : line.size ≤ 2 ^ 62 → next.size ≤ 2 ^ 62
+  pub small : line.size ≤ MOST_SMALL → next.size ≤ MOST_SMALL
 
 -- the lines are shown by rows, one by one
 pub record AreShown (column : ℕ) (lines : List Line) (entries : List ℤ) (rows : List TableauRow) : Type 0 where

@@ -1,4 +1,4 @@
--- What is guessed from the history of the pivots, in numbers of 64 bits that wrap.
+-- What is guessed from the pivots so far, in numbers of 64 bits that wrap.
 use Rattle.std.specs.Prelude.{◌≡◌, ℕ, zero, suc, ◌<◌, ◌^◌, nat_lt, ℤ, pos, int_lt, int_div, ◌+ℤ◌, ◌-ℤ◌, ◌*ℤ◌}
 use Rattle.std.specs.Prelude.{List, [], ◌∷◌, length}
 use Rattle.std.specs.Prelude.{◌==◌, if◌then◌else◌, ◌&&◌, nat_le, ◌-◌, ◌+◌, take, drop, negsuc, set, slice_get}
@@ -8,9 +8,9 @@ use Rattle.std.specs.Int.{int_wrap, w64}
 use Rattle.suit_linear.specs.Points.{number_at}
 use Rattle.suit_linear.specs.Pivots.{content}
 use Rattle.suit_linear_fast.specs.declared.cells.Cell.{Cell}
-use Rattle.suit_linear_fast.specs.declared.history.Change.{Change}
-use Rattle.suit_linear_fast.specs.declared.history.Leaver.{Leaver}
-use Rattle.suit_linear_fast.specs.declared.history.History.{History}
+use Rattle.suit_linear_fast.specs.declared.past_pivots.Change.{Change}
+use Rattle.suit_linear_fast.specs.declared.past_pivots.Leaver.{Leaver}
+use Rattle.suit_linear_fast.specs.declared.past_pivots.PastPivots.{PastPivots}
 use Rattle.suit_linear_fast.specs.declared.sparse.Sparse.{Sparse}
 use Rattle.suit_linear_fast.specs.Cells.{number_in}
 
@@ -65,13 +65,13 @@ pub record AreDivided (before : List ℤ) (divisor : ℤ) (after : List ℤ) : T
 abbrev pub share_of : ℤ → ℤ → ℤ
 share_of number divisor = if int_lt (pos 1) divisor then int_div number divisor else number
 
--- ---- what the history keeps
+-- ---- what is kept of the pivots
 
 -- the part of a list between two indices, and nothing where there is none
 abbrev pub between : {A : Type 0} → List A → ℕ → ℕ → List A
 between items from to = if nat_le from to && nat_le to (length items) then take (to - from) (drop from items) else []
 
--- a count as the history keeps it
+-- a count as it is kept
 abbrev pub short_count : ℕ → ℕ
 short_count count = if nat_lt count (2 ^ 32) then count else 0
 
@@ -81,91 +81,91 @@ end_of begin None count = short_count count
 end_of begin (Some next) count = begin next
 
 -- a pivot's changes, the factors other than 1 of the rows that change, and what the leaving row takes of the first rows
-abbrev pub changes_of : History → ℕ → Leaver → List Change
-changes_of history pivot leaver = between history.changes.items leaver.changes
-    (end_of (λ next. next.changes) (slice_get history.leavers.items (suc pivot)) (length history.changes.items))
+abbrev pub changes_of : PastPivots → ℕ → Leaver → List Change
+changes_of past pivot leaver = between past.changes.items leaver.changes
+    (end_of (λ next. next.changes) (slice_get past.leavers.items (suc pivot)) (length past.changes.items))
 
-abbrev pub multiples_of : History → ℕ → Leaver → List Cell
-multiples_of history pivot leaver = between history.multiples.items leaver.multiples
-    (end_of (λ next. next.multiples) (slice_get history.leavers.items (suc pivot)) (length history.multiples.items))
+abbrev pub multiples_of : PastPivots → ℕ → Leaver → List Cell
+multiples_of past pivot leaver = between past.multiples.items leaver.multiples
+    (end_of (λ next. next.multiples) (slice_get past.leavers.items (suc pivot)) (length past.multiples.items))
 
-abbrev pub weights_of : History → ℕ → Leaver → List Cell
-weights_of history pivot leaver = between history.weights.items leaver.weights
-    (end_of (λ next. next.weights) (slice_get history.leavers.items (suc pivot)) (length history.weights.items))
+abbrev pub weights_of : PastPivots → ℕ → Leaver → List Cell
+weights_of past pivot leaver = between past.weights.items leaver.weights
+    (end_of (λ next. next.weights) (slice_get past.leavers.items (suc pivot)) (length past.weights.items))
 
 -- ---- rows
 
 -- what a row that left takes of a first row
-abbrev pub taken_by : History → ℕ → Option Leaver → ℕ → ℤ
-taken_by history pivot None index = pos 0
-taken_by history pivot (Some leaver) index = number_in (weights_of history pivot leaver) index
+abbrev pub taken_by : PastPivots → ℕ → Option Leaver → ℕ → ℤ
+taken_by past pivot None index = pos 0
+taken_by past pivot (Some leaver) index = number_in (weights_of past pivot leaver) index
 
-abbrev pub taken_at : History → ℕ → ℕ → ℤ
-taken_at history pivot index = taken_by history pivot (slice_get history.leavers.items pivot) index
+abbrev pub taken_at : PastPivots → ℕ → ℕ → ℤ
+taken_at past pivot index = taken_by past pivot (slice_get past.leavers.items pivot) index
 
 -- what a row takes of a first row before it changes: that is itself, until it leaves
-abbrev pub row_first : History → ℕ → ℕ → ℕ → ℤ
-row_first history row zero index = if index == row then pos 1 else pos 0
-row_first history row (suc pivot) index = taken_at history pivot index
+abbrev pub row_first : PastPivots → ℕ → ℕ → ℕ → ℤ
+row_first past row zero index = if index == row then pos 1 else pos 0
+row_first past row (suc pivot) index = taken_at past pivot index
 
 -- a row after a change: the row before it by its factor, less a multiple of the row that left
-abbrev pub row_changed : History → Option Change → (ℕ → ℕ → ℤ) → ℕ → ℤ
-row_changed history None rows index = pos 0
-row_changed history (Some change) rows index =
-    pos change.own *ℤ rows change.before index -ℤ change.times *ℤ taken_at history change.pivot index
+abbrev pub row_changed : PastPivots → Option Change → (ℕ → ℕ → ℤ) → ℕ → ℤ
+row_changed past None rows index = pos 0
+row_changed past (Some change) rows index =
+    pos change.own *ℤ rows change.before index -ℤ change.times *ℤ taken_at past change.pivot index
 
 -- a row after the last of its changes, of which there are at most so many
-unfoldable pub row_after : ℕ → History → ℕ → ℕ → ℕ → ℤ
-row_after zero history row count index = row_first history row (slice_index_or history.left.items row 0) index
-row_after (suc most) history row zero index = row_first history row (slice_index_or history.left.items row 0) index
-row_after (suc most) history row (suc last) index =
-    row_changed history (slice_get history.changes.items last) (row_after most history row) index
+unfoldable pub row_after : ℕ → PastPivots → ℕ → ℕ → ℕ → ℤ
+row_after zero past row count index = row_first past row (slice_index_or past.left.items row 0) index
+row_after (suc most) past row zero index = row_first past row (slice_index_or past.left.items row 0) index
+row_after (suc most) past row (suc last) index =
+    row_changed past (slice_get past.changes.items last) (row_after most past row) index
 
-abbrev pub row_now : History → ℕ → ℕ → ℤ
-row_now history row index =
-    row_after (length history.changes.items) history row (slice_index_or history.last.items row 0) index
+abbrev pub row_now : PastPivots → ℕ → ℕ → ℤ
+row_now past row index =
+    row_after (length past.changes.items) past row (slice_index_or past.last.items row 0) index
 
 -- numbers agree with what a row takes of the first rows
-pub record IsRow (history : History) (row : ℕ) (weights : List ℤ) : Type 0 where
-  pub numbers : (index : ℕ) → index < length weights → Agree (number_at weights index) (row_now history row index)
+pub record IsRow (past : PastPivots) (row : ℕ) (weights : List ℤ) : Type 0 where
+  pub numbers : (index : ℕ) → index < length weights → Agree (number_at weights index) (row_now past row index)
 
--- the history knows of a row
-pub record Knows (history : History) (row : ℕ) : Type 0 where
-  pub left : row < length history.left.items
-  pub last : row < length history.last.items
+-- a row is known
+pub record Knows (past : PastPivots) (row : ℕ) : Type 0 where
+  pub left : row < length past.left.items
+  pub last : row < length past.last.items
 
 -- what a row takes of the first rows, divided by the greatest divisor that its numbers have in common
-pub record IsDividedRow (history : History) (row : ℕ) (divisor : ℤ) (weights : List ℤ) : Type 0 where
+pub record IsDividedRow (past : PastPivots) (row : ℕ) (divisor : ℤ) (weights : List ℤ) : Type 0 where
   pub guess : List ℤ
-  pub told : Knows history row → row < length guess → IsRow history row guess
+  pub told : Knows past row → row < length guess → IsRow past row guess
   pub divisor_is : divisor ≡ short_content guess
   pub divided : AreDivided guess divisor weights
 
 -- ---- columns
 
 -- a row's entry is set, and cleared from the rows that a pivot changes
-abbrev pub IsCleared : History → ℕ → Leaver → ℤ → List ℤ → List ℤ → Type 0
-IsCleared history pivot leaver entry before after =
-    AreTaken (set before leaver.row entry) entry (times_in (changes_of history pivot leaver)) after
+abbrev pub IsCleared : PastPivots → ℕ → Leaver → ℤ → List ℤ → List ℤ → Type 0
+IsCleared past pivot leaver entry before after =
+    AreTaken (set before leaver.row entry) entry (times_in (changes_of past pivot leaver)) after
 
 -- a column after a pivot: the rows that change are multiplied by their factors, and the entry of the row that leaves
 -- is divided
-pub record IsPivoted (history : History) (pivot : ℕ) (leaver : Leaver) (before after : List ℤ) : Type 0 where
+pub record IsPivoted (past : PastPivots) (pivot : ℕ) (leaver : Leaver) (before after : List ℤ) : Type 0 where
   pub middle : List ℤ
-  pub multiplied : AreMultiplied before (factor_in (multiples_of history pivot leaver)) middle
+  pub multiplied : AreMultiplied before (factor_in (multiples_of past pivot leaver)) middle
   pub short : leaver.row < length middle → FitsSigned w64 (number_at middle leaver.row)
-  pub cleared : IsCleared history pivot leaver (share_of (number_at middle leaver.row) leaver.divisor) middle after
+  pub cleared : IsCleared past pivot leaver (share_of (number_at middle leaver.row) leaver.divisor) middle after
 
 -- the same, of a pivot by its index
-abbrev pub IsPivotedAt : History → ℕ → List ℤ → List ℤ → Type 0
-IsPivotedAt history pivot before after = MatchOption (slice_get history.leavers.items pivot) (after ≡ before)
-    (λ leaver. IsPivoted history pivot leaver before after)
+abbrev pub IsPivotedAt : PastPivots → ℕ → List ℤ → List ℤ → Type 0
+IsPivotedAt past pivot before after = MatchOption (slice_get past.leavers.items pivot) (after ≡ before)
+    (λ leaver. IsPivoted past pivot leaver before after)
 
 -- a column after so many pivots, from a first one on
-unfoldable pub Replays : History → ℕ → ℕ → List ℤ → List ℤ → Type 0
-Replays history first zero before after = after ≡ before
-Replays history first (suc count) before after =
-    (middle : List ℤ) × Replays history first count before middle × IsPivotedAt history (first + count) middle after
+unfoldable pub Replays : PastPivots → ℕ → ℕ → List ℤ → List ℤ → Type 0
+Replays past first zero before after = after ≡ before
+Replays past first (suc count) before after =
+    (middle : List ℤ) × Replays past first count before middle × IsPivotedAt past (first + count) middle after
 
 -- a column begins as that of the program
 abbrev pub IsProgramColumn : Sparse → ℕ → List ℤ → List ℤ → Type 0
@@ -173,18 +173,18 @@ IsProgramColumn sparse column before after = MatchOption (slice_get sparse.colum
     (λ cells. AreTaken before (negsuc 0) (number_in cells.items) after)
 
 -- and it begins again after so many pivots, where it left at the last of them as the column of its row
-abbrev pub IsBegun : Sparse → History → ℕ → ℕ → ℕ → List ℤ → List ℤ → Type 0
-IsBegun sparse history column zero first before after = (first ≡ 0) × IsProgramColumn sparse column before after
-IsBegun sparse history column (suc pivot) first before after =
-    MatchOption (slice_get history.leavers.items pivot)
+abbrev pub IsBegun : Sparse → PastPivots → ℕ → ℕ → ℕ → List ℤ → List ℤ → Type 0
+IsBegun sparse past column zero first before after = (first ≡ 0) × IsProgramColumn sparse column before after
+IsBegun sparse past column (suc pivot) first before after =
+    MatchOption (slice_get past.leavers.items pivot)
     ((first ≡ 0) × IsProgramColumn sparse column before after)
-    (λ leaver. (first ≡ suc pivot) × IsCleared history pivot leaver leaver.own before after)
+    (λ leaver. (first ≡ suc pivot) × IsCleared past pivot leaver leaver.own before after)
 
 -- numbers are the entries of a column by the replay of the pivots since it began
-pub record IsColumnNow (sparse : Sparse) (history : History) (column : ℕ) (entries : List ℤ) : Type 0 where
+pub record IsColumnNow (sparse : Sparse) (past : PastPivots) (column : ℕ) (entries : List ℤ) : Type 0 where
   pub zeros : List ℤ
   pub first : ℕ
   pub begun : List ℤ
   pub are_zero : (index : ℕ) → number_at zeros index ≡ pos 0
-  pub begins : IsBegun sparse history column (slice_index_or history.left_at.items column 0) first zeros begun
-  pub replayed : Replays history first (length history.leavers.items - first) begun entries
+  pub begins : IsBegun sparse past column (slice_index_or past.left_at.items column 0) first zeros begun
+  pub replayed : Replays past first (length past.leavers.items - first) begun entries

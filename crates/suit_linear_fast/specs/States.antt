@@ -2,6 +2,7 @@
 use Rattle.std.specs.Prelude.{◌≡◌, ◌≢◌, ℕ, suc, ◌+◌, ◌≤◌, ◌^◌, ℤ, pos, ◌*ℤ◌, ◌-ℤ◌, ◌<ℤ◌, unsigned_abs, List, ◌∷◌}
 use Rattle.std.specs.Prelude.{length, All}
 use Rattle.std.specs.Prelude.{slice_get, Some, None}
+use Rattle.suit_linear.specs.declared.limits.TheConstants.{MOST_SMALL}
 use Rattle.suit_linear.specs.declared.program.Program.{Program}
 use Rattle.suit_linear.specs.declared.program.ProgramRow.{ProgramRow}
 use Rattle.suit_linear.specs.Points.{number_at, dot}
@@ -53,7 +54,7 @@ pub record IsTop (column : ℕ) (numbers : List ℤ) (top : Line) : Type 0 where
   pub positive : pos 0 <ℤ top.own
   pub bound : number_at numbers 0 ≡ top.bound
   pub sizes : (index : ℕ) → unsigned_abs (number_at numbers index) ≤ top.size
-  pub small : top.size ≤ 2 ^ 62
+  pub small : top.size ≤ MOST_SMALL
 
 -- the lines after a pivot
 pub record AreChanged (lines : List Line) (entries : List ℤ) (leaving : ℕ) (top : Line) (nexts : List Line) : Type
@@ -106,7 +107,7 @@ pub record IsFirstLine (columns index : ℕ) (row : ProgramRow) (line : Line) : 
   pub bounds : unsigned_abs row.bound ≤ line.size
   pub entries : (column : ℕ) → unsigned_abs (number_at row.entries column) ≤ line.size
   pub some : 1 ≤ line.size
-  pub small : line.size ≤ 2 ^ 62
+  pub small : line.size ≤ MOST_SMALL
 
 -- the lines before the first pivot
 pub record AreFirstLines (program : Program) (lines : List Line) : Type 0 where

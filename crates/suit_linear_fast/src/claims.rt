@@ -1,7 +1,8 @@
 //! Tests of what is guessed against the program.
-ghost use Rattle.std.specs.Prelude.{◌≡◌, ℕ, suc, ◌≤◌, ◌^◌, ℤ, pos, ◌+ℤ◌, ◌*ℤ◌, ◌<ℤ◌, neg_ℤ, unsigned_abs, length};
+ghost use Rattle.std.specs.Prelude.{◌≡◌, ℕ, suc, ◌≤◌, ℤ, pos, ◌+ℤ◌, ◌*ℤ◌, ◌<ℤ◌, neg_ℤ, unsigned_abs, length};
 ghost use Rattle.std.specs.Prelude.{slice_get, Some};
 ghost use Rattle.std.specs.Prelude.{IsTrue, IfSome};
+ghost use Rattle.suit_linear.specs.declared.limits.TheConstants.{MOST_SMALL};
 ghost use Rattle.suit_linear.specs.declared.program.Program.{Program};
 ghost use Rattle.suit_linear.specs.Points.{number_at};
 ghost use Rattle.suit_linear.specs.Tableaus.{TableauRow, entry, first_tableau};
@@ -10,8 +11,9 @@ ghost use Rattle.suit_linear_fast.specs.States.{AreSolved, IsApart};
 ghost use Rattle.suit_linear_fast.specs.Sparse.{IsSparse, AddsColumn, AddsRow};
 
 use super::cells::{add_multiple, all_zero, clear};
-use super::lines::{Line, MOST_SIZE, common_divisor, is_positive, is_same_short};
+use super::lines::{Line, common_divisor, is_positive, is_same_short};
 use super::sparse::Sparse;
+use suit_linear::MOST_SMALL;
 
 // Whether the lines have these entries in a column: with the shares of the basic columns, by a scale,
 // they make the column of the program.
@@ -218,11 +220,11 @@ pub(crate) fn entry_of(numbers: &[i64], column: usize) -> Option<i64>
 // A size that no number is above, or None where it is too large.
 pub(crate) fn size_of(numbers: &[i64]) -> Option<u64>
     ensures within { IfSome result (λ size. (index : ℕ) → unsigned_abs (number_at numbers.now index) ≤ size) }
-    ensures small { IfSome result (λ size. size ≤ 2 ^ 62) }
+    ensures small { IfSome result (λ size. size ≤ MOST_SMALL) }
 {
     let mut size: u64 = 0;
     for number in numbers {
         size = size.max(number.unsigned_abs());
     }
-    if size <= MOST_SIZE { Some(size) } else { None }
+    if size <= MOST_SMALL { Some(size) } else { None }
 }

@@ -1,14 +1,14 @@
 //! The run of the simplex without a tableau. What a pivot reads of a tableau is guessed from the
-//! history of the pivots, by cheap arithmetic that may wrap, and then tested against the rows of the
+//! pivots so far, by cheap arithmetic that may wrap, and then tested against the rows of the
 //! program: what passes is what the tableau has. Where a guess fails or numbers grow, there is no
 //! answer.
 #![tactic(auto)]
 
 mod cells;
 mod claims;
-mod history;
 mod lines;
 mod objective;
+mod past_pivots;
 mod pivot;
 mod primitive;
 mod reading;

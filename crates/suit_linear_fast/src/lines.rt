@@ -1,17 +1,19 @@
 //! What is kept of a tableau's rows: of each, by some positive multiple, its entry in its basic
 //! column, its bound, and a size that no number of it is above.
-ghost use Rattle.std.specs.Prelude.{◌≡◌, ℕ, ◌+◌, ◌*◌, ◌<◌, ◌≤◌, ◌^◌, ℤ, pos, ◌*ℤ◌, ◌-ℤ◌, ◌<ℤ◌, unsigned_abs, List};
+ghost use Rattle.std.specs.Prelude.{◌≡◌, ℕ, ◌+◌, ◌*◌, ◌<◌, ◌≤◌, ℤ, pos, ◌*ℤ◌, ◌-ℤ◌, ◌<ℤ◌, unsigned_abs, List};
 ghost use Rattle.std.specs.Prelude.{length};
 ghost use Rattle.std.specs.Prelude.{fold, None, Some, slice_get, IsTrue, IfSome};
 ghost use Rattle.std.specs.Prelude.{int_lt, ◌||◌, ◌&&◌};
 ghost use Rattle.std.specs.Ordering.{int_eq};
 ghost use Rattle.std.specs.Option.{ForSome};
 ghost use Rattle.suit_num.specs.Divisors.{gcd_of};
+ghost use Rattle.suit_linear.specs.declared.limits.TheConstants.{MOST_SMALL};
 ghost use Rattle.suit_linear.specs.Tableaus.{TableauRow};
 ghost use Rattle.suit_linear.specs.Pivots.{kept};
 ghost use Rattle.suit_linear_fast.specs.Lines.{is_better_line, AreShown, chosen};
 
 use std::cmp::Ordering;
+use suit_linear::MOST_SMALL;
 
 // A row with such a multiple.
 #[derive(Clone, Copy)]
@@ -21,10 +23,6 @@ pub(crate) struct Line {
     pub(crate) bound: i64,
     pub(crate) size: u64,
 }
-
-/// What no size is above: two factors of this size, and the difference of two such products, are
-/// within 127 bits.
-pub(crate) const MOST_SIZE: u64 = 1 << 62;
 
 // The index of the line that leaves, by the entries of the entering column.
 pub(crate) fn leaving(lines: &[Line], entries: &[i64]) -> Option<usize>
@@ -180,7 +178,7 @@ pub(crate) fn changed(line: &Line, factors: Factors, leaver: &Line) -> Option<Li
         ≡ factors.own *ℤ line.now.bound -ℤ factors.times *ℤ leaver.now.bound) }
     ensures size { IfSome result (λ next. unsigned_abs factors.own * line.now.size
         + unsigned_abs factors.times * leaver.now.size ≤ next.size) }
-    ensures small { IfSome result (λ next. next.size ≤ 2 ^ 62) }
+    ensures small { IfSome result (λ next. next.size ≤ MOST_SMALL) }
 {
     let own = factors.own.checked_mul(line.own)?;
     let bound = difference(factors, line.bound, leaver.bound)?;
@@ -204,10 +202,10 @@ pub(crate) fn difference(factors: Factors, number: i64, leaver: i64) -> Option<i
 
 fn grown(factors: Factors, size: u64, leaver: u64) -> Option<u64>
     ensures value { IfSome result (λ sum. sum ≡ unsigned_abs factors.own * size + unsigned_abs factors.times * leaver) }
-    ensures small { IfSome result (λ sum. sum ≤ 2 ^ 62) }
+    ensures small { IfSome result (λ sum. sum ≤ MOST_SMALL) }
 {
     let kept = factors.own.unsigned_abs().checked_mul(size)?;
     let taken = factors.times.unsigned_abs().checked_mul(leaver)?;
     let sum = kept.checked_add(taken)?;
-    if sum <= MOST_SIZE { Some(sum) } else { None }
+    if sum <= MOST_SMALL { Some(sum) } else { None }
 }

@@ -5,7 +5,8 @@ ghost use Rattle.suit_linear.specs.Multiples.{IsSmall};
 ghost use Rattle.suit_linear_fast.specs.Replays.{short_content};
 ghost use Rattle.suit_linear_fast.specs.States.{IsCombined, IsShrunk};
 
-use super::lines::{Factors, MOST_SIZE, common_divisor, difference, is_positive, is_same_short};
+use super::lines::{Factors, common_divisor, difference, is_positive, is_same_short};
+use suit_linear::MOST_SMALL;
 
 // The objective row is cleared by the numbers of the leaving row. False where a number does not fit,
 // and then nothing is said of it.
@@ -58,7 +59,7 @@ fn small_difference(factors: Factors, number: i64, leaver: i64) -> Option<i64>
 pub(crate) fn is_small(number: i64) -> bool
     ensures { IsTrue result → IsSmall number }
 {
-    number.unsigned_abs() <= MOST_SIZE
+    number.unsigned_abs() <= MOST_SMALL
 }
 
 // The numbers are divided by a divisor that they have in common. False where one is not divided, and

@@ -12,9 +12,9 @@ ghost use Rattle.suit_linear_fast.specs.States.{IsApart, IsTop, AreChanged, Chan
 ghost use Rattle.suit_linear_fast.specs.Lines.{IsChangedLine};
 
 use super::claims::{column_holds, entry_of, is_apart, size_of, sum_rows};
-use super::history::History;
 use super::lines::{Line, changed, factors_of, is_positive, is_same_short, leaving};
 use super::objective::{clear_objective, content, shrink};
+use super::past_pivots::PastPivots;
 use super::sparse::Sparse;
 use std::alloc::{AllocError, Global};
 
@@ -72,7 +72,7 @@ pub(crate) fn advance(
     sparse: &Sparse,
     lines: &mut [Line],
     objective: &mut [i64],
-    history: &mut History,
+    past: &mut PastPivots,
     scratch: &mut Scratch,
 ) -> Result<Progress, AllocError>
     requires width { 1 < length objective.old }
@@ -86,7 +86,7 @@ pub(crate) fn advance(
     let Some(column) = entering(objective) else {
         return Ok(Progress::Last);
     };
-    history.guess_column(sparse, column, &mut scratch.entries);
+    past.guess_column(sparse, column, &mut scratch.entries);
     let entries = &scratch.entries;
     if !column_holds(
         sparse,
@@ -101,7 +101,7 @@ pub(crate) fn advance(
     let Some(row) = leaving(lines, entries) else {
         return Ok(Progress::Lost);
     };
-    let divisor = guess_leaver(history, row, &mut scratch.weights);
+    let divisor = guess_leaver(past, row, &mut scratch.weights);
     if !sum_rows(sparse, &scratch.weights, &mut scratch.numbers) {
         return Ok(Progress::Lost);
     }
@@ -113,8 +113,8 @@ pub(crate) fn advance(
         return Ok(Progress::Lost);
     };
     let own = own_of(lines, row, numbers);
-    history.begin_pivot(row, divisor, own, &scratch.weights)?;
-    if !change_lines(lines, row, &leaver, entries, history)? {
+    past.begin_pivot(row, divisor, own, &scratch.weights)?;
+    if !change_lines(lines, row, &leaver, entries, past)? {
         return Ok(Progress::Lost);
     }
     if !change_objective(objective, column, leaver.own, numbers) {
@@ -124,10 +124,10 @@ pub(crate) fn advance(
 }
 
 // The row's weights, divided by their greatest common divisor, which is the result.
-fn guess_leaver(history: &History, row: usize, weights: &mut [i64]) -> i64
-    ensures { IsDividedRow history.now row result weights.new }
+fn guess_leaver(past: &PastPivots, row: usize, weights: &mut [i64]) -> i64
+    ensures { IsDividedRow past.now row result weights.new }
 {
-    history.guess_row(row, weights);
+    past.guess_row(row, weights);
     let divisor = content(weights);
     if divisor > 1 {
         for weight in weights.iter_mut() {
@@ -177,7 +177,7 @@ fn change_lines(
     row: usize,
     leaver: &Line,
     entries: &[i64],
-    history: &mut History,
+    past: &mut PastPivots,
 ) -> Result<bool, AllocError>
     requires count { length entries.now ≡ length lines.old }
     requires within { row < length lines.old }
@@ -186,14 +186,14 @@ fn change_lines(
 {
     for index in 0..lines.len() {
         if index == row {
-            history.end_pivot(row, lines[index].basic);
+            past.end_pivot(row, lines[index].basic);
             lines[index] = *leaver;
             continue;
         }
         if is_same_short(entries[index], 0) {
             continue;
         }
-        let Some(line) = change_line(&lines[index], index, leaver, entries[index], history)? else {
+        let Some(line) = change_line(&lines[index], index, leaver, entries[index], past)? else {
             return Ok(false);
         };
         lines[index] = line;
@@ -201,13 +201,13 @@ fn change_lines(
     Ok(true)
 }
 
-// A line after the pivot, which is told to the history.
+// A line after the pivot, which is kept with the past pivots.
 fn change_line(
     line: &Line,
     index: usize,
     leaver: &Line,
     entry: i64,
-    history: &mut History,
+    past: &mut PastPivots,
 ) -> Result<Option<Line>, AllocError>
     ensures { IfOk result (λ next. IfSome next (IsChangedLine line.now entry leaver.now.own leaver.now)) }
 {
@@ -217,7 +217,7 @@ fn change_line(
     let Some(next) = changed(line, factors, leaver) else {
         return Ok(None);
     };
-    if history.push_change(index, factors)? {
+    if past.push_change(index, factors)? {
         Ok(Some(next))
     } else {
         Ok(None)

@@ -1,6 +1,7 @@
 //! The run from the first tableau to its end.
-ghost use Rattle.std.specs.Prelude.{◌≡◌, ℕ, suc, ◌+◌, ◌≤◌, ℤ, pos, neg_ℤ, ◌^◌, ◌∷◌, ◌++◌, map, replicate, unsigned_abs};
+ghost use Rattle.std.specs.Prelude.{◌≡◌, ℕ, suc, ◌+◌, ◌≤◌, ℤ, pos, neg_ℤ, ◌∷◌, ◌++◌, map, replicate, unsigned_abs};
 ghost use Rattle.std.specs.Prelude.{length, All, IfOk, IfSome};
+ghost use Rattle.suit_linear.specs.declared.limits.TheConstants.{MOST_SMALL};
 ghost use Rattle.suit_linear.specs.Programs.{IsWellFormed};
 ghost use Rattle.suit_linear.specs.Runs.{run_end, AtOptimum};
 ghost use Rattle.suit_linear.specs.Multiples.{IsSmall};
@@ -11,14 +12,14 @@ ghost use Rattle.suit_linear_fast.specs.Lines.{IsLineOf};
 ghost use Rattle.suit_linear_fast.specs.States.{AreFirstLines, IsFirstLine, IsStateOf, AreLinesOf};
 ghost use Rattle.suit_linear.specs.Ends.{Tells};
 
-use super::history::first_history;
-use super::lines::{Line, MOST_SIZE};
+use super::lines::Line;
 use super::objective::is_small;
+use super::past_pivots::no_pivots;
 use super::pivot::{Progress, advance, entering, first_scratch};
 use super::reading::read_optimum;
 use super::sparse::sparse_of;
 use std::alloc::{AllocError, Global};
-use suit_linear::{Entry, Optimum, SimplexEnd, SparseProgram, SparseRow};
+use suit_linear::{Entry, MOST_SMALL, Optimum, SimplexEnd, SparseProgram, SparseRow};
 
 /// How a run ends, where the numbers of its tableaus stay small; else there is no answer.
 pub fn fast(
@@ -40,16 +41,10 @@ pub fn fast(
     let Some(mut objective) = first_objective(alloc, program.costs.items(), rows)? else {
         return Ok(None);
     };
-    let mut history = first_history(alloc, rows, columns)?;
+    let mut past = no_pivots(alloc, rows, columns)?;
     let mut scratch = first_scratch(alloc, rows, objective.len() - 1)?;
     for made in 0..pivots {
-        match advance(
-            &sparse,
-            &mut lines,
-            &mut objective,
-            &mut history,
-            &mut scratch,
-        )? {
+        match advance(&sparse, &mut lines, &mut objective, &mut past, &mut scratch)? {
             Progress::Pivoted => {}
             Progress::Last => return read_end(alloc, program, &lines, &objective),
             Progress::Lost => return Ok(None),
@@ -111,7 +106,7 @@ fn size_of_entries(entries: &[Entry]) -> Option<u64>
     ensures within { IfSome result (λ size. (columns column : ℕ)
         → unsigned_abs (number_at (dense_entries columns entries.now) column) ≤ size) }
     ensures some { IfSome result (λ size. 1 ≤ size) }
-    ensures small { IfSome result (λ size. size ≤ 2 ^ 62) }
+    ensures small { IfSome result (λ size. size ≤ MOST_SMALL) }
 {
     let mut size: u64 = 1;
     for index in 0..entries.len() {
@@ -125,10 +120,10 @@ fn size_of_entries(entries: &[Entry]) -> Option<u64>
 
 fn grown(size: u64, number: i64) -> Option<u64>
     ensures value { IfSome result (λ sum. sum ≡ size + unsigned_abs number) }
-    ensures small { IfSome result (λ sum. sum ≤ 2 ^ 62) }
+    ensures small { IfSome result (λ sum. sum ≤ MOST_SMALL) }
 {
     let sum = size.checked_add(number.unsigned_abs())?;
-    if sum <= MOST_SIZE { Some(sum) } else { None }
+    if sum <= MOST_SMALL { Some(sum) } else { None }
 }
 
 fn small(number: i128) -> Option<i64>

@@ -1,2 +1,1 @@
-pub mod BoundedExamples
 pub mod FormedRows

@@ -67,6 +67,3 @@ fn worth_of(optimum: &Optimum) -> Result<Frac> {
     ensure!(value != i128::MIN && 0 < scale, "the objective is too wide");
     Ok(Frac::reduced(value, scale))
 }
-
-#[cfg(test)]
-mod tests;

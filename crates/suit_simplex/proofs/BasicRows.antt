@@ -8,7 +8,7 @@ use Rattle.suit_linear.specs.Tableaus.{TableauRow, bound, entry}
 use Rattle.suit_linear.specs.Ends.{IsBasicValue}
 use Rattle.suit_simplex.specs.Dense.{row_at, seen}
 use Rattle.suit_simplex.specs.declared.dense.Dense.{Dense}
-use Rattle.suit_simplex.proofs.LeavingRows.{seen_row, length-seen}
+use Rattle.suit_simplex.proofs.RatioTestByIndex.{seen_row, length-seen}
 use Rattle.suit_num.proofs.IntegerLaws.{mul-one}
 use Rattle.std.proofs.Math.IntN.{zero-*ℤ}
 use Rattle.std.proofs.lemmas.Bool.{cases_eq}

@@ -12,7 +12,7 @@ use Rattle.suit_linear.proofs.SoundTableaus.{IsSound}
 use Rattle.suit_linear.proofs.SoundRows.{cases_option}
 use Rattle.suit_linear.proofs.EnteringColumns.{entering_is_column}
 use Rattle.suit_linear.proofs.RatioTest.{leaving_is_row}
-use Rattle.suit_linear.proofs.PivotedTableaus.{row_content, objective_content}
+use Rattle.suit_linear.proofs.PivotKeepsSound.{row_content, objective_content}
 use Rattle.suit_linear.proofs.Rays.{no_ray}
 use Rattle.suit_linear.proofs.RunSteps.{IsRunning, next_wide_ratio, first_running, next_running}
 

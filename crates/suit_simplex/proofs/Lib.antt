@@ -1,12 +1,11 @@
 pub mod BasicRows
-pub mod BoundedExamples
 pub mod DenseRows
 pub mod DenseRuns
 pub mod FastAnswers
 pub mod FirstNumbers
-pub mod LeavingRows
+pub mod RatioTestByIndex
 pub mod PivotSteps
-pub mod PivotedRows
-pub mod WorkedRuns
+pub mod PivotOfARow
+pub mod RunsByEvaluation
 pub mod OneOptimum
 pub mod SparsePrograms

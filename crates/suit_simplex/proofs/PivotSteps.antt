@@ -5,44 +5,15 @@ use Rattle.std.proofs.Common.{add-one}
 use Rattle.std.specs.Prelude.{ℤ, pos, slice_get, ◌↔◌}
 use Rattle.std.proofs.lemmas.List.{take_all}
 use Rattle.suit_linear.specs.Points.{number_at}
-use Rattle.suit_linear.proofs.Elements.{contains_at}
 use Rattle.std.specs.List.{list_all, flat_map}
 use Rattle.suit_linear.specs.Tableaus.{TableauRow, Tableau, entry, reduced_cost}
 use Rattle.suit_linear.specs.Pivots.{cleared, clearing, pivoted_row, pivoting_row, pivoted, changing, is_narrow}
 use Rattle.suit_simplex.specs.Dense.{row_at, leaver_row, seen, with_row, IsKept, KeepsShape, CanPivot, CanClear}
 use Rattle.suit_simplex.specs.declared.dense.Dense.{Dense}
-use Rattle.suit_linear.proofs.CombinedRows.{test_append, both_true, first_true, second_true}
-use Rattle.suit_simplex.proofs.LeavingRows.{seen_row, length-seen}
-
--- ---- lists that are mapped up to an index
-
-pub half : {X : Type 0} → (X → X) → ℕ → List X → List X
-half f index xs = map f (take index xs) ++ drop index xs
-
-half_none : {X : Type 0} (f : X → X) (xs : List X) → xs ≡ half f 0 xs
-unfolding half
-half_none f xs = refl
-
-half_at : {X : Type 0} (f : X → X) (xs : List X) (index : ℕ) → slice_get (half f index xs) index ≡ slice_get xs index
-unfolding half
-half_at f [] zero = refl
-half_at f [] (suc index) = refl
-half_at f (x ∷ xs) zero = refl
-half_at f (x ∷ xs) (suc index) = half_at f xs index
-
-half_more : {X : Type 0} (f : X → X) (xs : List X) (index : ℕ) (x : X) → slice_get xs index ≡ Some x
-    → set (half f index xs) index (f x) ≡ half f (suc index) xs
-unfolding half
-half_more f [] index x e = absurd (cc)
-half_more f (y ∷ ys) zero x e = let same : y ≡ x = cc in ap (λ z. f z ∷ ys) (sym same)
-half_more f (y ∷ ys) (suc index) x e = ap (λ zs. f y ∷ zs) (half_more f ys index x e)
-
-half_all : {X : Type 0} (f : X → X) (xs : List X) (index : ℕ) → length xs ≤ index → half f index xs ≡ map f xs
-unfolding half
-half_all f [] zero h = refl
-half_all f [] (suc index) h = refl
-half_all f (x ∷ xs) zero h = absurd (omega arith)
-half_all f (x ∷ xs) (suc index) h = ap (λ zs. f x ∷ zs) (half_all f xs index (omega arith))
+use Rattle.suit_linear.proofs.CombinationByIndex.{test_append, both_true, first_true, second_true}
+use Rattle.suit_simplex.proofs.RatioTestByIndex.{seen_row, length-seen}
+use Rattle.suit_lists.proofs.Indices.{contains_at}
+use Rattle.suit_lists.proofs.Walks.{half, half_all, half_at, half_more, half_none}
 
 -- the test of what the rows up to an index make
 pub fits_to : (f : TableauRow → List ℤ) → ℕ → List TableauRow → Bool

@@ -16,6 +16,3 @@ pub use suit_linear::{
     Entries, Entry, Fracs, Numbers, Optimum, Program, ProgramRow, ProgramRows, SimplexEnd,
     SparseProgram, SparseRow, SparseRows,
 };
-
-#[cfg(test)]
-mod tests;

@@ -67,7 +67,7 @@ pub fn optimum(alloc: Global, program: &Program, pivots: u32) -> Result<Optimum,
 }
 
 // The end of the run where numbers stay small.
-pub(crate) fn quick(
+fn quick(
     alloc: Global,
     program: &Program,
     pivots: u32,

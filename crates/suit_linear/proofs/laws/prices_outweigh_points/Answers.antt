@@ -1,4 +1,4 @@
-use Rattle.suit_linear.proofs.ExchangedSums.{prices_outweigh}
+use Rattle.suit_linear.proofs.WeakDuality.{prices_outweigh}
 use Rattle.suit_linear.proofs.laws.prices_outweigh_points.Goals as goal
 
 pub returns : goal.returns

@@ -1,4 +1,4 @@
-use Rattle.suit_linear.proofs.ExchangedSums.{sums_exchanged}
+use Rattle.suit_linear.proofs.WeakDuality.{sums_exchanged}
 use Rattle.suit_linear.proofs.laws.sums_are_exchanged.Goals as goal
 
 pub returns : goal.returns

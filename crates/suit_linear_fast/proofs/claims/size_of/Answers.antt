@@ -19,7 +19,7 @@ loop-number-preserved c =
     rw u at c.max-size.ensures in
     rw e (one_within c.args.numbers.now c.loop-number.number-index c.loop-number.size c.loop-number.invariant)
 
-pub returns-then-size-le-MOST_SIZE-clause-within : goal.returns-then-size-le-MOST_SIZE-clause-within
-returns-then-size-le-MOST_SIZE-clause-within c =
+pub returns-then-size-le-MOST_SMALL-clause-within : goal.returns-then-size-le-MOST_SMALL-clause-within
+returns-then-size-le-MOST_SMALL-clause-within c =
     all_within c.args.numbers.now c.loop-number.number-index c.loop-number.size
     (omega arith) c.loop-number.invariant

@@ -5,7 +5,7 @@ use Rattle.std.proofs.lemmas.Int.{to_z-of_z}
 use Rattle.suit_linear.specs.Points.{number_at}
 use Rattle.suit_linear_fast.specs.declared.lines.Line.{Line}
 use Rattle.suit_linear_fast.specs.Lines.{is_better_line, chosen}
-use Rattle.suit_linear_fast.proofs.LeavingLines.{better_passed, better_first, better_chosen}
+use Rattle.suit_linear_fast.proofs.RatioTestOnLines.{better_passed, better_first, better_chosen}
 use Rattle.suit_linear_fast.proofs.lines.better.Goals as goal
 
 pub returns-then-not-is_positive-clause-value : goal.returns-then-not-is_positive-clause-value

@@ -1,5 +1,5 @@
 use Rattle.std.proofs.Common.{arith}
-use Rattle.suit_linear_fast.proofs.LeavingLines.{none_kept, one_kept, all_kept}
+use Rattle.suit_linear_fast.proofs.RatioTestOnLines.{none_kept, one_kept, all_kept}
 use Rattle.suit_linear_fast.proofs.lines.leaving.Goals as goal
 
 pub loop-index-init : goal.loop-index-init

@@ -1,4 +1,4 @@
-use Rattle.suit_linear_fast.proofs.LeavingLines.{IsKeptBest}
+use Rattle.suit_linear_fast.proofs.RatioTestOnLines.{IsKeptBest}
 use Rattle.suit_linear_fast.proofs.lines.leaving.Given as goal
 
 abbrev pub invariant-loop-index : goal.invariant-loop-index

@@ -21,6 +21,6 @@ pub returns-else-divisor-gt1 : goal.returns-else-divisor-gt1
 returns-else-divisor-gt1 c =
     let divisor_fits : FitsSigned w64 c.content-divisor.result = search rules in
     let low = c.if-divisor-gt1.false in
-    simp to_z-of_z (none_divided c.args.history.now c.args.row c.guess_row.new.weights
+    simp to_z-of_z (none_divided c.args.past.now c.args.row c.guess_row.new.weights
     c.content-divisor.result c.guess_row.ensures c.content-divisor.ensures
     (omega (arith, ints)))

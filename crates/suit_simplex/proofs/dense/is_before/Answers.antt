@@ -2,7 +2,7 @@ use Rattle.std.proofs.Common.{rules}
 use Rattle.std.specs.Prelude.{FitsSigned, ◌*ℤ◌}
 use Rattle.std.specs.Int.{w128}
 use Rattle.std.proofs.lemmas.Int.{to_z-of_z}
-use Rattle.suit_linear.proofs.KeptRows.{before_is}
+use Rattle.suit_linear.proofs.RatioTestByRow.{before_is}
 use Rattle.suit_simplex.proofs.dense.is_before.Goals as goal
 
 pub returns : goal.returns

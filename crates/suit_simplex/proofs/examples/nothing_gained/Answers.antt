@@ -1,4 +1,4 @@
-use Rattle.suit_simplex.proofs.WorkedRuns.{nothing_gained}
+use Rattle.suit_simplex.proofs.RunsByEvaluation.{nothing_gained}
 use Rattle.suit_simplex.proofs.examples.nothing_gained.Goals as goal
 
 pub returns : goal.returns

@@ -1,4 +1,4 @@
-use Rattle.suit_simplex.proofs.WorkedRuns.{tie_broken}
+use Rattle.suit_simplex.proofs.RunsByEvaluation.{tie_broken}
 use Rattle.suit_simplex.proofs.examples.tie_broken.Goals as goal
 
 pub returns : goal.returns

@@ -1,4 +1,4 @@
-use Rattle.suit_simplex.proofs.WorkedRuns.{two_wide_rows}
+use Rattle.suit_simplex.proofs.RunsByEvaluation.{two_wide_rows}
 use Rattle.suit_simplex.proofs.examples.two_wide_rows.Goals as goal
 
 pub returns : goal.returns

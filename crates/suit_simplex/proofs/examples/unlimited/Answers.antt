@@ -1,4 +1,4 @@
-use Rattle.suit_simplex.proofs.WorkedRuns.{unlimited}
+use Rattle.suit_simplex.proofs.RunsByEvaluation.{unlimited}
 use Rattle.suit_simplex.proofs.examples.unlimited.Goals as goal
 
 pub returns : goal.returns

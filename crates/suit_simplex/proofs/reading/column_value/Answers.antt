@@ -5,10 +5,10 @@ use Rattle.std.proofs.lemmas.Int.{to_z-of_z}
 use Rattle.std.proofs.lemmas.List.Elements.{All-contains}
 use Rattle.suit_linear.specs.Tableaus.{TableauRow, entry}
 use Rattle.suit_simplex.specs.Dense.{row_at, seen}
-use Rattle.suit_linear.proofs.Elements.{contains_at}
-use Rattle.suit_simplex.proofs.LeavingRows.{seen_row}
+use Rattle.suit_simplex.proofs.RatioTestByIndex.{seen_row}
 use Rattle.suit_simplex.proofs.BasicRows.{found_row_at, found_none, basic_value, free_value}
 use Rattle.suit_simplex.proofs.reading.column_value.Goals as goal
+use Rattle.suit_lists.proofs.Indices.{contains_at}
 
 pub reduced-requires-clause-positive : goal.reduced-requires-clause-positive
 reduced-requires-clause-positive c =

@@ -5,8 +5,8 @@ use Rattle.std.proofs.lemmas.Int.{to_z-of_z}
 use Rattle.std.proofs.lemmas.Bool.{eqb-true}
 use Rattle.std.proofs.lemmas.Result.{err_from_is_err_and}
 use Rattle.suit_linear.specs.Points.{number_at}
-use Rattle.suit_linear.proofs.CombinedRows.{none_combined, one_combined, all_combined, not_combining, kept_index}
-use Rattle.suit_linear.proofs.CombinedRows.{narrow_combined, one_first, zero_last}
+use Rattle.suit_linear.proofs.CombinationByIndex.{none_combined, one_combined, all_combined, not_combining, kept_index}
+use Rattle.suit_linear.proofs.CombinationByIndex.{narrow_combined, one_first, zero_last}
 use Rattle.suit_linear.proofs.CommonDivisors.{zero_bits, one_bits}
 use Rattle.suit_simplex.proofs.row.combine.Goals as goal
 use Rattle.suit_simplex.proofs.row.combine.Goals.{then-own-eq1, else-own-eq1}

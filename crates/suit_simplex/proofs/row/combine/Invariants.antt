@@ -1,4 +1,4 @@
-use Rattle.suit_linear.proofs.CombinedRows.{IsCombinedBelow}
+use Rattle.suit_linear.proofs.CombinationByIndex.{IsCombinedBelow}
 use Rattle.suit_simplex.proofs.row.combine.Given as goal
 
 abbrev pub invariant-loop-index : goal.invariant-loop-index

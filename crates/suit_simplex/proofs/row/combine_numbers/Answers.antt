@@ -2,7 +2,7 @@ use Rattle.std.proofs.Common.{rules}
 use Rattle.std.specs.Prelude.{FitsSigned}
 use Rattle.std.specs.Int.{w128}
 use Rattle.std.proofs.lemmas.Int.{to_z-of_z}
-use Rattle.suit_linear.proofs.CombinedRows.{combine_is}
+use Rattle.suit_linear.proofs.CombinationByIndex.{combine_is}
 use Rattle.suit_simplex.proofs.row.combine_numbers.Goals as goal
 
 pub returns : goal.returns

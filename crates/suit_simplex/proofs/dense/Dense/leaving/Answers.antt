@@ -1,6 +1,6 @@
 use Rattle.std.proofs.Common.{refl, arith, false, true, ◌≡◌, Bool}
 use Rattle.std.proofs.lemmas.Result.{err_from_is_err_and}
-use Rattle.suit_simplex.proofs.LeavingRows.{next_best, last_best, not_fitting}
+use Rattle.suit_simplex.proofs.RatioTestByIndex.{next_best, last_best, not_fitting}
 use Rattle.suit_simplex.proofs.dense.Dense.leaving.Goals as goal
 
 same_false : ◌≡◌ {A = Bool} false true → ⊥

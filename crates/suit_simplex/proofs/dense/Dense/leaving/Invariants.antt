@@ -1,4 +1,4 @@
-use Rattle.suit_simplex.proofs.LeavingRows.{IsBestBefore}
+use Rattle.suit_simplex.proofs.RatioTestByIndex.{IsBestBefore}
 use Rattle.suit_simplex.proofs.dense.Dense.leaving.Given as goal
 
 abbrev pub invariant-loop-index : goal.invariant-loop-index

@@ -1,7 +1,7 @@
 use Rattle.std.proofs.Common.{◌≡◌, ◌<◌, ◌≤◌, length, refl, arith, Bool, true, false}
 use Rattle.std.proofs.lemmas.Result.{err_from_is_err_and}
 use Rattle.suit_simplex.specs.Dense.{row_at}
-use Rattle.suit_simplex.proofs.PivotedRows.{basic_read, on_ok}
+use Rattle.suit_simplex.proofs.PivotOfARow.{basic_read, on_ok}
 use Rattle.suit_simplex.proofs.PivotSteps.{none_pivoted, one_pivoted, row_not_fitting, row_can_clear, rows_pivoted}
 use Rattle.suit_simplex.proofs.PivotSteps.{objective_fits, objective_pivoted}
 use Rattle.suit_simplex.proofs.dense.Dense.pivot.Goals as goal

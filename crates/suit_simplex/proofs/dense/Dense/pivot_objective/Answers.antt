@@ -8,8 +8,8 @@ use Rattle.suit_num.specs.Narrow.{IsNarrow}
 use Rattle.suit_linear.specs.Tableaus.{Tableau, entry, reduced_cost}
 use Rattle.suit_linear.specs.Pivots.{cleared}
 use Rattle.suit_simplex.specs.Dense.{leaver_row, seen}
-use Rattle.suit_simplex.proofs.PivotedRows.{objective_part, seen_with_objective, kept_with_part, with_part}
-use Rattle.suit_simplex.proofs.PivotedRows.{part_written, pivot_read, on_ok}
+use Rattle.suit_simplex.proofs.PivotOfARow.{objective_part, seen_with_objective, kept_with_part, with_part}
+use Rattle.suit_simplex.proofs.PivotOfARow.{part_written, pivot_read, on_ok}
 use Rattle.suit_simplex.proofs.dense.Dense.pivot_objective.Goals as goal
 
 pub clear-requires-clause-some : goal.clear-requires-clause-some

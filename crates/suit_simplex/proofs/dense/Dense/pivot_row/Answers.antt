@@ -10,9 +10,9 @@ use Rattle.suit_simplex.specs.Dense.{row_at, leaver_row, seen, with_row}
 use Rattle.std.specs.Prelude.{OnOk}
 use Rattle.suit_linear.specs.Pivots.{cleared}
 use Rattle.suit_linear.proofs.CommonDivisors.{zero_bits}
-use Rattle.suit_simplex.proofs.PivotedRows.{row_leaves, row_stays, row_is_cleared, seen_same, seen_with_basic}
-use Rattle.suit_simplex.proofs.PivotedRows.{seen_with_part, kept_with_part, with_part, part_written, part_is}
-use Rattle.suit_simplex.proofs.PivotedRows.{behind_first, basic_read, pivot_read, on_ok}
+use Rattle.suit_simplex.proofs.PivotOfARow.{row_leaves, row_stays, row_is_cleared, seen_same, seen_with_basic}
+use Rattle.suit_simplex.proofs.PivotOfARow.{seen_with_part, kept_with_part, with_part, part_written, part_is}
+use Rattle.suit_simplex.proofs.PivotOfARow.{behind_first, basic_read, pivot_read, on_ok}
 use Rattle.suit_simplex.proofs.dense.Dense.pivot_row.Goals as goal
 
 pub returns-then-index-leaving-clause-fits : goal.returns-then-index-leaving-clause-fits

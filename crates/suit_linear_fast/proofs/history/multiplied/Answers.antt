@@ -1,6 +1,0 @@
-use Rattle.std.proofs.Common.{rules}
-use Rattle.std.proofs.lemmas.Int.{wraps}
-use Rattle.suit_linear_fast.proofs.history.multiplied.Goals as goal
-
-pub returns : goal.returns
-returns c = search (rules, wraps)
