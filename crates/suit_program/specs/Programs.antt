@@ -1,4 +1,8 @@
 -- The program of a support.
+pub mod Points
+pub mod ProgramLaws
+pub mod Sized
+pub mod Worths
 use Rattle.std.specs.Prelude.{ℕ, ◌+◌, List, [], ◌∷◌, ◌++◌, length, map, ℤ, ◌+ℤ◌, ◌-ℤ◌, ◌*ℤ◌, neg_ℤ, if◌then◌else◌}
 use Rattle.std.specs.List.{flat_map}
 use Rattle.suit_cards.specs.Cards.{Counts}
@@ -8,10 +12,10 @@ use Rattle.suit_classes.specs.ClassMoves.{ClassHistory}
 use Rattle.suit_plans.specs.Properness.{sum_of}
 use Rattle.suit_linear.specs.declared.program.Program.{Program}
 use Rattle.suit_linear.specs.declared.program.ProgramRow.{ProgramRow}
-use Rattle.suit_program.specs.Points.{Column, Held, Passed, Point, no_point, unit_point}
+use Rattle.suit_program.specs.Programs.Points.{Column, Held, Passed, Point, no_point, unit_point}
 use Rattle.suit_program.specs.Supports.{Support, declarer_chooses, defence_chooses, reached_histories}
 use Rattle.suit_program.specs.Supports.{reached_layouts, supported_moves}
-use Rattle.suit_program.specs.Worths.{mass_at, objective_at, worth_at}
+use Rattle.suit_program.specs.Programs.Worths.{mass_at, objective_at, worth_at}
 
 -- a row: declarer passes on no more than came to a choice of his, and the defence holds him to no more than a move of
 -- theirs lets him earn

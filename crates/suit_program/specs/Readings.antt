@@ -1,4 +1,8 @@
 -- How a plan is read from the point of an optimum, and a defence from its prices.
+pub mod Examples
+pub mod ReadOptima
+pub mod ReadingLaws
+pub mod Sharing
 use Rattle.std.specs.Prelude.{ℕ, ◌&&◌, ◌||◌, not, Bool, true, false, List, [], ◌∷◌, ◌++◌, map, filter, get_or}
 use Rattle.std.specs.Prelude.{if◌then◌else◌, ℤ, pos, ◌-ℤ◌, ◌*ℤ◌, int_lt, int_div, unsigned_abs, bytes_eq}
 use Rattle.std.specs.Int.{int_min, int_max}
@@ -17,11 +21,11 @@ use Rattle.suit_plans.specs.declared.defence.Defence.{Defence}
 use Rattle.suit_plans.specs.Masses.{Shares, count_of, weight_of}
 use Rattle.suit_plans.specs.Orders.{same_class_history}
 use Rattle.suit_plans.specs.Properness.{sum_of}
-use Rattle.suit_program.specs.Points.{Column, Held, Passed, Point, point_of}
+use Rattle.suit_program.specs.Programs.Points.{Column, Held, Passed, Point, point_of}
 use Rattle.suit_program.specs.Programs.{Limit, Answered, Shared, columns, limits}
 use Rattle.suit_program.specs.Supports.{Support, declarer_chooses, defence_chooses, is_reached, layouts_of}
 use Rattle.suit_program.specs.Supports.{reached_histories, supported_moves}
-use Rattle.suit_program.specs.Worths.{passed}
+use Rattle.suit_program.specs.Programs.Worths.{passed}
 
 -- ---- masses that are corrected as they are read
 
@@ -190,6 +194,6 @@ defence_of question support prices scale = record {
 
 -- whether one of the denominators is past the limit of plans; so it is where a least common multiple on the way to the
 -- plan's leaves the range of numbers, since each divides the last one
-unfoldable pub is_wide : Question → Support → List Part → ℤ → Bool
-is_wide question support parts scale =
+unfoldable pub is_too_wide : Question → Support → List Part → ℤ → Bool
+is_too_wide question support parts scale =
     int_lt MOST_DEN (plan_den question support parts) || int_lt MOST_DEN scale

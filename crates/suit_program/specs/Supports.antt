@@ -1,4 +1,6 @@
 -- Supports: at each turn the first move and some more. And what play with the moves of a support reaches.
+pub mod Additions
+pub mod Marks
 use Rattle.std.specs.Prelude.{ℕ, zero, suc, ◌&&◌, ◌||◌, nat_lt, Bool, true, false, List, [], ◌∷◌, ◌++◌, length}
 use Rattle.std.specs.Prelude.{filter, not, bytes_eq, if◌then◌else◌}
 use Rattle.std.specs.List.{flat_map, list_any}

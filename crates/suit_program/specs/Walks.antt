@@ -1,11 +1,20 @@
 -- Walks over the reached class histories, for the contracts of private functions.
+pub mod AnswerRows
+pub mod DefenceLists
+pub mod DefenceWalks
+pub mod LedgerOf
+pub mod Ledgers
+pub mod PlanWalks
+pub mod Reaches
+pub mod SupportSizes
+pub mod Writing
 use Rattle.std.specs.Prelude.{◌≡◌, ℕ, ◌+◌, ◌-◌, ◌≤◌, List, ◌++◌, drop, length}
 use Rattle.std.specs.List.{flat_map}
 use Rattle.suit_game.specs.declared.question.Question.{Question}
 use Rattle.suit_game.specs.declared.limits.TheConstants.{MOST_MOVES}
 use Rattle.suit_classes.specs.ClassMoves.{ClassHistory}
-use Rattle.suit_program.specs.declared.reach.Reach.{Reach}
-use Rattle.suit_program.specs.Reaches.{IsReach}
+use Rattle.suit_program.specs.declared.walks.reach.Reach.{Reach}
+use Rattle.suit_program.specs.Walks.Reaches.{IsReach}
 use Rattle.suit_program.specs.Supports.{Support, histories_from}
 
 -- what stands at the reached class histories from one on, in their order

@@ -1,37 +1,16 @@
 //! Supports, their programs, and the plans and defences that are read from an optimum: the definitions, and their laws.
 #![tactic(auto)]
 
-mod answer_rows;
-mod columns;
-mod defence_reader;
-mod defence_walk;
-mod denominators;
-mod draft;
-mod drafting;
-pub mod examples;
-pub mod laws;
-mod limits;
-mod mark;
-mod node_moves;
-mod plan_den;
-mod plan_end;
-mod plan_of_optimum;
-mod plan_reader;
+mod duality;
 mod programs;
-mod reach;
-mod reading;
-mod shares;
-mod sizes;
-mod support;
-#[cfg(test)]
-mod tests;
-mod turn;
-mod walk;
+mod readings;
+mod supports;
+mod walks;
 
-pub use limits::MOST_SIZE;
-pub use plan_end::PlanEnd;
+pub use duality::laws;
+pub use programs::sizes::size;
 pub use programs::{program, sparse_program};
-pub use reading::plans_of;
-pub use sizes::size;
+pub use readings::plan_end::PlanEnd;
+pub use readings::{examples, plans_of};
 pub use suit_layouts::Memory;
-pub use support::Support;
+pub use supports::support::Support;

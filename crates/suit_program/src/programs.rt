@@ -4,24 +4,26 @@ ghost use Rattle.std.specs.Prelude.{Vec};
 ghost use Rattle.std.specs.Global.{Global};
 ghost use Rattle.suit_linear.specs.Sparse.{dense, sum_in};
 ghost use Rattle.suit_linear.specs.declared.sparse.Entry.{Entry};
-ghost use Rattle.suit_program.specs.Drafted.{sparse_row};
-ghost use Rattle.suit_program.specs.Drafts.{entries_of};
-ghost use Rattle.suit_program.specs.Marks.{support_seen};
+ghost use Rattle.suit_program.specs.Walks.LedgerOf.{sparse_row};
+ghost use Rattle.suit_program.specs.Walks.Ledgers.{entries_of};
+ghost use Rattle.suit_program.specs.Supports.Marks.{support_seen};
 ghost use Rattle.suit_program.specs.Programs.{program_of};
-ghost use Rattle.suit_program.specs.Sized.{IsSized};
-ghost use Rattle.suit_program.specs.declared.draft.Posting.{Posting};
+ghost use Rattle.suit_program.specs.Programs.Sized.{IsSized};
+ghost use Rattle.suit_program.specs.declared.walks.ledger.Posting.{Posting};
 
-use super::draft::Posting;
-use super::drafting::{ONE, drafted};
-use super::{Memory, Support};
+use crate::walks::ledger::Posting;
+use crate::walks::ledger_of::{ONE, ledger_of};
+use crate::{Memory, Support};
 use std::alloc::{AllocError, Global};
 use suit_linear::{
     Entries, Entry, Numbers, Program, SparseProgram, SparseRow, SparseRows, numbers_of,
 };
 use suit_tree::Tree;
 
+pub(crate) mod sizes;
+
 /// The program of a support, whose rows name only the columns that they have a part in. Its greatest objective, with
-/// what rests on no column, is what the game of the support is worth. The support's size is at most `MOST_SIZE`.
+/// what rests on no column, is what the game of the support is worth. The support's size is at most `MOST_SUPPORT`.
 ///
 /// # Errors
 ///
@@ -35,10 +37,10 @@ pub fn sparse_program(
     ensures { IfOk result (λ program. (case : IsSized tree.now support.now)
         → dense program ≡ program_of case.question (support_seen case.question support.now)) }
 {
-    let draft = drafted(alloc, tree, support)?;
-    let mut lists = entries_by_row(alloc, &draft.postings, draft.rows as usize)?;
+    let ledger = ledger_of(alloc, tree, support)?;
+    let mut lists = entries_by_row(alloc, &ledger.postings, ledger.rows as usize)?;
     let objective = lists.remove(0);
-    let costs = numbers_of(alloc, &objective, draft.columns as usize)?;
+    let costs = numbers_of(alloc, &objective, ledger.columns as usize)?;
     let rows = rows_of(alloc, lists)?;
     Ok(SparseProgram {
         costs: Numbers::of(costs),
@@ -46,7 +48,7 @@ pub fn sparse_program(
     })
 }
 
-/// The program of a support with all entries. The support's size is at most `MOST_SIZE`.
+/// The program of a support with all entries. The support's size is at most `MOST_SUPPORT`.
 ///
 /// # Errors
 ///

@@ -1,4 +1,4 @@
-use Rattle.suit_program.proofs.RowLists.{AreEmpty}
+use Rattle.suit_program.proofs.lemmas.Programs.EntriesByRow.{AreEmpty}
 use Rattle.suit_program.proofs.programs.empty_lists.Given as goal
 
 abbrev pub invariant-loop-index : goal.invariant-loop-index

@@ -1,7 +1,7 @@
 use Rattle.std.proofs.Common.{◌<◌, get_or, arith}
 use Rattle.std.proofs.lemmas.List.Elements.{Contains-get_or}
 use Rattle.std.specs.Prelude.{pos}
-use Rattle.suit_program.specs.declared.draft.Posting.{Posting}
+use Rattle.suit_program.specs.declared.walks.ledger.Posting.{Posting}
 use Rattle.suit_program.proofs.programs.entries_by_row.Goals as goal
 
 pub index_mut-requires : goal.index_mut-requires

@@ -1,7 +1,7 @@
 use Rattle.std.specs.Prelude.{◌≡◌, map, Vec}
 use Rattle.std.specs.Global.{Global}
 use Rattle.suit_linear.specs.declared.sparse.Entry.{Entry}
-use Rattle.suit_program.specs.Drafted.{sparse_row}
+use Rattle.suit_program.specs.Walks.LedgerOf.{sparse_row}
 use Rattle.suit_program.proofs.programs.rows_of.Given as goal
 
 abbrev pub invariant-loop-entries : goal.invariant-loop-entries

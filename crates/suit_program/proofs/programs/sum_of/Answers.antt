@@ -5,7 +5,7 @@ use Rattle.std.specs.Int.{w64, w128}
 use Rattle.std.proofs.lemmas.Int.{to_z-of_z, fits_signed_from_abs}
 use lib.Signed.{nat_abs-le}
 use Rattle.suit_linear.specs.declared.sparse.Entry.{Entry}
-use Rattle.suit_program.proofs.EntrySums.{IsSummed, nothing_added, entry_added, entry_past, grown}
+use Rattle.suit_program.proofs.lemmas.Programs.SumOfAColumn.{IsSummed, nothing_added, entry_added, entry_past, grown}
 use Rattle.suit_program.proofs.programs.sum_of.Goals as goal
 use Rattle.suit_program.proofs.programs.sum_of.Goals.{then-entries-index, else-entries-index}
 

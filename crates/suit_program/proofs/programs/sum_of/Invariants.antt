@@ -1,4 +1,4 @@
-use Rattle.suit_program.proofs.EntrySums.{IsSummed}
+use Rattle.suit_program.proofs.lemmas.Programs.SumOfAColumn.{IsSummed}
 use Rattle.suit_program.proofs.programs.sum_of.Given as goal
 
 abbrev pub invariant-loop-index : goal.invariant-loop-index

@@ -1,7 +1,0 @@
-use Rattle.std.proofs.Common.{◌≡◌}
-use Rattle.std.specs.List.{flat_map}
-use Rattle.suit_program.specs.DefenceLists.{rows_of}
-use Rattle.suit_program.proofs.defence_walk.joined.Given as goal
-
-abbrev pub invariant-loop-list : goal.invariant-loop-list
-invariant-loop-list l = l.all.items ≡ flat_map rows_of l.yielded

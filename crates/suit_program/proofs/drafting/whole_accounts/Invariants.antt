@@ -1,9 +1,0 @@
-use Rattle.std.proofs.Common.{◌≡◌, [], get_or, map, pos}
-use Rattle.std.specs.List.{range_with_len}
-use Rattle.suit_program.proofs.drafting.whole_accounts.Given as goal
-
-abbrev pub invariant-loop-index : goal.invariant-loop-index
-invariant-loop-index l =
-    l.accounts.items
-    ≡ map (λ index. record { index = index; row = 0; factor = pos (get_or l.layouts index ([], 0)).1 })
-    (range_with_len 0 l.index)

@@ -1,5 +1,0 @@
-use Rattle.suit_program.proofs.PlanLaws.{read_plans_are_proper}
-use Rattle.suit_program.proofs.laws.read_plans_are_proper.Goals as goal
-
-pub returns : goal.returns
-returns c = read_plans_are_proper

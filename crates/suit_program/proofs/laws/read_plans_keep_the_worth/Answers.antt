@@ -1,5 +1,0 @@
-use Rattle.suit_program.proofs.PlanLaws.{read_plans_keep_the_worth}
-use Rattle.suit_program.proofs.laws.read_plans_keep_the_worth.Goals as goal
-
-pub returns : goal.returns
-returns c = read_plans_keep_the_worth

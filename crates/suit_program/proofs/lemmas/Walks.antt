@@ -1,0 +1,37 @@
+-- Lemmas on walks over what is reached, for the proofs of private functions: what a reach holds, how many rows
+-- and columns there are, how a plan and a defence are read, and how a program is written into a ledger.
+pub mod AccountsAfterAMove
+pub mod AccountsAtTheStart
+pub mod AccountsByLayout
+pub mod AccountsHandedOn
+pub mod DefenceAtATurn
+pub mod DefenceByLayout
+pub mod DefenceFromTheStart
+pub mod DefenceGoesOn
+pub mod DefenceInALayout
+pub mod HowManyAnswers
+pub mod HowManyColumns
+pub mod KeptSoFar
+pub mod LedgerByPostings
+pub mod LedgerFromTheStart
+pub mod LedgerIsTheProgram
+pub mod NextByNodes
+pub mod NoNode
+pub mod NodeByNode
+pub mod NodesBelow
+pub mod ObjectiveIsOwed
+pub mod OwedAtTheDefence
+pub mod OwedIsSharedOut
+pub mod PlanAtATurn
+pub mod PlanFromTheStart
+pub mod PlanGoesOn
+pub mod ReachAtTheStart
+pub mod ReachTells
+pub mod RoomToWrite
+pub mod SizeFromHere
+pub mod WhatAWalkGathers
+pub mod WritingAtATurn
+pub mod WritingByLayout
+pub mod WritingGoesOn
+pub mod WritingInALayout
+pub mod WrittenAtATurn

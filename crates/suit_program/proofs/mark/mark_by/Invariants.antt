@@ -1,6 +1,0 @@
-use Rattle.std.proofs.Common.{◌≡◌, drop}
-use Rattle.suit_program.specs.Marks.{mark_by}
-use Rattle.suit_program.proofs.mark.mark_by.Given as goal
-
-abbrev pub invariant-loop-mark : goal.invariant-loop-mark
-invariant-loop-mark l = mark_by l.mv (drop l.mark-index l.marks) ≡ mark_by l.mv l.marks

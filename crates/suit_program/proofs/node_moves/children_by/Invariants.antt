@@ -1,6 +1,0 @@
-use Rattle.std.proofs.Common.{◌≡◌, drop}
-use Rattle.suit_program.specs.Additions.{children_by}
-use Rattle.suit_program.proofs.node_moves.children_by.Given as goal
-
-abbrev pub invariant-loop-node : goal.invariant-loop-node
-invariant-loop-node l = children_by (drop l.node-index l.nodes) l.mv ≡ children_by l.nodes l.mv

@@ -1,6 +1,0 @@
-use Rattle.std.proofs.Common.{refl}
-use Rattle.suit_program.proofs.SeenSupports.{first_seen}
-use Rattle.suit_program.proofs.support.Support.first.Goals as goal
-
-pub returns : goal.returns
-returns c = λ question. first_seen question _ refl c.none.ensures.names c.new.ensures.items

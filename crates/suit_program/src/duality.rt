@@ -1,0 +1,2 @@
+//! Laws of plans, defences and programs. They speak of no tree.
+pub mod laws;
