@@ -31,7 +31,7 @@ module _ (question : Question) (valid : IsValid question) where
   rounds_come zero support round within = absurd (omega (arith, within))
   rounds_come (suc more) support round within =
       by_end (λ next fewer. rounds_come more next (suc round) fewer) (round_end question support)
-      (reads question support valid)
+      (reads question question.pivots support valid)
     where
       by_end : ((next : Support) → lacking question next < more
           → fate_from question more next (suc round) ≢ Err ends.Memory) → (end : RoundEnd)
@@ -56,7 +56,7 @@ module _ (question : Question) (valid : IsValid question) where
   answers_from Fits fits zero support round answer is = absurd (cc)
   answers_from Fits fits (suc more) support round answer is =
       by_end (λ next same. answers_from Fits fits more next (suc round) answer same) (round_end question support)
-      (reads question support valid) is
+      (reads question question.pivots support valid) is
     where
       by_end : ((next : Support) → fate_from question more next (suc round) ≡ Ok answer → Fits answer)
           → (end : RoundEnd) → ReadsAt question support end

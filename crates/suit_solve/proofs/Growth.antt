@@ -24,12 +24,12 @@ use Rattle.suit_plans.specs.ReplyLaws.{counts_at}
 use Rattle.suit_plans.proofs.HistoryOrder.{same_class_history-itself}
 use Rattle.suit_plans.proofs.PublicMoves.{passing_some, some_passing}
 use Rattle.suit_plans.proofs.WhoseTurns.{their_turn}
-use Rattle.suit_program.specs.ReadingLaws.{defence_read, plan_read}
+use Rattle.suit_program.specs.Readings.ReadingLaws.{defence_read, plan_read}
 use Rattle.suit_program.specs.Readings.{defence_of, parts_of, plan_at, plan_den, plan_point}
 use Rattle.suit_program.specs.Supports.{Support, are_new, has_declarers, has_defences, layouts_of, legal_moves, names}
 use Rattle.suit_program.specs.Supports.{supported_moves, with_moves}
-use Rattle.suit_program.proofs.MetReadings.{supports_grow}
-use Rattle.suit_program.proofs.SupportedTurns.{own_supported}
+use Rattle.suit_program.proofs.lemmas.Duality.ReadingsMeet.{supports_grow}
+use Rattle.suit_program.proofs.lemmas.Supports.TurnCases.{own_supported}
 use Rattle.suit_solve.specs.Fates.{lacking}
 use Rattle.suit_solve.proofs.Lacking.{NamesMore, lacks_less, named_first}
 use Rattle.suit_solve.proofs.ReplyPlaces.{own_place, their_place}

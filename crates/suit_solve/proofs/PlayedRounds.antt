@@ -1,8 +1,8 @@
 -- How a round ends by what was played of it (`played_past`, `played_read`, `met_so`, `apart_so`).
-use Rattle.std.proofs.Common.{◌≡◌, ℕ, ◌<◌, ◌≤◌, ◌-◌, ◌^◌, Bool, true, false, Result, Ok, Err, length, refl, sym, ap}
-use Rattle.std.proofs.Common.{◌∙◌, subst}
-use Rattle.std.proofs.Common.{min, nat_lt, arith}
-use Rattle.std.specs.Prelude.{◌&&◌, ℤ, pos, ◌*ℤ◌, ◌<ℤ◌, ◌≤ℤ◌, if◌then◌else◌, unsigned_abs}
+use Rattle.std.proofs.Common.{◌≡◌, ℕ, ◌<◌, ◌≤◌, ◌-◌, ◌^◌, Bool, true, false, Ok, Err, length, refl, sym, ap}
+use Rattle.std.proofs.Common.{◌∙◌}
+use Rattle.std.proofs.Common.{min, arith}
+use Rattle.std.specs.Prelude.{◌&&◌, ℤ, pos, ◌*ℤ◌, ◌<ℤ◌, if◌then◌else◌}
 use Rattle.std.specs.Ordering.{int_eq}
 use Rattle.std.proofs.lemmas.Bool.{and_from, and_parts, le-ltb, lt-ltb, false≢true}
 use Rattle.std.proofs.lemmas.Bool.Decides.{Decides-int_eq}
@@ -19,22 +19,20 @@ use Rattle.suit_plans.specs.declared.defence.Defence.{Defence}
 use Rattle.suit_plans.specs.Properness.{IsProperDefence, IsProperPlan}
 use Rattle.suit_linear.specs.declared.program.Program.{Program}
 use Rattle.suit_linear.specs.declared.ends.Optimum.{Optimum}
-use Rattle.suit_linear.specs.declared.ends.SimplexEnd.{SimplexEnd}
 use Rattle.suit_linear.specs.declared.ends.SimplexEnd.TheVariants as ends
 use Rattle.suit_linear.specs.Ends.{IsOptimumOf, Tells}
 use Rattle.suit_linear.specs.Tableaus.{Tableau}
 use Rattle.suit_linear.specs.Runs.{RunEnd, AtOptimum, AtBudget, AtWide, AtRay, run_end}
 use Rattle.suit_program.specs.Programs.{program_of, size_of}
-use Rattle.suit_program.specs.ReadingLaws.{IsPriced, IsReadable, defence_read, plan_read}
-use Rattle.suit_program.specs.Readings.{is_wide, parts_of}
+use Rattle.suit_program.specs.Readings.ReadingLaws.{defence_read, plan_read}
+use Rattle.suit_program.specs.Readings.{is_too_wide, parts_of}
 use Rattle.suit_program.specs.Supports.{Support}
-use Rattle.suit_program.proofs.FormedPrograms.{programs_are_well_formed}
+use Rattle.suit_program.proofs.lemmas.Programs.WellFormed.{programs_are_well_formed}
 use Rattle.suit_solve.specs.Comparing.{answer_of, are_met}
 use Rattle.suit_answer.specs.Reduced.{fraction}
-use Rattle.suit_solve.specs.LastTableaus.{optimum_at}
 use Rattle.suit_solve.specs.Limits.{most_size}
-use Rattle.suit_solve.specs.Rounds.{RoundEnd, PastSize, PastPivots, PastWidth, Met, Apart, compared, ran_end, read_end}
-use Rattle.suit_solve.specs.Rounds.{round_end}
+use Rattle.suit_solve.specs.Rounds.{PastSize, PastPivots, PastWidth, Met, Apart, compared, ran_end, read_end}
+use Rattle.suit_solve.specs.Rounds.{round_within}
 use Rattle.suit_answer.proofs.ReducedFractions.{fraction_exact}
 use Rattle.suit_solve.proofs.LastTableaus.{last_is}
 use Rattle.suit_answer.proofs.ReducedFractions.{whole_over}
@@ -42,16 +40,16 @@ use Rattle.suit_solve.proofs.ShownAnswers.{defence_over, plan_over}
 
 -- ---- the size
 
-module _ (question : Question) (support : Support) where
+module _ (question : Question) (pivots : ℕ) (support : Support) where
   abbrev program : Program
   program = program_of question support
 
   -- a size that is told to be past the limit is
   pub played_past : (told : ℕ) → told ≡ min (size_of question support) (2 ^ 32 - 1) → most_size question < told
-      → round_end question support ≡ PastSize
-  unfolding round_end
+      → round_within question pivots support ≡ PastSize
+  unfolding round_within
   played_past told is past =
-      ap (λ (b : Bool). if b then PastSize else ran_end question support (run_end program question.pivots))
+      ap (λ (b : Bool). if b then PastSize else ran_end question support (run_end program pivots))
       (lt-ltb (most_size question) (size_of question support) (more (size_of question support) is past))
     where
       more : (size : ℕ) → told ≡ min size (2 ^ 32 - 1) → most_size question < told → most_size question < size
@@ -69,14 +67,14 @@ module _ (question : Question) (support : Support) where
 
   module _ (few : size_of question support ≤ most_size question) where
     -- then the round ends as its run does
-    ran : round_end question support ≡ ran_end question support (run_end program question.pivots)
-    unfolding round_end
-    ran = ap (λ (b : Bool). if b then PastSize else ran_end question support (run_end program question.pivots))
+    ran : round_within question pivots support ≡ ran_end question support (run_end program pivots)
+    unfolding round_within
+    ran = ap (λ (b : Bool). if b then PastSize else ran_end question support (run_end program pivots))
         (le-ltb (most_size question) (size_of question support) few)
 
-    pub played_pivots : Tells program (run_end program question.pivots) (Err ends.Pivots)
-        → round_end question support ≡ PastPivots
-    played_pivots told = ran ∙ by_end (run_end program question.pivots) told
+    pub played_pivots : Tells program (run_end program pivots) (Err ends.Pivots)
+        → round_within question pivots support ≡ PastPivots
+    played_pivots told = ran ∙ by_end (run_end program pivots) told
       where
         by_end : (end : RunEnd) → Tells program end (Err ends.Pivots) → ran_end question support end ≡ PastPivots
         by_end (AtOptimum tableau) is = absurd is
@@ -84,9 +82,9 @@ module _ (question : Question) (support : Support) where
         by_end (AtWide pivot) is = absurd is
         by_end AtRay is = absurd is
 
-    pub played_wide : (pivot : ℕ) → Tells program (run_end program question.pivots) (Err (ends.Wide pivot))
-        → round_end question support ≡ PastWidth
-    played_wide pivot told = ran ∙ by_end (run_end program question.pivots) told
+    pub played_wide : (pivot : ℕ) → Tells program (run_end program pivots) (Err (ends.Wide pivot))
+        → round_within question pivots support ≡ PastWidth
+    played_wide pivot told = ran ∙ by_end (run_end program pivots) told
       where
         by_end : (end : RunEnd) → Tells program end (Err (ends.Wide pivot))
             → ran_end question support end ≡ PastWidth
@@ -96,9 +94,9 @@ module _ (question : Question) (support : Support) where
         by_end AtRay is = absurd is
 
     module _ (valid : IsValid question) (optimum : Optimum)
-        (told : Tells program (run_end program question.pivots) (Ok optimum)) where
-      ended : (end : RunEnd) → run_end program question.pivots ≡ end → Tells program end (Ok optimum)
-          → (tableau : Tableau) × (run_end program question.pivots ≡ AtOptimum tableau)
+        (told : Tells program (run_end program pivots) (Ok optimum)) where
+      ended : (end : RunEnd) → run_end program pivots ≡ end → Tells program end (Ok optimum)
+          → (tableau : Tableau) × (run_end program pivots ≡ AtOptimum tableau)
           × IsOptimumOf program tableau optimum
       ended (AtOptimum tableau) e is = (tableau, e, is)
       ended AtBudget e is = absurd is
@@ -107,19 +105,19 @@ module _ (question : Question) (support : Support) where
 
       -- the numbers of an optimum's point are as many as the columns
       pub played_columns : length optimum.point ≡ length program.costs
-      played_columns = (ended (run_end program question.pivots) refl told).2.columns
+      played_columns = (ended (run_end program pivots) refl told).2.columns
 
       -- and the round ends as its reading does
-      pub played_read : round_end question support ≡ read_end question support optimum
+      pub played_read : round_within question pivots support ≡ read_end question support optimum
       played_read =
-          let at = ended (run_end program question.pivots) refl told in
+          let at = ended (run_end program pivots) refl told in
           ran ∙ ap (ran_end question support) at.1
-          ∙ ap (read_end question support) (sym (last_is program question.pivots
+          ∙ ap (read_end question support) (sym (last_is program pivots
           (programs_are_well_formed question support valid) at.0 at.1 optimum at.2))
 
       -- too wide
-      pub read_wide : is_wide question support (parts_of optimum.point) optimum.scale ≡ true
-          → round_end question support ≡ PastWidth
+      pub read_wide : is_too_wide question support (parts_of optimum.point) optimum.scale ≡ true
+          → round_within question pivots support ≡ PastWidth
       unfolding read_end
       read_wide wide = played_read
           ∙ ap (λ (b : Bool). if b then PastWidth
@@ -127,9 +125,9 @@ module _ (question : Question) (support : Support) where
 
       -- or compared
       pub read_compared : (plan : Plan) (defence : Defence)
-          → is_wide question support (parts_of optimum.point) optimum.scale ≡ false
+          → is_too_wide question support (parts_of optimum.point) optimum.scale ≡ false
           → plan ≡ plan_read question support optimum → defence ≡ defence_read question support optimum
-          → round_end question support ≡ compared question plan defence
+          → round_within question pivots support ≡ compared question plan defence
       unfolding read_end
       read_compared plan defence narrow plays holds =
           played_read

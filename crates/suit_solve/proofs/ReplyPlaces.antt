@@ -32,7 +32,7 @@ use Rattle.suit_plans.proofs.RowLimits.{allowed_short}
 use Rattle.suit_tree.specs.CountedHistories.{counted_histories}
 use Rattle.suit_tree.proofs.ListedHistories.{Contains-continued, GoesOn}
 use Rattle.suit_program.specs.Supports.{first_support, layouts_of, legal_moves}
-use Rattle.suit_program.proofs.SupportedTurns.{legal_going}
+use Rattle.suit_program.proofs.lemmas.Supports.TurnCases.{legal_going}
 
 -- a move is legal at a class history that is counted in a class layout, where play is not decided
 pub record IsPlace (question : Question) (layout : Counts × ℕ) (history : ClassHistory) (move : ClassMove) : Type 0

@@ -1,5 +1,5 @@
 -- What has been read where a round has an end (`reads`).
-use Rattle.std.proofs.Common.{◌≡◌, Bool, true, false, List, length, refl}
+use Rattle.std.proofs.Common.{◌≡◌, ℕ, Bool, true, false, List, length, refl}
 use Rattle.std.specs.Prelude.{⊤, nat_lt, if◌then◌else◌}
 use Rattle.suit_game.specs.declared.question.Question.{Question}
 use Rattle.suit_game.specs.Validity.{IsValid}
@@ -16,17 +16,17 @@ use Rattle.suit_linear.specs.Tableaus.{Tableau}
 use Rattle.suit_linear.specs.Runs.{RunEnd, AtOptimum, AtBudget, AtWide, AtRay, run_end}
 use Rattle.suit_linear.proofs.RunSteps.{bounded_run_meets_no_ray}
 use Rattle.suit_program.specs.Programs.{program_of, size_of}
-use Rattle.suit_program.specs.ReadingLaws.{IsPriced, IsReadable, defence_read, plan_read}
-use Rattle.suit_program.specs.Readings.{is_wide, parts_of}
+use Rattle.suit_program.specs.Readings.ReadingLaws.{IsPriced, IsReadable, defence_read, plan_read}
+use Rattle.suit_program.specs.Readings.{is_too_wide, parts_of}
 use Rattle.suit_program.specs.Supports.{Support}
-use Rattle.suit_program.proofs.BoundedPrograms.{programs_are_bounded}
-use Rattle.suit_program.proofs.FormedPrograms.{programs_are_well_formed}
+use Rattle.suit_program.proofs.lemmas.Programs.ObjectiveIsBounded.{programs_are_bounded}
+use Rattle.suit_program.proofs.lemmas.Programs.WellFormed.{programs_are_well_formed}
 use Rattle.suit_answer.specs.declared.answer.Answer.{Answer}
 use Rattle.suit_solve.specs.Comparing.{answer_of, are_met}
 use Rattle.suit_solve.specs.LastTableaus.{optimum_at}
 use Rattle.suit_solve.specs.Limits.{most_size}
 use Rattle.suit_solve.specs.Rounds.{RoundEnd, PastSize, PastPivots, PastWidth, Met, Apart, Limitless, compared}
-use Rattle.suit_solve.specs.Rounds.{ran_end, read_end, round_end}
+use Rattle.suit_solve.specs.Rounds.{ran_end, read_end, round_within}
 use Rattle.suit_solve.proofs.LastTableaus.{last_dual, last_holds, last_primal}
 
 -- a plan and a defence have been read from an optimum of the program of a support
@@ -62,7 +62,7 @@ ReadsAt question support (Met answer) = IsMetAt question support answer
 ReadsAt question support (Apart own theirs) = IsApartAt question support own theirs
 ReadsAt question support Limitless = ⊥
 
-module _ (question : Question) (support : Support) (valid : IsValid question) where
+module _ (question : Question) (pivots : ℕ) (support : Support) (valid : IsValid question) where
   abbrev program : Program
   program = program_of question support
 
@@ -92,18 +92,19 @@ module _ (question : Question) (support : Support) (valid : IsValid question) wh
       by_test false e = record { optimum = optimum; read = read; apart = e; own_is = refl; theirs_is = refl }
 
   read_at : nat_lt (most_size question) (size_of question support) ≡ false → (tableau : Tableau)
-      → run_end program question.pivots ≡ AtOptimum tableau
+      → run_end program pivots ≡ AtOptimum tableau
       → ReadsAt question support (read_end question support (optimum_at program tableau))
   unfolding read_end ReadsAt
   read_at few tableau ended =
-      by_width (optimum_at program tableau) (last_holds program question.pivots formed tableau ended).columns
-      (last_primal program question.pivots formed tableau ended)
-      (last_dual program question.pivots formed tableau ended)
-      (is_wide question support (parts_of (optimum_at program tableau).point) (optimum_at program tableau).scale) refl
+      by_width (optimum_at program tableau) (last_holds program pivots formed tableau ended).columns
+      (last_primal program pivots formed tableau ended)
+      (last_dual program pivots formed tableau ended)
+      (is_too_wide question support (parts_of (optimum_at program tableau).point) (optimum_at program tableau).scale)
+      refl
     where
       by_width : (optimum : Optimum) → length optimum.point ≡ length program.costs → IsPrimalOptimum program optimum
           → IsDualOptimum program optimum → (b : Bool)
-          → is_wide question support (parts_of optimum.point) optimum.scale ≡ b
+          → is_too_wide question support (parts_of optimum.point) optimum.scale ≡ b
           → ReadsAt question support (if b then PastWidth
           else compared question (plan_read question support optimum) (defence_read question support optimum))
       by_width optimum columns primal dual true e = tt
@@ -124,21 +125,21 @@ module _ (question : Question) (support : Support) (valid : IsValid question) wh
       })
 
   ran_at : nat_lt (most_size question) (size_of question support) ≡ false → (end : RunEnd)
-      → run_end program question.pivots ≡ end → ReadsAt question support (ran_end question support end)
+      → run_end program pivots ≡ end → ReadsAt question support (ran_end question support end)
   unfolding ReadsAt
   ran_at few (AtOptimum tableau) ended = read_at few tableau ended
   ran_at few AtBudget ended = tt
   ran_at few (AtWide pivot) ended = tt
   ran_at few AtRay ended =
-      bounded_run_meets_no_ray program question.pivots formed (programs_are_bounded question support valid) ended
+      bounded_run_meets_no_ray program pivots formed (programs_are_bounded question support valid) ended
 
   -- what has been read where the round of a support ends
-  pub reads : ReadsAt question support (round_end question support)
-  unfolding round_end ReadsAt
+  pub reads : ReadsAt question support (round_within question pivots support)
+  unfolding round_within ReadsAt
   reads = by_size (nat_lt (most_size question) (size_of question support)) refl
     where
       by_size : (b : Bool) → nat_lt (most_size question) (size_of question support) ≡ b
           → ReadsAt question support (if b then PastSize
-          else ran_end question support (run_end program question.pivots))
+          else ran_end question support (run_end program pivots))
       by_size true e = e
-      by_size false e = ran_at e (run_end program question.pivots) refl
+      by_size false e = ran_at e (run_end program pivots) refl

@@ -1,10 +1,9 @@
 -- An answer of a round shows its value (`shown`).
-use Rattle.std.proofs.Common.{◌≡◌, ◌<◌, ℕ, true, sym, ap, ◌∙◌, subst, arith}
-use Rattle.std.specs.Prelude.{ℤ, pos, ◌*ℤ◌, ◌<ℤ◌, ◌≤ℤ◌}
+use Rattle.std.proofs.Common.{◌≡◌, true, sym, ap, ◌∙◌, subst}
+use Rattle.std.specs.Prelude.{ℤ, pos, ◌*ℤ◌, ◌<ℤ◌}
 use Rattle.std.proofs.lemmas.Bool.Decides.{Decides-int_eq}
-use Rattle.std.proofs.lemmas.Int.{ints}
 use Rattle.suit_num.proofs.FractionLaws.{fraction_same_trans}
-use Rattle.suit_num.proofs.IntegerLaws.{int_le-true, mul_assoc, mul_positive}
+use Rattle.suit_num.proofs.IntegerLaws.{int_le-true, mul_assoc}
 use Rattle.suit_game.specs.declared.question.Question.{Question}
 use Rattle.suit_game.specs.Layouts.{total}
 use Rattle.suit_game.specs.Validity.{IsValid}
@@ -15,8 +14,8 @@ use Rattle.suit_plans.specs.Properness.{IsProperDefence, IsProperPlan}
 use Rattle.suit_plans.proofs.ProperDefences.{proper_defence}
 use Rattle.suit_plans.proofs.ProperPlans.{proper_plan}
 use Rattle.suit_program.specs.Supports.{Support}
-use Rattle.suit_program.proofs.DefenceLaws.{read_defences_are_proper}
-use Rattle.suit_program.proofs.PlanLaws.{read_plans_are_proper}
+use Rattle.suit_program.proofs.lemmas.Readings.DefencesHoldTheWorth.{read_defences_are_proper}
+use Rattle.suit_program.proofs.lemmas.Readings.PlansKeepTheWorth.{read_plans_are_proper}
 use Rattle.suit_answer.specs.declared.answer.Answer.{Answer}
 use Rattle.suit_answer.specs.Reduced.{fraction}
 use Rattle.suit_answer.proofs.ReducedFractions.{fraction_exact, some_from_one, whole_over}

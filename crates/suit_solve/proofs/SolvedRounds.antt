@@ -1,14 +1,14 @@
--- A question on its way through the rounds (`first_round`, `next_round`).
-use Rattle.std.proofs.Common.{◌≡◌, ℕ, zero, suc, ◌+◌, ◌*◌, ◌-◌, ◌^◌, ◌<◌, ◌≤◌, Bool, true, false, List, [], ◌∷◌, length}
+-- A question on its way through the rounds (`first_round`, `next_legal`, `next_at`).
+use Rattle.std.proofs.Common.{◌≡◌, ℕ, zero, suc, ◌+◌, ◌*◌, ◌^◌, ◌<◌, ◌≤◌, Bool, true, false, List, [], ◌∷◌, length}
 use Rattle.std.proofs.Common.{refl}
-use Rattle.std.proofs.Common.{sym, ap, ◌∙◌, subst, Ok, Err, Result, nat_lt, arith, filter, map}
+use Rattle.std.proofs.Common.{sym, ap, ◌∙◌, subst, Some, None, Ok, Err, arith}
 use Rattle.std.specs.Prelude.{Contains, get_or, not, sum_by, if◌then◌else◌}
-use Rattle.std.specs.List.{AllByRecursion}
 use Rattle.std.proofs.lemmas.Bool.{le-ltb, lt-ltb}
 use Rattle.std.proofs.lemmas.List.Sums.{sum_by-cons}
 use Rattle.suit_cards.specs.Cards.{Counts}
 use Rattle.suit_game.specs.declared.question.Question.{Question}
 use Rattle.suit_game.specs.Validity.{IsValid}
+use Rattle.suit_game.specs.declared.limits.TheConstants.{MOST_NODES}
 use Rattle.suit_game.proofs.ListSums.{length_filter-most}
 use Rattle.suit_classes.specs.declared.class_moves.ClassMove.{ClassMove}
 use Rattle.suit_classes.specs.AllowedHistories.{every_move, is_among}
@@ -24,9 +24,9 @@ use Rattle.suit_tree.specs.Trees.{IsTreeOf}
 use Rattle.suit_tree.specs.TreeEnds.{IsPastBudget}
 use Rattle.suit_tree.proofs.ListedHistories.{counted_exactly}
 use Rattle.suit_tree.specs.CountedHistories.{counted_histories, node_count}
-use Rattle.suit_program.specs.Marks.{AreLegalIn, GoesPastNone, IsOwnMove, IsTheirMove}
-use Rattle.suit_program.specs.ReadingLaws.{defence_read, plan_read}
-use Rattle.suit_program.proofs.SupportedTurns.{own_legal}
+use Rattle.suit_program.specs.Supports.Marks.{AreLegalIn, GoesPastNone, IsOwnMove, IsTheirMove}
+use Rattle.suit_program.specs.Readings.ReadingLaws.{defence_read, plan_read}
+use Rattle.suit_program.proofs.lemmas.Supports.TurnCases.{own_legal}
 use Rattle.suit_plans.proofs.ReplyChoices.{least_choices, most_choices}
 use Rattle.suit_solve.proofs.ReplyPlaces.{own_place, their_place}
 use Rattle.std.proofs.lemmas.List.Elements.{All-from_recursion}
@@ -36,9 +36,10 @@ use Rattle.suit_answer.specs.declared.answer.Answer.{Answer}
 use Rattle.suit_solve.specs.declared.ends.SolveEnd.{SolveEnd}
 use Rattle.suit_solve.specs.declared.ends.SolveEnd.TheVariants as ends
 use Rattle.suit_solve.specs.Ends.{same_end}
-use Rattle.suit_solve.specs.Fates.{Fate, IsEnd, fate, fate_after, fate_from, fate_in_rounds, lacking, lacking_at}
+use Rattle.suit_solve.specs.Fates.{IsEnd, fate, fate_after, fate_from, fate_in_rounds, lacking, lacking_at}
 use Rattle.suit_solve.specs.Plays.{IsRoundEnd}
-use Rattle.suit_solve.specs.Rounds.{RoundEnd, PastSize, PastPivots, PastWidth, Met, Apart, round_end}
+use Rattle.suit_solve.specs.Solving.{IsOnItsWay, IsUnbegun, SolvingView, Steps, first_view}
+use Rattle.suit_solve.specs.Rounds.{RoundEnd, Met, Apart, round_end, round_within}
 use Rattle.suit_solve.proofs.Growth.{apart_less}
 use Rattle.suit_solve.proofs.Rounds.{IsApartAt, ReadsAt, reads}
 
@@ -101,22 +102,29 @@ lacking_few question support =
 
 -- ---- on the way
 
--- a question has come to a support in a round: its fate is what becomes of it from there on, and the round is not late
+-- a question has come to a support in a round: its fate is what becomes of it from there on
 pub record IsAt (question : Question) (support : Support) (round : ℕ) : Type 0 where
   pub more : ℕ
   pub enough : lacking question support < more
   pub fated : fate question ≡ fate_from question more support round
-  pub early : round + lacking question support ≤ lacking question first_support
 
--- a question whose tree was not grown has ended for the same cause
-pub tree_end : (question : Question) (end : TreeEnd) → IsPastBudget (node_count question) question.nodes end
-    → IsEnd question (same_end end)
+-- a question whose tree was not grown has not begun, for the same cause
+pub unbegun : (question : Question) (end : TreeEnd) → IsPastBudget (node_count question) question.nodes end
+    → IsUnbegun question (same_end end)
+unbegun question (grown.Nodes budget) past = past
+unbegun question grown.Memory past = tt
+
+-- and has ended for it
+pub unbegun_end : (question : Question) (end : SolveEnd) → IsUnbegun question end → IsEnd question end
 unfolding fate
-tree_end question (grown.Nodes budget) past =
+unbegun_end question (ends.Nodes budget) past =
     ap (λ (b : Bool). if b then Err (ends.Nodes question.nodes) else fate_in_rounds question)
     (lt-ltb question.nodes (node_count question) past.1)
     ∙ ap (λ (n : ℕ). Err (ends.Nodes n)) (sym past.0)
-tree_end question grown.Memory past = tt
+unbegun_end question (ends.Support round) past = absurd past
+unbegun_end question (ends.Pivots round) past = absurd past
+unbegun_end question (ends.Wide round) past = absurd past
+unbegun_end question ends.Memory past = tt
 
 -- it begins with the support of first moves, where its tree is within the budget
 pub first_round : (question : Question) (support : Support) → node_count question ≤ question.nodes
@@ -128,24 +136,35 @@ first_round question support within is =
       enough = one_more (lacking question first_support);
       fated = ap (λ (b : Bool). if b then Err (ends.Nodes question.nodes) else fate_in_rounds question)
           (le-ltb question.nodes (node_count question) within);
-      early = same (lacking question first_support);
     })
   where
     one_more : (n : ℕ) → n < suc n
     one_more n = omega arith
 
+-- on its way it is from the start
+pub first_under_way : (question : Question) (tree : Tree) (support : Support) → IsValid question
+    → IsTreeOf question tree → node_count question ≤ question.nodes → support ≡ first_support
+    → IsOnItsWay question tree support 0
+first_under_way question tree support valid grown within is =
+    subst (λ (other : Support). IsOnItsWay question tree other 0) (sym is) (record {
+      valid = valid;
+      grown = grown;
+      within = within;
+      early = same (lacking question first_support);
+    })
+  where
     same : (n : ℕ) → 0 + n ≤ n
     same n = omega arith
 
 -- no tree within the budget of any question has so many moves that a round's number is too wide
-pub round_fits : (question : Question) (support : Support) (round : ℕ) → IsValid question
-    → node_count question ≤ question.nodes → IsAt question support round → round < 2 ^ 28
-round_fits question support round valid within at =
-    small (lacking question support) (lacking question first_support) (node_count question) question.nodes at.early
-    (lacking_few question first_support) within valid.nodes_most
+pub round_fits : (question : Question) (tree : Tree) (support : Support) (round : ℕ)
+    → IsOnItsWay question tree support round → round < 2 ^ 28
+round_fits question tree support round way =
+    small (lacking question support) (lacking question first_support) (node_count question) question.nodes way.early
+    (lacking_few question first_support) way.within way.valid.nodes_most
   where
     small : (left first count nodes : ℕ) → round + left ≤ first → first ≤ count * 40 → count ≤ nodes
-        → nodes ≤ 4000000 → round < 2 ^ 28
+        → nodes ≤ MOST_NODES → round < 2 ^ 28
     small left first count nodes early few le most = omega (arith, early, few, le, most)
 
 some_more : (less more : ℕ) → less < more → (left : ℕ) × (more ≡ suc left)
@@ -159,6 +178,81 @@ past_none : (question : Question) → IsValid question → (layout : Counts × �
 past_none question valid layout history listed counted =
     ((counted_exactly question layout.0 history valid
     (Contains-map (λ (other : Counts × ℕ). other.0) (layouts_of question) layout listed)).0 counted).undecided
+
+-- ---- the next round
+
+module _ (question : Question) (pivots : ℕ) (support : Support) (valid : IsValid question) (own : List DeclarerMove)
+    (theirs : List DefenceMove) (ended : round_within question pivots support ≡ Apart own theirs) where
+  apart : IsApartAt question support own theirs
+  unfolding ReadsAt
+  apart = subst (ReadsAt question support) ended (reads question pivots support valid)
+
+  -- the support lacks fewer moves
+  pub next_less : lacking question (with_moves question support own theirs) < lacking question support
+  next_less = apart_less question support own theirs apart
+
+  pub next_under_way : (tree : Tree) (round : ℕ) → IsOnItsWay question tree support round
+      → IsOnItsWay question tree (with_moves question support own theirs) (round + 1)
+  next_under_way tree round way = record {
+    valid = way.valid;
+    grown = way.grown;
+    within = way.within;
+    early = later (lacking question first_support) (lacking question support)
+        (lacking question (with_moves question support own theirs)) way.early next_less;
+  }
+    where
+      later : (first less fewer : ℕ) → round + less ≤ first → fewer < less → round + 1 + fewer ≤ first
+      later first less fewer p q = omega (arith, p, q)
+
+  pub own_move : (entry : DeclarerMove) → Contains own entry → IsOwnMove question entry
+  own_move entry found =
+      let listed = subst (λ (moves : List DeclarerMove). Contains moves entry) (sym apart.own_is) found in
+      let choice = most_choices question (defence_read question support apart.optimum) entry valid listed in
+      let placed = own_place question valid (defence_read question support apart.optimum) entry listed in
+      record {
+        allowed = choice.allowed;
+        past = past_none question valid placed.0 entry.history placed.1.listed placed.1.counted;
+        turn = choice.turn;
+        legal = subst (λ (moves : List ClassMove). Contains moves entry.mv)
+            (sym (own_legal question support placed.0.0 entry.history choice.going choice.turn)) placed.1.legal;
+      }
+
+  pub their_move : (entry : DefenceMove) → Contains theirs entry → IsTheirMove question entry
+  their_move entry found =
+      let listed = subst (λ (moves : List DefenceMove). Contains moves entry) (sym apart.theirs_is) found in
+      let chosen = least_choices question (plan_read question support apart.optimum) entry valid listed in
+      let placed = their_place question valid (plan_read question support apart.optimum) entry listed in
+      record {
+        listed = chosen.0;
+        allowed = placed.0.allowed;
+        past = past_none question valid (get_or (layouts_of question) entry.layout ([], 0)) entry.history
+            placed.0.listed placed.0.counted;
+        turn = placed.1;
+        legal = placed.0.legal;
+      }
+
+  -- both replies may be added to the support
+  abbrev pub next_legal : (tree : Tree) → IsTreeOf question tree → AreLegalIn tree own theirs
+  next_legal tree grown = record {
+    question = question;
+    valid = valid;
+    grown = grown;
+    own_moves = All-from_recursion (IsOwnMove question) own (each_in (IsOwnMove question) own own_move);
+    their_moves = All-from_recursion (IsTheirMove question) theirs (each_in (IsTheirMove question) theirs their_move);
+  }
+
+-- what is seen after a round
+abbrev view_at : Question → Support → ℕ → SolvingView
+view_at question support round = record { question = question; support = support; round = round }
+
+pub next_seen : (question : Question) (round : ℕ) (after wanted : Support) → after ≡ wanted
+    → view_at question after (round + 1) ≡ view_at question wanted (suc round)
+next_seen question round after wanted is =
+    ap (λ (support : Support). view_at question support (round + 1)) is
+    ∙ ap (view_at question wanted) (one_more round)
+  where
+    one_more : (n : ℕ) → n + 1 ≡ suc n
+    one_more n = omega arith
 
 module _ (question : Question) (support : Support) (round : ℕ) (at : IsAt question support round) where
   -- what becomes of a question where a round ends so
@@ -192,74 +286,79 @@ module _ (question : Question) (support : Support) (round : ℕ) (at : IsAt ques
           ∙ ap (λ (n : ℕ). Err (ends.Wide n)) (sym is.1)
       by_end left ends.Memory fated is = tt
 
-  -- ---- the next round
-
+  -- and it goes on to the next round
   module _ (valid : IsValid question) (own : List DeclarerMove) (theirs : List DefenceMove)
       (ended : round_end question support ≡ Apart own theirs) where
-    apart : IsApartAt question support own theirs
-    unfolding ReadsAt
-    apart = subst (ReadsAt question support) ended (reads question support valid)
-
-    -- the support lacks fewer moves
-    pub next_less : lacking question (with_moves question support own theirs) < lacking question support
-    next_less = apart_less question support own theirs apart
-
-    pub next_at : IsAt question (with_moves question support own theirs) (round + 1)
+    pub next_at : IsAt question (with_moves question support own theirs) (suc round)
     next_at =
         let some = some_more (lacking question support) at.more at.enough in
+        let less = next_less question question.pivots support valid own theirs ended in
         record {
           more = some.0;
           enough = under at.more some.0 (lacking question support)
-              (lacking question (with_moves question support own theirs)) some.1 at.enough next_less;
+              (lacking question (with_moves question support own theirs)) some.1 at.enough less;
           fated = fated_by some.0 some.1
-              ∙ ap (fate_after question support round (fate_from question some.0)) ended
-              ∙ ap (fate_from question some.0 (with_moves question support own theirs)) (next_number round);
-          early = later (lacking question first_support) (lacking question support)
-              (lacking question (with_moves question support own theirs)) at.early next_less;
+              ∙ ap (fate_after question support round (fate_from question some.0)) ended;
         }
       where
         under : (more left less fewer : ℕ) → more ≡ suc left → less < more → fewer < less → fewer < left
         under more left less fewer is p q = omega (arith, is, p, q)
 
-        later : (first less fewer : ℕ) → round + less ≤ first → fewer < less → round + 1 + fewer ≤ first
-        later first less fewer p q = omega (arith, p, q)
+-- ---- as it is seen
 
-        next_number : (n : ℕ) → suc n ≡ n + 1
-        next_number n = omega arith
+-- the fate of a question is what becomes of it from here on
+pub record IsWayOf (question : Question) (view : SolvingView) : Type 0 where
+  pub same : view.question ≡ question
+  pub at : IsAt question view.support view.round
 
-    pub own_move : (entry : DeclarerMove) → Contains own entry → IsOwnMove question entry
-    own_move entry found =
-        let listed = subst (λ (moves : List DeclarerMove). Contains moves entry) (sym apart.own_is) found in
-        let choice = most_choices question (defence_read question support apart.optimum) entry valid listed in
-        let placed = own_place question valid (defence_read question support apart.optimum) entry listed in
-        record {
-          allowed = choice.allowed;
-          past = past_none question valid placed.0 entry.history placed.1.listed placed.1.counted;
-          turn = choice.turn;
-          legal = subst (λ (moves : List ClassMove). Contains moves entry.mv)
-              (sym (own_legal question support placed.0.0 entry.history choice.going choice.turn)) placed.1.legal;
-        }
+module _ (question : Question) (view : SolvingView) where
+  pub way_begins : node_count view.question ≤ view.question.nodes → view ≡ first_view question → IsWayOf question view
+  way_begins within is =
+      let same = ap (λ (v : SolvingView). v.question) is in
+      record {
+        same = same;
+        at = subst (IsAt question view.support) (sym (ap (λ (v : SolvingView). v.round) is))
+            (first_round question view.support
+            (subst (λ (q : Question). node_count q ≤ q.nodes) same within)
+            (ap (λ (v : SolvingView). v.support) is));
+      }
 
-    pub their_move : (entry : DefenceMove) → Contains theirs entry → IsTheirMove question entry
-    their_move entry found =
-        let listed = subst (λ (moves : List DefenceMove). Contains moves entry) (sym apart.theirs_is) found in
-        let chosen = least_choices question (plan_read question support apart.optimum) entry valid listed in
-        let placed = their_place question valid (plan_read question support apart.optimum) entry listed in
-        record {
-          listed = chosen.0;
-          allowed = placed.0.allowed;
-          past = past_none question valid (get_or (layouts_of question) entry.layout ([], 0)) entry.history
-              placed.0.listed placed.0.counted;
-          turn = placed.1;
-          legal = placed.0.legal;
-        }
+  module _ (way : IsWayOf question view) where
+    ended_by : (end : RoundEnd) → round_within view.question question.pivots view.support ≡ end
+        → round_end question view.support ≡ end
+    ended_by end =
+        subst (λ (q : Question). round_within q question.pivots view.support ≡ end
+        → round_end question view.support ≡ end) (sym way.same) (λ is. is)
 
-    -- both replies may be added to the support
-    abbrev pub next_legal : (tree : Tree) → IsTreeOf question tree → AreLegalIn tree own theirs
-    next_legal tree grown = record {
-      question = question;
-      valid = valid;
-      grown = grown;
-      own_moves = All-from_recursion (IsOwnMove question) own (each_in (IsOwnMove question) own own_move);
-      their_moves = All-from_recursion (IsTheirMove question) theirs (each_in (IsTheirMove question) theirs their_move);
-    }
+    pub way_met : (answer : Answer) (after : SolvingView) → Steps view question.pivots (Ok (Some answer)) after
+        → fate question ≡ Ok answer
+    way_met answer after step =
+        fate_of_met question view.support view.round way.at answer (ended_by (Met answer) step.0)
+
+    pub way_ends : (end : SolveEnd) (after : SolvingView) → Steps view question.pivots (Err end) after
+        → IsEnd question end
+    way_ends end after step =
+        fate_of_end question view.support view.round way.at end
+        (subst (λ (told : RoundEnd). IsRoundEnd told view.round end)
+        (sym (ended_by (round_within view.question question.pivots view.support) refl)) step.0)
+
+    module _ (valid : IsValid question) (after : SolvingView) (step : Steps view question.pivots (Ok None) after) where
+      apart_here : round_end question view.support ≡ Apart step.0 step.1
+      apart_here = ended_by (Apart step.0 step.1) step.2
+
+      named : after.support ≡ with_moves question view.support step.0 step.1
+      named = ap (λ (v : SolvingView). v.support) step.3
+          ∙ ap (λ (q : Question). with_moves q view.support step.0 step.1) way.same
+
+      pub way_less : lacking question after.support < lacking question view.support
+      way_less =
+          subst (λ (support : Support). lacking question support < lacking question view.support) (sym named)
+          (next_less question question.pivots view.support valid step.0 step.1 apart_here)
+
+      pub way_goes_on : IsWayOf question after
+      way_goes_on = record {
+        same = ap (λ (v : SolvingView). v.question) step.3 ∙ way.same;
+        at = subst (IsAt question after.support) (sym (ap (λ (v : SolvingView). v.round) step.3))
+            (subst (λ (support : Support). IsAt question support (suc view.round)) (sym named)
+            (next_at question view.support view.round way.at valid step.0 step.1 apart_here));
+      }

@@ -18,7 +18,7 @@ use Rattle.suit_classes.specs.ClassPlaces.{class_after, class_turn}
 use Rattle.suit_classes.proofs.SameMoves.{among-Contains, among_contained}
 use Rattle.suit_plans.specs.Masses.{is_declarers}
 use Rattle.suit_tree.specs.CountedHistories.{node_count}
-use Rattle.suit_program.specs.Points.{Passed}
+use Rattle.suit_program.specs.Programs.Points.{Passed}
 use Rattle.suit_program.specs.Programs.{Answered, Shared, answered_limits, columns, columns_at, held_column}
 use Rattle.suit_program.specs.Programs.{limits}
 use Rattle.suit_program.specs.Programs.{limits_at, size_of}
@@ -26,7 +26,7 @@ use Rattle.suit_program.specs.Supports.{Support, declarer_chooses, defence_choos
 use Rattle.suit_program.specs.Supports.{goes_supported, histories_from, is_reached, layouts_of, legal_moves, names}
 use Rattle.suit_program.specs.Supports.{next_moves, reached_histories, reached_layouts, supported_moves, whole_support}
 use Rattle.suit_program.specs.Supports.{with_moves}
-use Rattle.suit_program.proofs.ReachedPairs.{flat_map_from}
+use Rattle.suit_program.proofs.lemmas.Supports.WhatIsReached.{flat_map_from}
 use Rattle.suit_solve.specs.declared.ends.SolveEnd.TheVariants as ends
 use Rattle.suit_solve.specs.FateLaws.{WholeSupportsFit}
 use Rattle.suit_solve.specs.Fates.{fate, fate_after, fate_from, fate_in_rounds, lacking}
@@ -264,7 +264,7 @@ module _ (question : Question) (valid : IsValid question) where
   refused_from zero support round told is = absurd (cc)
   refused_from (suc more) support round told is =
       by_end (λ next same. refused_from more next (suc round) told same) (round_end question support)
-      (reads question support valid) is
+      (reads question question.pivots support valid) is
     where
       by_end : ((next : Support) → fate_from question more next (suc round) ≡ Err (ends.Support told)
           → (large : Support) × (nat_lt (most_size question) (size_of question large) ≡ true)) → (end : RoundEnd)

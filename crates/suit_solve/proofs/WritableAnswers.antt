@@ -49,12 +49,12 @@ use Rattle.suit_plans.proofs.RowLimits.{weight_at_most}
 use Rattle.suit_plans.proofs.SharedSums.{within_sum}
 use Rattle.suit_layouts.specs.ClassLayouts.{class_layouts}
 use Rattle.suit_linear.specs.declared.ends.Optimum.{Optimum}
-use Rattle.suit_program.specs.ReadingLaws.{defence_read, plan_read}
+use Rattle.suit_program.specs.Readings.ReadingLaws.{defence_read, plan_read}
 use Rattle.suit_program.specs.Readings.{parts_of, plan_point}
 use Rattle.suit_program.specs.Supports.{Support}
-use Rattle.suit_program.proofs.DefenceLaws.{read_defences_are_proper}
-use Rattle.suit_program.proofs.PlanLaws.{read_plans_are_proper}
-use Rattle.suit_program.proofs.ReadDefences.{parted_at}
+use Rattle.suit_program.proofs.lemmas.Readings.DefencesHoldTheWorth.{read_defences_are_proper}
+use Rattle.suit_program.proofs.lemmas.Readings.PlansKeepTheWorth.{read_plans_are_proper}
+use Rattle.suit_program.proofs.lemmas.Readings.DefenceIsProper.{parted_at}
 use Rattle.suit_answer.specs.declared.answer.Answer.{Answer}
 use Rattle.suit_answer.specs.Writable.{IsWritable, IsWritableDefenceRow, IsWritableMove, IsWritableNumber}
 use Rattle.suit_answer.specs.Writable.{IsWritableRow}
@@ -280,19 +280,22 @@ module _ (question : Question) (support : Support) (optimum : Optimum) (read : A
             (counts_chain value.den whole (pos (2 ^ 126)) small.2
             (weighed_number plan.den (total question) (not_below plan.den (plan_over question plan plan_proper))
             plan_den_most (total_at_most question read.valid)));
-        plan_den = writable_number plan.den (not_below plan.den (plan_over question plan plan_proper))
-            (few_bits plan.den plan_den_most);
-        plan_few = plan_few question support (plan_point question support (parts_of optimum.point)) read.few;
-        plan_rows = All-from_recursion (IsWritableRow (class_count (hands_of question))) plan.rows
-            (each_in (IsWritableRow (class_count (hands_of question))) plan.rows plan_row);
-        defence_den = writable_number defence.den
-            (not_below defence.den (defence_over question defence defence_proper))
-            (few_bits defence.den defence_den_most);
-        defence_few = defence_few question support optimum.duals optimum.scale read.few;
-        defence_rows = All-from_recursion (IsWritableDefenceRow (class_count (hands_of question))
-            (length (defence_classes (hands_of question)))) defence.rows
-            (each_in (IsWritableDefenceRow (class_count (hands_of question))
-            (length (defence_classes (hands_of question)))) defence.rows defence_row);
+        plan = record {
+          den = writable_number plan.den (not_below plan.den (plan_over question plan plan_proper))
+              (few_bits plan.den plan_den_most);
+          few = plan_few question support (plan_point question support (parts_of optimum.point)) read.few;
+          rows = All-from_recursion (IsWritableRow (class_count (hands_of question))) plan.rows
+              (each_in (IsWritableRow (class_count (hands_of question))) plan.rows plan_row);
+        };
+        defence = record {
+          den = writable_number defence.den (not_below defence.den (defence_over question defence defence_proper))
+              (few_bits defence.den defence_den_most);
+          few = defence_few question support optimum.duals optimum.scale read.few;
+          rows = All-from_recursion (IsWritableDefenceRow (class_count (hands_of question))
+              (length (defence_classes (hands_of question)))) defence.rows
+              (each_in (IsWritableDefenceRow (class_count (hands_of question))
+              (length (defence_classes (hands_of question)))) defence.rows defence_row);
+        };
       }
     where
       under : (z : ℤ) → z <ℤ pos (2 ^ 118) → z ≤ℤ pos (2 ^ 126)

@@ -25,17 +25,17 @@ use Rattle.suit_plans.specs.declared.defence.DefenceRow.{DefenceRow}
 use Rattle.suit_plans.specs.Masses.{Shares, defence_mass, is_declarers}
 use Rattle.suit_plans.specs.Properness.{sum_of}
 use Rattle.suit_plans.proofs.WhoseTurns.{their_turn}
-use Rattle.suit_program.specs.Points.{Held, Passed, Point}
+use Rattle.suit_program.specs.Programs.Points.{Held, Passed, Point}
 use Rattle.suit_program.specs.Programs.{columns, columns_at, held_column, limits, program_of, size_of}
 use Rattle.suit_program.specs.Readings.{Reading, all_on_first, defence_of, defence_reading, defence_rows_in, has_row}
 use Rattle.suit_program.specs.Readings.{plan_at, plan_reading, read_mass, read_shares, row_counts, sum_counts}
 use Rattle.suit_program.specs.Readings.{topped_up}
 use Rattle.suit_program.specs.Supports.{Support, declarer_chooses, defence_chooses, is_reached, layouts_of, legal_moves}
 use Rattle.suit_program.specs.Supports.{reached_histories, reached_layouts, supported_moves}
-use Rattle.suit_program.proofs.ChoicePlaces.{own_place, their_place}
-use Rattle.suit_program.proofs.ReachedPairs.{flat_map_from}
-use Rattle.suit_program.proofs.ReadDefences.{defence_masses}
-use Rattle.suit_program.proofs.RowFacts.{sum_kept_counts}
+use Rattle.suit_program.proofs.lemmas.Supports.AtAChoice.{own_place, their_place}
+use Rattle.suit_program.proofs.lemmas.Supports.WhatIsReached.{flat_map_from}
+use Rattle.suit_program.proofs.lemmas.Readings.DefenceIsProper.{defence_masses}
+use Rattle.suit_program.proofs.lemmas.Readings.RowsFit.{sum_kept_counts}
 use Rattle.suit_linear.specs.Programs.{IsDualFeasible}
 use Rattle.suit_solve.specs.Limits.{most_size}
 use Rattle.suit_solve.proofs.LayoutCounts.{layouts_few}

@@ -6,3 +6,4 @@ pub mod LastTableaus
 pub mod Limits
 pub mod Plays
 pub mod Rounds
+pub mod Solving

@@ -1,7 +1,5 @@
 -- How a round is told that was played.
-use Rattle.std.specs.Prelude.{⊤, ◌≡◌, ℕ, Ok, Err}
-use Rattle.suit_game.specs.declared.question.Question.{Question}
-use Rattle.suit_program.specs.Supports.{Support}
+use Rattle.std.specs.Prelude.{⊤, ◌≡◌, ℕ}
 use Rattle.suit_solve.specs.declared.ends.SolveEnd.{SolveEnd}
 use Rattle.suit_solve.specs.declared.ends.SolveEnd.TheVariants as ends
 use Rattle.suit_solve.specs.declared.round.Round.{Round}

@@ -1,5 +1,5 @@
 -- One round: what the game of a support comes to.
-use Rattle.std.specs.Prelude.{nat_lt, List, if◌then◌else◌}
+use Rattle.std.specs.Prelude.{ℕ, nat_lt, List, if◌then◌else◌}
 use Rattle.suit_game.specs.declared.question.Question.{Question}
 use Rattle.suit_plans.specs.declared.moves.DeclarerMove.{DeclarerMove}
 use Rattle.suit_plans.specs.declared.moves.DefenceMove.{DefenceMove}
@@ -9,8 +9,8 @@ use Rattle.suit_plans.specs.BestReplies.{least_reply, most_reply}
 use Rattle.suit_linear.specs.declared.ends.Optimum.{Optimum}
 use Rattle.suit_linear.specs.Runs.{RunEnd, AtOptimum, AtBudget, AtWide, AtRay, run_end}
 use Rattle.suit_program.specs.Programs.{program_of, size_of}
-use Rattle.suit_program.specs.ReadingLaws.{defence_read, plan_read}
-use Rattle.suit_program.specs.Readings.{is_wide, parts_of}
+use Rattle.suit_program.specs.Readings.ReadingLaws.{defence_read, plan_read}
+use Rattle.suit_program.specs.Readings.{is_too_wide, parts_of}
 use Rattle.suit_program.specs.Supports.{Support}
 use Rattle.suit_answer.specs.declared.answer.Answer.{Answer}
 use Rattle.suit_solve.specs.Comparing.{answer_of, are_met}
@@ -41,7 +41,7 @@ compared question plan defence =
 -- how a round ends whose run has an optimum
 unfoldable pub read_end : Question → Support → Optimum → RoundEnd
 read_end question support optimum =
-    if is_wide question support (parts_of optimum.point) optimum.scale then PastWidth
+    if is_too_wide question support (parts_of optimum.point) optimum.scale then PastWidth
     else compared question (plan_read question support optimum) (defence_read question support optimum)
 
 -- how a round ends whose run has ended so
@@ -52,8 +52,12 @@ ran_end question support AtBudget = PastPivots
 ran_end question support (AtWide pivot) = PastWidth
 ran_end question support AtRay = Limitless
 
--- how the round of a support ends
-unfoldable pub round_end : Question → Support → RoundEnd
-round_end question support =
+-- how the round of a support ends whose run may make so many pivots
+unfoldable pub round_within : Question → (pivots : ℕ) → Support → RoundEnd
+round_within question pivots support =
     if nat_lt (most_size question) (size_of question support) then PastSize
-    else ran_end question support (run_end (program_of question support) question.pivots)
+    else ran_end question support (run_end (program_of question support) pivots)
+
+-- how the round of a support ends, by the question's budget of pivots
+abbrev pub round_end : Question → Support → RoundEnd
+round_end question support = round_within question question.pivots support

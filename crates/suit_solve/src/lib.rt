@@ -9,4 +9,4 @@ mod solving;
 
 pub use ends::SolveEnd;
 pub use limits::most_size;
-pub use solving::solve;
+pub use solving::{Solving, solve};

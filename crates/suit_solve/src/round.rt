@@ -2,7 +2,7 @@
 ghost use Rattle.std.specs.Prelude.{◌≡◌, ◌≤◌, IfErr, IfOk};
 ghost use Rattle.suit_game.specs.Validity.{IsValid};
 ghost use Rattle.suit_plans.specs.Properness.{IsProperDefence, IsProperPlan};
-ghost use Rattle.suit_program.specs.Marks.{support_seen};
+ghost use Rattle.suit_program.specs.Supports.Marks.{support_seen};
 ghost use Rattle.suit_program.specs.Programs.{program_of, size_of};
 ghost use Rattle.suit_linear.specs.Ends.{Tells};
 ghost use Rattle.suit_linear.specs.Optima.{IsDualOptimum, IsPrimalOptimum};
@@ -10,7 +10,7 @@ ghost use Rattle.suit_linear.specs.Runs.{run_end};
 ghost use Rattle.suit_tree.specs.Trees.{IsTreeOf};
 ghost use Rattle.suit_solve.specs.Limits.{most_size};
 ghost use Rattle.suit_solve.specs.Plays.{IsRoundEnd, ended_so};
-ghost use Rattle.suit_solve.specs.Rounds.{compared, round_end};
+ghost use Rattle.suit_solve.specs.Rounds.{compared, round_within};
 
 use super::{SolveEnd, most_size};
 use std::alloc::{AllocError, Global};
@@ -31,24 +31,26 @@ pub(crate) enum Round {
     Apart(DeclarerMoves, DefenceMoves),
 }
 
-/// The round of a support.
+/// The round of a support, the run of whose program may make so many pivots.
 pub(crate) fn play(
     alloc: Global,
     question: &Question,
     tree: &Tree,
     support: &Support,
     round: u32,
+    pivots: u32,
 ) -> Result<Round, SolveEnd>
     requires valid { IsValid question.now }
     requires grown { IsTreeOf question.now tree.now }
     ensures ended { IfOk result (λ ended.
-        round_end question.now (support_seen question.now support.now) ≡ ended_so ended) }
-    ensures end { IfErr result (IsRoundEnd (round_end question.now (support_seen question.now support.now)) round) }
+        round_within question.now pivots (support_seen question.now support.now) ≡ ended_so ended) }
+    ensures end { IfErr result
+        (IsRoundEnd (round_within question.now pivots (support_seen question.now support.now)) round) }
 {
     if size(tree, support) > most_size(question) {
         return Err(SolveEnd::Support { round });
     }
-    let optimum = match run(alloc, question, tree, support) {
+    let optimum = match run(alloc, question, tree, support, pivots) {
         Ok(optimum) => optimum,
         Err(SimplexEnd::Pivots) => return Err(SolveEnd::Pivots { round }),
         Err(SimplexEnd::Wide { .. }) => return Err(SolveEnd::Wide { round }),
@@ -61,24 +63,25 @@ pub(crate) fn play(
     }
 }
 
-/// The optimum of a support's program, by the question's budget of pivots.
+/// The optimum of a support's program, by a run of so many pivots at most.
 fn run(
     alloc: Global,
     question: &Question,
     tree: &Tree,
     support: &Support,
+    pivots: u32,
 ) -> Result<Optimum, SimplexEnd>
     requires valid { IsValid question.now }
     requires grown { IsTreeOf question.now tree.now }
     requires few { size_of question.now (support_seen question.now support.now) ≤ most_size question.now }
     ensures run { Tells (program_of question.now (support_seen question.now support.now))
-        (run_end (program_of question.now (support_seen question.now support.now)) question.now.pivots) result }
+        (run_end (program_of question.now (support_seen question.now support.now)) pivots) result }
     ensures primal { IfOk result
         (IsPrimalOptimum (program_of question.now (support_seen question.now support.now))) }
     ensures dual { IfOk result (IsDualOptimum (program_of question.now (support_seen question.now support.now))) }
 {
     let program = sparse_program(alloc, tree, support)?;
-    sparse_optimum(alloc, &program, question.pivots)
+    sparse_optimum(alloc, &program, pivots)
 }
 
 /// How a round ends that has read a plan and a defence.

@@ -3,14 +3,13 @@ use Rattle.suit_plans.specs.Properness.{IsProperDefence, IsProperPlan}
 use Rattle.suit_linear.specs.declared.ends.SimplexEnd.{SimplexEnd}
 use Rattle.suit_linear.specs.Ends.{Tells}
 use Rattle.suit_linear.specs.Runs.{run_end}
-use Rattle.suit_program.specs.declared.plan_end.PlanEnd.{PlanEnd}
-use Rattle.suit_program.specs.Marks.{support_seen}
+use Rattle.suit_program.specs.Supports.Marks.{support_seen}
 use Rattle.suit_program.specs.Programs.{program_of}
-use Rattle.suit_program.specs.ReadOptima.{AreRead, IsEndOf, IsOptimumFor}
-use Rattle.suit_program.specs.Readings.{is_wide, parts_of}
+use Rattle.suit_program.specs.Readings.ReadOptima.{AreRead, IsEndOf}
+use Rattle.suit_program.specs.Readings.{is_too_wide, parts_of}
 use Rattle.suit_program.specs.Supports.{Support}
-use Rattle.suit_program.proofs.DefenceLaws.{read_defences_are_proper}
-use Rattle.suit_program.proofs.PlanLaws.{read_plans_are_proper}
+use Rattle.suit_program.proofs.lemmas.Readings.DefencesHoldTheWorth.{read_defences_are_proper}
+use Rattle.suit_program.proofs.lemmas.Readings.PlansKeepTheWorth.{read_plans_are_proper}
 use Rattle.suit_solve.specs.Limits.{most_size}
 use Rattle.suit_solve.proofs.PlayedRounds.{played_columns, played_past, played_pivots, played_wide, played_within}
 use Rattle.suit_solve.proofs.PlayedRounds.{read_compared, read_wide}
@@ -23,7 +22,7 @@ returns-then-size-most_size-clause-end c =
     let size = c.size.ensures question c.requires.valid c.requires.grown in
     let past : most_size question < c.size.result =
     omega (arith, c.if-size-most_size.true, c.most_size.ensures.value) in
-    (played_past question seen c.size.result size past, refl)
+    (played_past question c.args.pivots seen c.size.result size past, refl)
 
 pub returns-in-Err-Pivots-clause-end : goal.returns-in-Err-Pivots-clause-end
 returns-in-Err-Pivots-clause-end c =
@@ -32,10 +31,10 @@ returns-in-Err-Pivots-clause-end c =
     let size = c.size.ensures question c.requires.valid c.requires.grown in
     let within : c.size.result ≤ most_size question =
     omega (arith, c.if-size-most_size.false, c.most_size.ensures.value) in
-    let few = played_within question seen c.size.result size within in (
-      played_pivots question seen few
+    let few = played_within question c.args.pivots seen c.size.result size within in (
+      played_pivots question c.args.pivots seen few
           (subst (λ (end : SimplexEnd). Tells (program_of question seen)
-          (run_end (program_of question seen) question.pivots) (Err end)) c.in-Err-Pivots.field-0-is
+          (run_end (program_of question seen) c.args.pivots) (Err end)) c.in-Err-Pivots.field-0-is
           c.in-Err-Pivots.ensures.run),
       refl,
     )
@@ -47,10 +46,10 @@ returns-in-Err-Wide-clause-end c =
     let size = c.size.ensures question c.requires.valid c.requires.grown in
     let within : c.size.result ≤ most_size question =
     omega (arith, c.if-size-most_size.false, c.most_size.ensures.value) in
-    let few = played_within question seen c.size.result size within in (
-      played_wide question seen few c.in-Err-Wide.field-0-0
+    let few = played_within question c.args.pivots seen c.size.result size within in (
+      played_wide question c.args.pivots seen few c.in-Err-Wide.field-0-0
           (subst (λ (end : SimplexEnd). Tells (program_of question seen)
-          (run_end (program_of question seen) question.pivots) (Err end)) c.in-Err-Wide.field-0-is
+          (run_end (program_of question seen) c.args.pivots) (Err end)) c.in-Err-Wide.field-0-is
           c.in-Err-Wide.ensures.run),
       refl,
     )
@@ -62,9 +61,9 @@ compare-requires-clause-plan c =
     let size = c.size.ensures question c.requires.valid c.requires.grown in
     let within : c.size.result ≤ most_size question =
     omega (arith, c.if-size-most_size.false, c.most_size.ensures.value) in
-    let few = played_within question seen c.size.result size within in
+    let few = played_within question c.args.pivots seen c.size.result size within in
     let told = c.in-Ok.ensures.run in
-    let columns = played_columns question seen few c.requires.valid c.in-Ok.optimum told in
+    let columns = played_columns question c.args.pivots seen few c.requires.valid c.in-Ok.optimum told in
     let read : AreRead question seen c.in-Ok.optimum c.in-Ok-plans_of.plan c.in-Ok-plans_of.defence =
     c.in-Ok-plans_of.ensures.read (record {
       question = c.args.question.now;
@@ -89,9 +88,9 @@ compare-requires-clause-defence c =
     let size = c.size.ensures question c.requires.valid c.requires.grown in
     let within : c.size.result ≤ most_size question =
     omega (arith, c.if-size-most_size.false, c.most_size.ensures.value) in
-    let few = played_within question seen c.size.result size within in
+    let few = played_within question c.args.pivots seen c.size.result size within in
     let told = c.in-Ok.ensures.run in
-    let columns = played_columns question seen few c.requires.valid c.in-Ok.optimum told in
+    let columns = played_columns question c.args.pivots seen few c.requires.valid c.in-Ok.optimum told in
     let read : AreRead question seen c.in-Ok.optimum c.in-Ok-plans_of.plan c.in-Ok-plans_of.defence =
     c.in-Ok-plans_of.ensures.read (record {
       question = c.args.question.now;
@@ -112,9 +111,9 @@ returns-in-Ok-plans_of-clause-ended c =
     let size = c.size.ensures question c.requires.valid c.requires.grown in
     let within : c.size.result ≤ most_size question =
     omega (arith, c.if-size-most_size.false, c.most_size.ensures.value) in
-    let few = played_within question seen c.size.result size within in
+    let few = played_within question c.args.pivots seen c.size.result size within in
     let told = c.in-Ok.ensures.run in
-    let columns = played_columns question seen few c.requires.valid c.in-Ok.optimum told in
+    let columns = played_columns question c.args.pivots seen few c.requires.valid c.in-Ok.optimum told in
     let read : AreRead question seen c.in-Ok.optimum c.in-Ok-plans_of.plan c.in-Ok-plans_of.defence =
     c.in-Ok-plans_of.ensures.read (record {
       question = c.args.question.now;
@@ -124,7 +123,7 @@ returns-in-Ok-plans_of-clause-ended c =
       primal = c.in-Ok.ensures.primal;
       dual = c.in-Ok.ensures.dual;
     }) in
-    read_compared question seen few c.requires.valid c.in-Ok.optimum told c.in-Ok-plans_of.plan
+    read_compared question c.args.pivots seen few c.requires.valid c.in-Ok.optimum told c.in-Ok-plans_of.plan
     c.in-Ok-plans_of.defence read.narrow read.is_plan read.is_defence
     ∙ c.in_ok-compare-in-Ok-plans_of.ensures
 
@@ -135,10 +134,10 @@ returns-in-Err-Wide-plans_of-clause-end c =
     let size = c.size.ensures question c.requires.valid c.requires.grown in
     let within : c.size.result ≤ most_size question =
     omega (arith, c.if-size-most_size.false, c.most_size.ensures.value) in
-    let few = played_within question seen c.size.result size within in
+    let few = played_within question c.args.pivots seen c.size.result size within in
     let told = c.in-Ok.ensures.run in
-    let columns = played_columns question seen few c.requires.valid c.in-Ok.optimum told in
-    let wide : is_wide question seen (parts_of c.in-Ok.optimum.point) c.in-Ok.optimum.scale ≡ true =
+    let columns = played_columns question c.args.pivots seen few c.requires.valid c.in-Ok.optimum told in
+    let wide : is_too_wide question seen (parts_of c.in-Ok.optimum.point) c.in-Ok.optimum.scale ≡ true =
     subst (IsEndOf question seen c.in-Ok.optimum) c.in-Err-Wide-plans_of.field-0-is
     (c.in-Err-Wide-plans_of.ensures.end (record {
       question = c.args.question.now;
@@ -148,4 +147,4 @@ returns-in-Err-Wide-plans_of-clause-end c =
       primal = c.in-Ok.ensures.primal;
       dual = c.in-Ok.ensures.dual;
     })) in
-    (read_wide question seen few c.requires.valid c.in-Ok.optimum told wide, refl)
+    (read_wide question c.args.pivots seen few c.requires.valid c.in-Ok.optimum told wide, refl)

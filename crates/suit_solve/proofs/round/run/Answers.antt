@@ -6,10 +6,10 @@ use Rattle.suit_linear.specs.Optima.{IsDualOptimum, IsPrimalOptimum}
 use Rattle.suit_linear.specs.Programs.{IsBounded, IsWellFormed}
 use Rattle.suit_linear.specs.Runs.{run_end}
 use Rattle.suit_linear.specs.Sparse.{dense}
-use Rattle.suit_program.specs.Marks.{support_seen}
+use Rattle.suit_program.specs.Supports.Marks.{support_seen}
 use Rattle.suit_program.specs.Programs.{program_of}
-use Rattle.suit_program.proofs.BoundedPrograms.{programs_are_bounded}
-use Rattle.suit_program.proofs.FormedPrograms.{programs_are_well_formed}
+use Rattle.suit_program.proofs.lemmas.Programs.ObjectiveIsBounded.{programs_are_bounded}
+use Rattle.suit_program.proofs.lemmas.Programs.WellFormed.{programs_are_well_formed}
 use Rattle.suit_solve.proofs.round.run.Goals as goal
 
 pub sparse_optimum-requires-clause-formed : goal.sparse_optimum-requires-clause-formed
@@ -48,7 +48,7 @@ returns-clause-run c =
       grown = c.requires.grown;
       few = c.requires.few;
     }) in
-    subst (λ (program : Program). Tells program (run_end program c.args.question.now.pivots) c.sparse_optimum.result) is
+    subst (λ (program : Program). Tells program (run_end program c.args.pivots) c.sparse_optimum.result) is
     c.sparse_optimum.ensures.run
 
 pub returns-clause-primal : goal.returns-clause-primal

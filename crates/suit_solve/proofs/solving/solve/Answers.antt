@@ -1,74 +1,58 @@
-use Rattle.std.proofs.Common.{rules, ◌≡◌, ◌+◌, ◌<◌, ◌^◌, ap, ◌∙◌, sym, subst, arith}
-use Rattle.suit_program.specs.Marks.{support_seen}
-use Rattle.suit_program.specs.Supports.{Support}
-use Rattle.suit_solve.specs.Ends.{same_end}
-use Rattle.suit_solve.specs.Fates.{IsEnd, lacking}
-use Rattle.suit_solve.specs.Plays.{ended_so}
+use Rattle.std.proofs.Common.{rules, Ok, Option, subst}
+use Rattle.suit_answer.specs.declared.answer.Answer.{Answer}
+use Rattle.suit_solve.specs.Fates.{IsEnd}
+use Rattle.suit_solve.specs.Solving.{Steps, solving_seen}
 use Rattle.suit_solve.proofs.FatesTold.{answers_are_writable}
-use Rattle.suit_solve.proofs.SolvedRounds.{IsAt, fate_of_end, fate_of_met, first_round, next_at, next_legal, next_less}
-use Rattle.suit_solve.proofs.SolvedRounds.{round_fits, tree_end}
+use Rattle.suit_solve.proofs.SolvedRounds.{unbegun_end, way_begins, way_ends, way_goes_on, way_less, way_met}
 use Rattle.suit_solve.proofs.solving.solve.Goals as goal
 
-pub returns-in_err-tree-clause-end : goal.returns-in_err-tree-clause-end
-returns-in_err-tree-clause-end c =
-    let past : IsEnd c.args.question.now (same_end c.in_err-tree.field-0.0) =
-    tree_end c.args.question.now c.in_err-tree.field-0.0 c.in_err-tree.ensures.end in
+pub returns-in_err-solving-clause-end : goal.returns-in_err-solving-clause-end
+returns-in_err-solving-clause-end c =
+    let past : IsEnd c.args.question.now c.in_err-solving.field-0.0 =
+    unbegun_end c.args.question.now c.in_err-solving.field-0.0 c.in_err-solving.ensures.end in
     search rules
 
-pub loop-support-init : goal.loop-support-init
-loop-support-init c =
-    first_round c.args.question.now (support_seen c.args.question.now c.first-support.result)
-    c.in_ok-tree.ensures.within (c.first-support.ensures c.args.question.now)
+pub loop-solving-init : goal.loop-solving-init
+loop-solving-init c = (
+  c.in_ok-solving.ensures.way,
+  way_begins c.args.question.now (solving_seen c.in_ok-solving.solving) c.in_ok-solving.ensures.way.within
+      c.in_ok-solving.ensures.first,
+)
 
 pub returns-in_err-answer-clause-end : goal.returns-in_err-answer-clause-end
 returns-in_err-answer-clause-end c =
     let ended : IsEnd c.args.question.now c.in_err-answer.field-0.0 =
-    fate_of_end c.args.question.now (support_seen c.args.question.now c.loop-support.support) c.loop-support.round
-    c.loop-support.invariant c.in_err-answer.field-0.0 c.in_err-answer.ensures.end in
+    way_ends c.args.question.now (solving_seen c.loop-solving.solving) c.loop-solving.invariant.1
+    c.in_err-answer.field-0.0 (solving_seen c.step.new.self) c.in_err-answer.ensures.step in
     search rules
 
-pub returns-in-Met-clause-answer : goal.returns-in-Met-clause-answer
-returns-in-Met-clause-answer c =
-    fate_of_met c.args.question.now (support_seen c.args.question.now c.loop-support.support) c.loop-support.round
-    c.loop-support.invariant c.in-Met.answer (c.in_ok-answer.ensures.ended ∙ ap ended_so c.in-Met.is)
+pub returns-in-Some-clause-answer : goal.returns-in-Some-clause-answer
+returns-in-Some-clause-answer c =
+    way_met c.args.question.now (solving_seen c.loop-solving.solving) c.loop-solving.invariant.1 c.in-Some.answer
+    (solving_seen c.step.new.self)
+    (subst (λ (told : Option Answer). Steps (solving_seen c.loop-solving.solving) c.args.question.now.pivots (Ok told)
+    (solving_seen c.step.new.self)) c.in-Some.is c.in_ok-answer.ensures.step)
 
-pub returns-in-Met-clause-writable : goal.returns-in-Met-clause-writable
-returns-in-Met-clause-writable c =
-    answers_are_writable c.args.question.now c.in-Met.answer c.requires
-    (fate_of_met c.args.question.now (support_seen c.args.question.now c.loop-support.support) c.loop-support.round
-    c.loop-support.invariant c.in-Met.answer (c.in_ok-answer.ensures.ended ∙ ap ended_so c.in-Met.is))
+pub returns-in-Some-clause-writable : goal.returns-in-Some-clause-writable
+returns-in-Some-clause-writable c =
+    answers_are_writable c.args.question.now c.in-Some.answer c.requires
+    (way_met c.args.question.now (solving_seen c.loop-solving.solving) c.loop-solving.invariant.1 c.in-Some.answer
+    (solving_seen c.step.new.self)
+    (subst (λ (told : Option Answer). Steps (solving_seen c.loop-solving.solving) c.args.question.now.pivots (Ok told)
+    (solving_seen c.step.new.self)) c.in-Some.is c.in_ok-answer.ensures.step))
 
-pub add-requires : goal.add-requires
-add-requires c =
-    next_legal c.args.question.now (support_seen c.args.question.now c.loop-support.support) c.loop-support.round
-    c.loop-support.invariant c.requires c.in-Apart.own c.in-Apart.theirs
-    (c.in_ok-answer.ensures.ended ∙ ap ended_so c.in-Apart.is) c.in_ok-tree.tree c.in_ok-tree.ensures.tree
+pub loop-solving-smaller : goal.loop-solving-smaller
+loop-solving-smaller c =
+    way_less c.args.question.now (solving_seen c.loop-solving.solving) c.loop-solving.invariant.1 c.requires
+    (solving_seen c.step.new.self)
+    (subst (λ (told : Option Answer). Steps (solving_seen c.loop-solving.solving) c.args.question.now.pivots (Ok told)
+    (solving_seen c.step.new.self)) c.in-None.is c.in_ok-answer.ensures.step)
 
-pub overflow_add-round : goal.overflow_add-round
-overflow_add-round c =
-    let early : c.loop-support.round < 2 ^ 28 =
-    round_fits c.args.question.now (support_seen c.args.question.now c.loop-support.support) c.loop-support.round
-    c.requires c.in_ok-tree.ensures.within c.loop-support.invariant in
-    omega (arith, early)
-
-pub loop-support-smaller : goal.loop-support-smaller
-loop-support-smaller c =
-    let question = c.args.question.now in
-    let seen : Support = support_seen question c.loop-support.support in
-    let ended = c.in_ok-answer.ensures.ended ∙ ap ended_so c.in-Apart.is in
-    subst (λ (next : Support). lacking question next < lacking question seen)
-    (sym (c.in_ok-add-in-Apart.ensures.added (next_legal question seen c.loop-support.round c.loop-support.invariant
-    c.requires c.in-Apart.own c.in-Apart.theirs ended c.in_ok-tree.tree c.in_ok-tree.ensures.tree)))
-    (next_less question seen c.loop-support.round c.loop-support.invariant c.requires c.in-Apart.own
-    c.in-Apart.theirs ended)
-
-pub loop-support-preserved : goal.loop-support-preserved
-loop-support-preserved c =
-    let question = c.args.question.now in
-    let seen : Support = support_seen question c.loop-support.support in
-    let ended = c.in_ok-answer.ensures.ended ∙ ap ended_so c.in-Apart.is in
-    subst (λ (next : Support). IsAt question next (c.loop-support.round + 1))
-    (sym (c.in_ok-add-in-Apart.ensures.added (next_legal question seen c.loop-support.round c.loop-support.invariant
-    c.requires c.in-Apart.own c.in-Apart.theirs ended c.in_ok-tree.tree c.in_ok-tree.ensures.tree)))
-    (next_at question seen c.loop-support.round c.loop-support.invariant c.requires c.in-Apart.own c.in-Apart.theirs
-    ended)
+pub loop-solving-preserved : goal.loop-solving-preserved
+loop-solving-preserved c = (
+  c.in_ok-answer.ensures.way,
+  way_goes_on c.args.question.now (solving_seen c.loop-solving.solving) c.loop-solving.invariant.1 c.requires
+      (solving_seen c.step.new.self)
+      (subst (λ (told : Option Answer). Steps (solving_seen c.loop-solving.solving) c.args.question.now.pivots (Ok told)
+      (solving_seen c.step.new.self)) c.in-None.is c.in_ok-answer.ensures.step),
+)

@@ -1,13 +1,11 @@
--- A question is on its way through the rounds.
-use Rattle.std.specs.Prelude.{ℕ, ◌≤◌}
-use Rattle.suit_tree.specs.CountedHistories.{node_count}
-use Rattle.suit_program.specs.Marks.{support_seen}
+-- A question is on its way through the rounds, and its fate is what becomes of it from there on.
 use Rattle.suit_solve.specs.Fates.{lacking}
-use Rattle.suit_solve.proofs.SolvedRounds.{IsAt}
+use Rattle.suit_solve.specs.Solving.{IsUnderWay, solving_seen}
+use Rattle.suit_solve.proofs.SolvedRounds.{IsWayOf}
 use Rattle.suit_solve.proofs.solving.solve.Given as goal
 
-abbrev pub invariant-loop-support : goal.invariant-loop-support
-invariant-loop-support l = IsAt l.question (support_seen l.question l.support) l.round
+abbrev pub invariant-loop-solving : goal.invariant-loop-solving
+invariant-loop-solving l = IsUnderWay l.solving × IsWayOf l.question (solving_seen l.solving)
 
-abbrev pub decreases-loop-support : goal.decreases-loop-support
-decreases-loop-support l = lacking l.question (support_seen l.question l.support)
+abbrev pub decreases-loop-solving : goal.decreases-loop-solving
+decreases-loop-solving l = lacking l.question (solving_seen l.solving).support

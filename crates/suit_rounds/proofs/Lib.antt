@@ -1,2 +1,0 @@
-mod ToldColumns
-mod ToldReplies
