@@ -1,3 +1,4 @@
+pub mod AloneTexts
 pub mod Cuts
 pub mod Fronts
 pub mod Lowest
@@ -5,7 +6,6 @@ pub mod MoveBack
 pub mod MoveWords
 pub mod NumberBack
 pub mod NumberWords
-pub mod Numerals
 pub mod ReducedFractions
 pub mod RowLoops
 pub mod RowBack

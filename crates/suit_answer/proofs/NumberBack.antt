@@ -9,10 +9,11 @@ use Rattle.std.specs.Str.{all_ascii_digits, bytes_eq}
 use Rattle.std.proofs.lemmas.Bool.Decides.{nat_tests}
 use Rattle.std.proofs.lemmas.Fmt.{decimal_digit, decimal_by_steps_wide, decimal_is_IsNumeral_wide}
 use Rattle.std.proofs.lemmas.Int.{ints}
-use Rattle.suit_answer.specs.Lines.{is_filled}
-use Rattle.suit_answer.specs.Numbers.{has_spare_zero, number_read, number_due, small_due}
+use Rattle.suit_text.specs.Strict.{is_filled, has_spare_zero, number_read}
+use Rattle.suit_answer.specs.Numbers.{number_due, small_due}
 use Rattle.suit_answer.specs.Writable.{IsWritableNumber}
-use Rattle.suit_answer.proofs.NumberWords.{numerals, both_pass}
+use Rattle.suit_text.proofs.ShortNumbers.{numerals}
+use Rattle.suit_answer.proofs.NumberWords.{both_pass}
 
 -- a word that is written: bytes above the space, and no colon
 pub record IsWord (word : List ℕ) : Type 0 where

@@ -11,17 +11,16 @@ use Rattle.std.proofs.lemmas.Bool.Decides.{nat_tests}
 use Rattle.std.proofs.lemmas.Fmt.{decimal_digit, decimal_step_wide}
 use Rattle.std.proofs.lemmas.List.{append-nil}
 use Rattle.std.proofs.lemmas.Int.{ints}
-use Rattle.std.proofs.lemmas.Str.Parse.{IsNumeralModel, numerals_by_value, tells_all_ascii_digits, digit_from_value}
+use Rattle.std.proofs.lemmas.Str.Parse.{digit_from_value}
 use Rattle.suit_cards.specs.Cards.{Text}
-use Rattle.suit_answer.specs.Lines.{is_filled}
-use Rattle.suit_answer.specs.Numbers.{has_spare_zero, digits_read, number_read, number_due, small_due}
+use Rattle.suit_text.specs.Digits.{digits_read}
+use Rattle.suit_text.specs.Strict.{is_filled, has_spare_zero, number_read}
+use Rattle.suit_answer.specs.Numbers.{number_due, small_due}
 use Rattle.suit_answer.specs.Results.{◌>>=◌}
 use Rattle.suit_answer.specs.Writable.{IsWritableNumber}
-use Rattle.suit_answer.proofs.Numerals.{le_after}
+use Rattle.suit_text.proofs.ShortNumbers.{numerals}
+use Rattle.suit_text.proofs.TooLarge.{le_after}
 use Rattle.suit_answer.specs.declared.faults.AnswerFault.TheVariants.{Number}
-
-pub numerals : IsNumeralModel (λ ds. all_ascii_digits ds ≡ true) (digits_value 10)
-numerals = numerals_by_value (λ ds. all_ascii_digits ds ≡ true) tells_all_ascii_digits
 
 digit_code : (c : ℕ) → digit_value c < 10 → 48 + digit_value c ≡ c
 digit_code c small = let range = digit_from_value c small in grind (arith, nat_tests)

@@ -9,6 +9,8 @@ use Rattle.suit_num.specs.declared.fraction.Frac.{Frac}
 use Rattle.suit_game.specs.declared.question.Question.{Question}
 use Rattle.suit_game.specs.Layouts.{total}
 use Rattle.suit_game.specs.Validity.{IsValid}
+use Rattle.suit_plans.specs.declared.plan.TheConstants.{MOST_DEN}
+use Rattle.suit_game.specs.declared.limits.TheConstants.{MOST_TOTAL}
 use Rattle.suit_answer.specs.Reduced.{fraction, fraction_by}
 use Rattle.suit_answer.specs.ReducedTerms.{lowest_den, lowest_exact, lowest_num}
 use Rattle.suit_answer.proofs.Lowest.{same_fraction}
@@ -39,16 +41,16 @@ unfolding fraction
 fraction_small num den some low = by_small num den (int_lt (pos 0) den) (λ i. int_lt (pos 0) den) some low
 
 -- a denominator times the total weight fits 128 bits
-pub whole_fits : (den : ℤ) (weight : ℕ) → pos 1 ≤ℤ den → den ≤ℤ pos (2 ^ 90) → weight ≤ 10400600
+pub whole_fits : (den : ℤ) (weight : ℕ) → pos 1 ≤ℤ den → den ≤ℤ MOST_DEN → weight ≤ MOST_TOTAL
     → FitsSigned w128 (den *ℤ pos weight)
 whole_fits den weight one most few =
-    let up : (den *ℤ pos weight) ≤ℤ (pos (2 ^ 90) *ℤ pos weight) =
-    le-mul_right den (pos (2 ^ 90)) (pos weight) most (omega (arith, ints)) in
+    let up : (den *ℤ pos weight) ≤ℤ (MOST_DEN *ℤ pos weight) =
+    le-mul_right den (MOST_DEN) (pos weight) most (omega (arith, ints)) in
     let some : pos 0 ≤ℤ (den *ℤ pos weight) =
     mul_not_negative den (pos weight) (omega (arith, ints, one)) (omega (arith, ints)) in
     bounded (den *ℤ pos weight) weight some up few
   where
-    bounded : (z : ℤ) (weight : ℕ) → pos 0 ≤ℤ z → z ≤ℤ (pos (2 ^ 90) *ℤ pos weight) → weight ≤ 10400600
+    bounded : (z : ℤ) (weight : ℕ) → pos 0 ≤ℤ z → z ≤ℤ (MOST_DEN *ℤ pos weight) → weight ≤ MOST_TOTAL
         → FitsSigned w128 z
     bounded z weight some up few =
         let small : unsigned_abs z < 2 ^ 127 = omega (arith, ints, some, up, few) in fits_signed_from_abs w128 z small

@@ -3,7 +3,8 @@ use Rattle.std.proofs.Common.{ℕ, suc, ◌+◌, ◌-◌, ◌<◌, ◌≤◌, �
 use Rattle.std.proofs.Common.{◌∙◌, arith}
 use Rattle.std.proofs.lemmas.List.{append-nil}
 use Rattle.suit_cards.specs.Cards.{Text}
-use Rattle.suit_answer.specs.Lines.{line_due, words_of}
+use Rattle.suit_text.specs.Strict.{words_of}
+use Rattle.suit_answer.specs.Lines.{line_due}
 use Rattle.suit_answer.specs.Reading.{rows_due}
 use Rattle.suit_answer.specs.Results.{Stops}
 use Rattle.suit_answer.specs.declared.faults.AnswerFault.{AnswerFault}

@@ -13,9 +13,9 @@ use Rattle.suit_classes.specs.declared.class_moves.ClassMove.{ClassMove}
 use Rattle.suit_plans.specs.Masses.{Shares}
 use Rattle.suit_plans.specs.declared.plan.Row.{Row}
 use Rattle.suit_plans.specs.declared.defence.DefenceRow.{DefenceRow}
+use Rattle.suit_text.specs.Strict.{is_filled}
 use Rattle.suit_answer.specs.Forms.{is_value, are_shares, is_turn, is_layout_turn}
 use Rattle.suit_answer.specs.Letters.{move_due, move_word}
-use Rattle.suit_answer.specs.Lines.{is_filled}
 use Rattle.suit_answer.specs.Numbers.{number_due, small_due}
 use Rattle.suit_answer.specs.Results.{◌>>=◌}
 use Rattle.suit_answer.specs.Rows.{history_due, shares_due, counts_due, counted, plan_turn_due, defence_turn_due}

@@ -12,7 +12,7 @@ use Rattle.suit_plans.specs.declared.defence.DefenceRow.{DefenceRow}
 use Rattle.suit_num.specs.declared.fraction.Frac.{Frac}
 use Rattle.suit_answer.specs.Letters.{move_word}
 use Rattle.suit_answer.specs.Writing.{spaced, line_text, share_words, turn_words, header_words, value_words}
-use Rattle.suit_answer.specs.Writing.{plan_row_words, defence_row_words, part_lines, answer_lines}
+use Rattle.suit_answer.specs.Writing.{defence_row_words, plan_lines, defence_lines, end_line, answer_lines}
 use Rattle.suit_answer.specs.declared.answer.Answer.{Answer}
 
 pub spaced_none : spaced [] ≡ []
@@ -50,9 +50,9 @@ version_line : line_text (codes "answer" ∷ codes "1" ∷ []) ≡ codes "answer
 unfolding spaced
 version_line = refl
 
-end_line : flat_map line_text ((codes "end" ∷ []) ∷ []) ≡ codes "end\n"
+pub end_spelled : flat_map line_text (end_line ∷ []) ≡ codes "end\n"
 unfolding spaced
-end_line = refl
+end_spelled = refl
 
 -- pieces that are put in a row one by one
 pub glue_4 : (o a b c d : List ℕ) → (((o ++ a) ++ b) ++ c) ++ d ≡ o ++ (a ++ (b ++ (c ++ d)))
@@ -182,21 +182,18 @@ wrote_defence letters row counts history shares o a b c d e p q r ea eb ec ed ee
 pub answer_spelled : (letters : List ℕ) (answer : Answer)
     → flat_map line_text (answer_lines letters answer)
     ≡ codes "answer 1\n" ++ (line_text (value_words answer.value)
-    ++ (flat_map line_text
-    (part_lines (codes "plan") (plan_row_words letters) answer.plan.den answer.plan.rows)
-    ++ (flat_map line_text
-    (part_lines (codes "defence") (defence_row_words letters) answer.defence.den answer.defence.rows)
-    ++ codes "end\n")))
+    ++ (flat_map line_text (plan_lines letters answer.plan)
+    ++ (flat_map line_text (defence_lines letters answer.defence) ++ codes "end\n")))
 answer_spelled letters answer =
     let value = value_words answer.value in
-    let plan = part_lines (codes "plan") (plan_row_words letters) answer.plan.den answer.plan.rows in
-    let defence = part_lines (codes "defence") (defence_row_words letters) answer.defence.den answer.defence.rows in
-    let end = (codes "end" ∷ []) ∷ [] in
+    let plan = plan_lines letters answer.plan in
+    let defence = defence_lines letters answer.defence in
+    let end = end_line ∷ [] in
     let tail : flat_map line_text (plan ++ (defence ++ end))
     ≡ flat_map line_text plan ++ (flat_map line_text defence ++ codes "end\n") =
     flat_map-append line_text plan (defence ++ end)
     ∙ ap (λ (more : List ℕ). flat_map line_text plan ++ more) (flat_map-append line_text defence end
-    ∙ ap (λ (more : List ℕ). flat_map line_text defence ++ more) end_line) in
+    ∙ ap (λ (more : List ℕ). flat_map line_text defence ++ more) end_spelled) in
     flat_map-cons line_text (codes "answer" ∷ codes "1" ∷ []) (value ∷ (plan ++ (defence ++ end)))
     ∙ ap (λ (line : List ℕ). line ++ flat_map line_text (value ∷ (plan ++ (defence ++ end)))) version_line
     ∙ ap (λ (more : List ℕ). codes "answer 1\n" ++ more)
@@ -206,16 +203,13 @@ answer_spelled letters answer =
 -- the lines of an answer are written
 pub wrote_lines : (letters : List ℕ) (answer : Answer) (o a b c d : List ℕ)
     → o ≡ codes "answer 1\n" → a ≡ o ++ line_text (value_words answer.value)
-    → b ≡ a ++ flat_map line_text (part_lines (codes "plan") (plan_row_words letters) answer.plan.den answer.plan.rows)
-    → c ≡ b ++ flat_map line_text
-    (part_lines (codes "defence") (defence_row_words letters) answer.defence.den answer.defence.rows)
+    → b ≡ a ++ flat_map line_text (plan_lines letters answer.plan)
+    → c ≡ b ++ flat_map line_text (defence_lines letters answer.defence)
     → d ≡ c ++ codes "end\n" → d ≡ flat_map line_text (answer_lines letters answer)
 wrote_lines letters answer o a b c d eo ea eb ec ed =
     let first = codes "answer 1\n" in
     let value = line_text (value_words answer.value) in
-    let plan = flat_map line_text
-    (part_lines (codes "plan") (plan_row_words letters) answer.plan.den answer.plan.rows) in
-    let defence = flat_map line_text
-    (part_lines (codes "defence") (defence_row_words letters) answer.defence.den answer.defence.rows) in
+    let plan = flat_map line_text (plan_lines letters answer.plan) in
+    let defence = flat_map line_text (defence_lines letters answer.defence) in
     let made : d ≡ (((first ++ value) ++ plan) ++ defence) ++ codes "end\n" = rw (ed, ec, eb, ea, eo) refl in
     made ∙ glue_4 first value plan defence (codes "end\n") ∙ sym (answer_spelled letters answer)

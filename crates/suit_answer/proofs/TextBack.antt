@@ -17,19 +17,23 @@ use Rattle.suit_num.specs.Divisors.{gcd_of}
 use Rattle.suit_num.proofs.DivisorLaws.{IsGcd-iff, IsGcd_from_coprime}
 use Rattle.suit_game.specs.declared.question.Question.{Question}
 use Rattle.suit_classes.specs.Classes.{class_count, defence_classes, hands_of}
+use Rattle.suit_plans.specs.declared.plan.Plan.{Plan}
+use Rattle.suit_plans.specs.declared.defence.Defence.{Defence}
+use Rattle.suit_text.specs.Strict.{pieces_of, words_of}
 use Rattle.suit_answer.specs.Forms.{slash_sides}
 use Rattle.suit_answer.specs.Fractions.{fraction_of}
 use Rattle.suit_answer.specs.Letters.{class_letters}
-use Rattle.suit_answer.specs.Lines.{pieces_of, line_due, words_of}
+use Rattle.suit_answer.specs.Lines.{line_due}
 use Rattle.suit_answer.specs.Reading.{value_due, header_due, rows_due, part_due, end_due, answer_due, answer_read}
 use Rattle.suit_answer.specs.Rows.{plan_row_due, defence_row_due}
 use Rattle.suit_answer.specs.Writable.{IsWritable, IsWritableNumber, IsWritableRow, IsWritableDefenceRow}
+use Rattle.suit_answer.specs.Writable.{IsWritablePlanFor, IsWritableDefenceFor}
 use Rattle.suit_answer.specs.Writing.{spaced, line_text, value_words, header_words, plan_row_words, defence_row_words}
-use Rattle.suit_answer.specs.Writing.{part_lines, text_of}
+use Rattle.suit_answer.specs.Writing.{part_lines, plan_lines, defence_lines, text_of}
 use Rattle.suit_answer.specs.declared.answer.Answer.{Answer}
 use Rattle.suit_answer.specs.declared.faults.AnswerFault.{AnswerFault}
 use Rattle.suit_answer.specs.declared.parts.TheConstants.{MOST_ROWS}
-use Rattle.suit_answer.proofs.Cuts.{some_part}
+use Rattle.suit_text.proofs.Splits.{some_part}
 use Rattle.suit_answer.proofs.Lowest.{told_as, lowest_yes}
 use Rattle.suit_answer.proofs.MoveBack.{letters_good}
 use Rattle.suit_answer.proofs.NumberBack.{AreDigits, number_back, number_digits, number_word, small_back, decimal_word}
@@ -215,6 +219,44 @@ module _ {R : Type 0} (keyword : Text) (row : ℕ → List Text → Result R Ans
         rows_back row row_words P row_back row_plain row_line (line + 1) rows rest all,
       ) refl
 
+-- a plan that is written is read back
+pub plan_part_back : (question : Question) (plan : Plan) (line : ℕ) (rest : Text) → IsWritablePlanFor question plan
+    → part_due (codes "plan") (plan_row_due (class_letters (hands_of question))) line
+    (pieces_of (flat_map line_text (plan_lines (class_letters (hands_of question)) plan) ++ rest))
+    ≡ Ok (plan.den, plan.rows, line + 1 + length plan.rows, pieces_of rest)
+plan_part_back question plan line rest h =
+    let hands = hands_of question in
+    let letters = class_letters hands in
+    let good = letters_good hands in
+    let rows : AllByRecursion (IsWritableRow (length letters)) plan.rows =
+    subst (λ (n : ℕ). AllByRecursion (IsWritableRow n) plan.rows) (sym (letters_each question))
+    (recursion_from_All (IsWritableRow (class_count hands)) plan.rows h.rows) in
+    part_back (codes "plan") (plan_row_due letters) (plan_row_words letters) (IsWritableRow (length letters))
+    (λ line. plan_row_back letters line good) (λ row. plan_row_plain letters 0 good row)
+    (λ row. (codes "at", _, refl)) (lit< tt, (lit< tt, (lit< tt, (lit< tt, tt)))) line plan.den plan.rows rest
+    h.den h.few rows
+
+-- so is a defence
+pub defence_part_back : (question : Question) (defence : Defence) (line : ℕ) (rest : Text)
+    → IsWritableDefenceFor question defence
+    → part_due (codes "defence")
+    (defence_row_due (class_letters (hands_of question)) (length (defence_classes (hands_of question)))) line
+    (pieces_of (flat_map line_text (defence_lines (class_letters (hands_of question)) defence) ++ rest))
+    ≡ Ok (defence.den, defence.rows, line + 1 + length defence.rows, pieces_of rest)
+defence_part_back question defence line rest h =
+    let hands = hands_of question in
+    let letters = class_letters hands in
+    let classes = length (defence_classes hands) in
+    let good = letters_good hands in
+    let rows : AllByRecursion (IsWritableDefenceRow (length letters) classes) defence.rows =
+    subst (λ (n : ℕ). AllByRecursion (IsWritableDefenceRow n classes) defence.rows) (sym (letters_each question))
+    (recursion_from_All (IsWritableDefenceRow (class_count hands) classes) defence.rows h.rows) in
+    part_back (codes "defence") (defence_row_due letters classes) (defence_row_words letters)
+    (IsWritableDefenceRow (length letters) classes) (λ line row. defence_row_back letters line good row classes)
+    (λ row. defence_row_plain letters 0 good classes row) (λ row. (codes "west", _, refl))
+    (lit< tt, (lit< tt, (lit< tt, (lit< tt, (lit< tt, (lit< tt, (lit< tt, tt))))))) line defence.den defence.rows
+    rest h.den h.few rows
+
 version_back : (rest : Text)
     → line_due 1 (pieces_of (codes "answer 1\n" ++ rest)) ≡ Ok (codes "answer 1", pieces_of rest)
 unfolding spaced
@@ -222,7 +264,7 @@ version_back rest =
     line_back 1 (codes "answer") (codes "1" ∷ []) rest
     ((lit< tt, (lit< tt, (lit< tt, (lit< tt, (lit< tt, (lit< tt, tt)))))), ((lit< tt, tt), tt))
 
-end_back : (line : ℕ) → end_due line (pieces_of (codes "end\n")) ≡ Ok tt
+pub end_back : (line : ℕ) → end_due line (pieces_of (codes "end\n")) ≡ Ok tt
 unfolding end_due pieces_of
 end_back line = refl
 
@@ -257,33 +299,13 @@ answer_back question answer h =
     let hands = hands_of question in
     let letters = class_letters hands in
     let classes = length (defence_classes hands) in
-    let good = letters_good hands in
-    let each = letters_each question in
-    let plan_rows : AllByRecursion (IsWritableRow (length letters)) answer.plan.rows =
-    subst (λ (n : ℕ). AllByRecursion (IsWritableRow n) answer.plan.rows) (sym each)
-    (recursion_from_All (IsWritableRow (class_count hands)) answer.plan.rows h.plan_rows) in
-    let defence_rows : AllByRecursion (IsWritableDefenceRow (length letters) classes) answer.defence.rows =
-    subst (λ (n : ℕ). AllByRecursion (IsWritableDefenceRow n classes) answer.defence.rows) (sym each)
-    (recursion_from_All (IsWritableDefenceRow (class_count hands) classes) answer.defence.rows h.defence_rows) in
     let end = codes "end\n" in
-    let defence_text =
-    flat_map line_text (part_lines (codes "defence") (defence_row_words letters) answer.defence.den answer.defence.rows)
-    ++ end in
-    let plan_text =
-    flat_map line_text (part_lines (codes "plan") (plan_row_words letters) answer.plan.den answer.plan.rows)
-    ++ defence_text in
+    let defence_text = flat_map line_text (defence_lines letters answer.defence) ++ end in
+    let plan_text = flat_map line_text (plan_lines letters answer.plan) ++ defence_text in
     let value = value_line_back 2 answer.value plan_text h.num h.den in
     let plan_line : ℕ = 3 + 1 + length answer.plan.rows in
-    let plan = part_back (codes "plan") (plan_row_due letters) (plan_row_words letters)
-    (IsWritableRow (length letters)) (λ line. plan_row_back letters line good)
-    (λ row. plan_row_plain letters 0 good row)
-    (λ row. (codes "at", _, refl)) (lit< tt, (lit< tt, (lit< tt, (lit< tt, tt)))) 3 answer.plan.den answer.plan.rows
-    defence_text h.plan_den h.plan_few plan_rows in
-    let defence = part_back (codes "defence") (defence_row_due letters classes) (defence_row_words letters)
-    (IsWritableDefenceRow (length letters) classes) (λ line row. defence_row_back letters line good row classes)
-    (λ row. defence_row_plain letters 0 good classes row) (λ row. (codes "west", _, refl))
-    (lit< tt, (lit< tt, (lit< tt, (lit< tt, (lit< tt, (lit< tt, (lit< tt, tt))))))) plan_line answer.defence.den
-    answer.defence.rows end h.defence_den h.defence_few defence_rows in
+    let plan = plan_part_back question answer.plan 3 defence_text h.plan in
+    let defence = defence_part_back question answer.defence plan_line end h.defence in
     ap (λ (t : Text). answer_due letters classes (pieces_of t)) (answer_spelled letters answer)
     ∙ rw (
       version_back (line_text (value_words answer.value) ++ plan_text),

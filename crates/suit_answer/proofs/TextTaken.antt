@@ -18,18 +18,21 @@ use Rattle.suit_game.specs.declared.question.Question.{Question}
 use Rattle.suit_classes.specs.Classes.{class_count, defence_classes, hands_of}
 use Rattle.suit_plans.specs.declared.plan.Row.{Row}
 use Rattle.suit_plans.specs.declared.defence.DefenceRow.{DefenceRow}
+use Rattle.suit_text.specs.Strict.{pieces_of, words_of, is_filled}
 use Rattle.suit_answer.specs.Forms.{two_filled, after_keyword, slash_sides, one_fraction, value_form}
 use Rattle.suit_answer.specs.Forms.{header_form}
 use Rattle.suit_answer.specs.Fractions.{fraction_by, fraction_of}
 use Rattle.suit_answer.specs.LowestTerms.{is_lowest}
-use Rattle.suit_answer.specs.Lines.{pieces_of, line_due, words_of, is_filled}
+use Rattle.suit_answer.specs.Lines.{line_due}
 use Rattle.suit_answer.specs.Numbers.{number_due, small_due}
 use Rattle.suit_answer.specs.Reading.{version_due, value_due, header_due, rows_due, part_due, is_over, nothing_after}
 use Rattle.suit_answer.specs.Letters.{class_letter, class_letters}
 use Rattle.suit_answer.specs.Reading.{end_due, answer_due, answer_read}
 use Rattle.suit_answer.specs.Results.{◌>>=◌}
 use Rattle.suit_answer.specs.Rows.{plan_row_due, defence_row_due}
+use Rattle.suit_answer.specs.Alone.{made_plan, made_defence}
 use Rattle.suit_answer.specs.Writable.{IsWritable, IsWritableNumber, IsWritableRow, IsWritableDefenceRow}
+use Rattle.suit_answer.specs.Writable.{IsWritablePlan, IsWritableDefence}
 use Rattle.suit_answer.specs.Writing.{spaced, line_text, value_words, header_words, plan_row_words, defence_row_words}
 use Rattle.suit_answer.specs.Writing.{part_lines, answer_lines, text_of}
 use Rattle.suit_answer.specs.declared.answer.Answer.{Answer}
@@ -213,13 +216,13 @@ header_taken keyword line words found h =
 module _ {R : Type 0} (keyword : Text) (row : ℕ → List Text → Result R AnswerFault) (row_words : R → List Text)
     (P : R → Type 0)
     (row_taken : (line : ℕ) (words : List Text) (r : R) → row line words ≡ Ok r → (words ≡ row_words r) × P r) where
-  record PartTaken (pieces : List Text) (found : ℤ × List R × ℕ × List Text) : Type 0 where
-    text : joined pieces ≡ flat_map line_text (part_lines keyword row_words found.0 found.1) ++ joined found.3
-    den : IsWritableNumber found.0
-    few : length found.1 ≤ MOST_ROWS
-    rows : AllByRecursion P found.1
+  pub record PartTaken (pieces : List Text) (found : ℤ × List R × ℕ × List Text) : Type 0 where
+    pub text : joined pieces ≡ flat_map line_text (part_lines keyword row_words found.0 found.1) ++ joined found.3
+    pub den : IsWritableNumber found.0
+    pub few : length found.1 ≤ MOST_ROWS
+    pub rows : AllByRecursion P found.1
 
-  part_taken : (line : ℕ) (pieces : List Text) (found : ℤ × List R × ℕ × List Text)
+  pub part_taken : (line : ℕ) (pieces : List Text) (found : ℤ × List R × ℕ × List Text)
       → part_due keyword row line pieces ≡ Ok found → PartTaken pieces found
   unfolding part_due RowsTaken
   part_taken line pieces found h =
@@ -261,7 +264,7 @@ over_nothing ([] ∷ []) h = refl
 over_nothing ((byte ∷ bytes) ∷ []) h = absurd cc
 over_nothing (piece ∷ next ∷ pieces) h = absurd cc
 
-end_taken : (line : ℕ) (pieces : List Text) (nothing : ⊤) → end_due line pieces ≡ Ok nothing
+pub end_taken : (line : ℕ) (pieces : List Text) (nothing : ⊤) → end_due line pieces ≡ Ok nothing
     → joined pieces ≡ codes "end\n"
 unfolding end_due
 end_taken line pieces nothing h =
@@ -272,17 +275,28 @@ end_taken line pieces nothing h =
     cut_is line pieces next.0 next.1
     ∙ (λ i. same_text next.0.0 (codes "end") word.0 i ++ 10 ∷ over_nothing next.0.1 over.0 i)
 
+-- a plan of rows that can be written, and a defence
+pub plan_is : (classes : ℕ) (den : ℤ) (rows : List Row) → IsWritableNumber den → length rows ≤ MOST_ROWS
+    → AllByRecursion (IsWritableRow classes) rows → IsWritablePlan classes (made_plan den rows)
+plan_is classes den rows number few each =
+    record { den = number; few = few; rows = All-from_recursion (IsWritableRow classes) rows each }
+
+pub defence_is : (classes defenders : ℕ) (den : ℤ) (rows : List DefenceRow) → IsWritableNumber den
+    → length rows ≤ MOST_ROWS → AllByRecursion (IsWritableDefenceRow classes defenders) rows
+    → IsWritableDefence classes defenders (made_defence den rows)
+defence_is classes defenders den rows number few each = record {
+  den = number;
+  few = few;
+  rows = All-from_recursion (IsWritableDefenceRow classes defenders) rows each;
+}
+
 -- what is known of an answer that was read
 record AnswerTaken (letters : Text) (classes : ℕ) (pieces : List Text) (answer : Answer) : Type 0 where
   text : joined pieces ≡ flat_map line_text (answer_lines letters answer)
   num : IsWritableNumber answer.value.num
   den : IsWritableNumber answer.value.den
-  plan_den : IsWritableNumber answer.plan.den
-  plan_few : length answer.plan.rows ≤ MOST_ROWS
-  plan_rows : AllByRecursion (IsWritableRow (length letters)) answer.plan.rows
-  defence_den : IsWritableNumber answer.defence.den
-  defence_few : length answer.defence.rows ≤ MOST_ROWS
-  defence_rows : AllByRecursion (IsWritableDefenceRow (length letters) classes) answer.defence.rows
+  plan : IsWritablePlan (length letters) answer.plan
+  defence : IsWritableDefence (length letters) classes answer.defence
 
 answer_made : Frac → (ℤ × List Row × ℕ × List Text) → (ℤ × List DefenceRow × ℕ × List Text) → Answer
 answer_made value plan defence = record {
@@ -343,12 +357,8 @@ answer_taken letters classes pieces answer h =
       text = text;
       num = number.1;
       den = number.2;
-      plan_den = rows.den;
-      plan_few = rows.few;
-      plan_rows = rows.rows;
-      defence_den = against.den;
-      defence_few = against.few;
-      defence_rows = against.rows;
+      plan = plan_is (length letters) plan.0.0 plan.0.1 rows.den rows.few rows.rows;
+      defence = defence_is (length letters) classes defence.0.0 defence.0.1 against.den against.few against.rows;
     })
 
 -- there is a letter for each class
@@ -368,17 +378,8 @@ text_taken question text answer h =
       record {
         num = taken.num;
         den = taken.den;
-        plan_den = taken.plan_den;
-        plan_few = taken.plan_few;
-        plan_rows =
-            All-from_recursion (IsWritableRow (class_count hands)) answer.plan.rows
-            (subst (λ (n : ℕ). AllByRecursion (IsWritableRow n) answer.plan.rows) each taken.plan_rows);
-        defence_den = taken.defence_den;
-        defence_few = taken.defence_few;
-        defence_rows =
-            All-from_recursion (IsWritableDefenceRow (class_count hands) (length (defence_classes hands)))
-            answer.defence.rows
-            (subst (λ (n : ℕ). AllByRecursion (IsWritableDefenceRow n (length (defence_classes hands)))
-            answer.defence.rows) each taken.defence_rows);
+        plan = subst (λ (n : ℕ). IsWritablePlan n answer.plan) each taken.plan;
+        defence =
+            subst (λ (n : ℕ). IsWritableDefence n (length (defence_classes hands)) answer.defence) each taken.defence;
       },
     )

@@ -6,7 +6,7 @@ use Rattle.std.specs.List.{slice_split}
 use Rattle.std.specs.Option.{option_and_then}
 use Rattle.std.specs.Str.{bytes_eq}
 use Rattle.suit_cards.specs.Cards.{Text}
-use Rattle.suit_answer.specs.Lines.{is_filled}
+use Rattle.suit_text.specs.Strict.{is_filled}
 
 -- two texts, neither of them empty, and no more
 abbrev pub two_filled : List Text → Option (Text × Text)

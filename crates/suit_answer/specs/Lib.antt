@@ -1,3 +1,4 @@
+pub mod Alone
 pub mod AnswerLaws
 pub mod Forms
 pub mod Fractions

@@ -7,10 +7,11 @@ use Rattle.suit_cards.specs.Cards.{Text}
 use Rattle.suit_num.specs.declared.fraction.Frac.{Frac}
 use Rattle.suit_game.specs.declared.question.Question.{Question}
 use Rattle.suit_classes.specs.Classes.{defence_classes, hands_of}
+use Rattle.suit_text.specs.Strict.{pieces_of, words_of, is_filled}
 use Rattle.suit_answer.specs.Forms.{value_form, header_form}
 use Rattle.suit_answer.specs.Fractions.{fraction_of}
 use Rattle.suit_answer.specs.Letters.{class_letters}
-use Rattle.suit_answer.specs.Lines.{pieces_of, line_due, words_of, is_filled}
+use Rattle.suit_answer.specs.Lines.{line_due}
 use Rattle.suit_answer.specs.Numbers.{number_due, small_due}
 use Rattle.suit_answer.specs.Results.{◌>>=◌}
 use Rattle.suit_answer.specs.Rows.{plan_row_due, defence_row_due}

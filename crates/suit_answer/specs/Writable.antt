@@ -8,7 +8,9 @@ use Rattle.suit_classes.specs.ClassMoves.{ClassHistory}
 use Rattle.suit_classes.specs.declared.class_moves.ClassMove.{ClassMove}
 use Rattle.suit_classes.specs.declared.class_moves.ClassMove.TheVariants.{Lead, Follow, ShowOut}
 use Rattle.suit_plans.specs.Masses.{Shares}
+use Rattle.suit_plans.specs.declared.plan.Plan.{Plan}
 use Rattle.suit_plans.specs.declared.plan.Row.{Row}
+use Rattle.suit_plans.specs.declared.defence.Defence.{Defence}
 use Rattle.suit_plans.specs.declared.defence.DefenceRow.{DefenceRow}
 use Rattle.suit_num.specs.Narrow.{IsNarrow}
 use Rattle.suit_answer.specs.declared.answer.Answer.{Answer}
@@ -43,20 +45,34 @@ abbrev pub IsWritableRow : ℕ → Row → Type 0
 IsWritableRow classes row = IsWritableTurn classes row.history row.counts
 
 -- a row of a defence that can be written, where the defenders have so many classes
-pub record IsWritableDefenceRow (classes defence : ℕ) (row : DefenceRow) : Type 0 where
-  pub blocks : length row.west ≡ defence
+pub record IsWritableDefenceRow (classes defenders : ℕ) (row : DefenceRow) : Type 0 where
+  pub blocks : length row.west ≡ defenders
   pub small : All (λ count. count ≤ HAND_SIZE) row.west
   pub turn : IsWritableTurn classes row.history row.counts
+
+-- a plan that can be written
+pub record IsWritablePlan (classes : ℕ) (plan : Plan) : Type 0 where
+  pub den : IsWritableNumber plan.den
+  pub few : length plan.rows ≤ MOST_ROWS
+  pub rows : All (IsWritableRow classes) plan.rows
+
+-- a defence that can be written, where the defenders have so many classes
+pub record IsWritableDefence (classes defenders : ℕ) (defence : Defence) : Type 0 where
+  pub den : IsWritableNumber defence.den
+  pub few : length defence.rows ≤ MOST_ROWS
+  pub rows : All (IsWritableDefenceRow classes defenders) defence.rows
+
+-- a plan for a question, and a defence
+abbrev pub IsWritablePlanFor : Question → Plan → Type 0
+IsWritablePlanFor question plan = IsWritablePlan (class_count (hands_of question)) plan
+
+abbrev pub IsWritableDefenceFor : Question → Defence → Type 0
+IsWritableDefenceFor question defence =
+    IsWritableDefence (class_count (hands_of question)) (length (defence_classes (hands_of question))) defence
 
 -- an answer to a question that can be written; its value is in lowest terms by its type
 pub record IsWritable (question : Question) (answer : Answer) : Type 0 where
   pub num : IsWritableNumber answer.value.num
   pub den : IsWritableNumber answer.value.den
-  pub plan_den : IsWritableNumber answer.plan.den
-  pub plan_few : length answer.plan.rows ≤ MOST_ROWS
-  pub plan_rows : All (IsWritableRow (class_count (hands_of question))) answer.plan.rows
-  pub defence_den : IsWritableNumber answer.defence.den
-  pub defence_few : length answer.defence.rows ≤ MOST_ROWS
-  pub defence_rows : All
-      (IsWritableDefenceRow (class_count (hands_of question)) (length (defence_classes (hands_of question))))
-      answer.defence.rows
+  pub plan : IsWritablePlanFor question answer.plan
+  pub defence : IsWritableDefenceFor question answer.defence

@@ -9,7 +9,9 @@ use Rattle.suit_classes.specs.Classes.{hands_of}
 use Rattle.suit_classes.specs.ClassMoves.{ClassHistory}
 use Rattle.suit_classes.specs.declared.class_moves.ClassMove.{ClassMove}
 use Rattle.suit_plans.specs.Masses.{Shares}
+use Rattle.suit_plans.specs.declared.plan.Plan.{Plan}
 use Rattle.suit_plans.specs.declared.plan.Row.{Row}
+use Rattle.suit_plans.specs.declared.defence.Defence.{Defence}
 use Rattle.suit_plans.specs.declared.defence.DefenceRow.{DefenceRow}
 use Rattle.suit_answer.specs.Letters.{class_letters, move_word}
 use Rattle.suit_answer.specs.declared.answer.Answer.{Answer}
@@ -53,14 +55,25 @@ header_words keyword den rows = keyword ∷ signed_decimal den ∷ decimal rows 
 abbrev pub part_lines : {R : Type 0} → Text → (R → List Text) → ℤ → List R → List (List Text)
 part_lines keyword row_words den rows = header_words keyword den (length rows) ∷ map row_words rows
 
--- the lines of an answer, each as its words, where the letters of the classes are given
+-- the lines of a plan, each as its words, where the letters of the classes are given
+abbrev pub plan_lines : Text → Plan → List (List Text)
+plan_lines letters plan = part_lines (codes "plan") (plan_row_words letters) plan.den plan.rows
+
+-- the lines of a defence
+abbrev pub defence_lines : Text → Defence → List (List Text)
+defence_lines letters defence =
+    part_lines (codes "defence") (defence_row_words letters) defence.den defence.rows
+
+-- the line that ends a text
+abbrev pub end_line : List Text
+end_line = codes "end" ∷ []
+
+-- the lines of an answer
 abbrev pub answer_lines : Text → Answer → List (List Text)
 answer_lines letters answer =
     (codes "answer" ∷ codes "1" ∷ [])
     ∷ value_words answer.value
-    ∷ (part_lines (codes "plan") (plan_row_words letters) answer.plan.den answer.plan.rows
-    ++ (part_lines (codes "defence") (defence_row_words letters) answer.defence.den answer.defence.rows
-    ++ (codes "end" ∷ []) ∷ []))
+    ∷ (plan_lines letters answer.plan ++ (defence_lines letters answer.defence ++ end_line ∷ []))
 
 -- the text of an answer to a question
 abbrev pub text_of : Question → Answer → Text

@@ -1,11 +1,11 @@
 //! The forms of lines, told by their words.
 ghost use Rattle.std.specs.Prelude.{◌≡◌, ◌==◌, [], ◌∷◌, option_map, position};
 ghost use Rattle.std.specs.Str.{bytes_eq};
+ghost use Rattle.suit_text.specs.Strict.{words_of, words_after};
 ghost use Rattle.suit_answer.specs.Forms.{slash_sides, two_filled, value_form, header_form};
 ghost use Rattle.suit_answer.specs.Forms.{is_value, are_pairs, are_shares, is_turn, is_layout_turn};
-ghost use Rattle.suit_answer.specs.Lines.{words_of, words_after};
 
-use crate::lines::{first_word, next_word};
+use suit_text::strict::{first_word, next_word};
 
 /// The two words for the numbers of a line of a value.
 pub fn value_form(line: &[u8]) -> Option<(&[u8], &[u8])>

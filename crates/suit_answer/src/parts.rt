@@ -1,7 +1,7 @@
 //! The parts of an answer text: a line that tells a denominator and how many rows there are, and the rows.
 ghost use Rattle.std.specs.Prelude.{◌≡◌, ◌+◌, ◌≤◌, codes, length, vec_len, IfOk};
 ghost use Rattle.suit_classes.specs.declared.classes.TheConstants.{MOST_DEFENCE_CLASSES};
-ghost use Rattle.suit_answer.specs.Lines.{pieces_of, words_of};
+ghost use Rattle.suit_text.specs.Strict.{pieces_of, words_of};
 ghost use Rattle.suit_answer.specs.Reading.{header_due, rows_due, part_due};
 ghost use Rattle.suit_answer.specs.Results.{Gives};
 ghost use Rattle.suit_answer.specs.Rows.{plan_row_due, defence_row_due};
@@ -15,12 +15,13 @@ use crate::rows::{defence_row_due, plan_row_due};
 use std::alloc::Global;
 use suit_classes::MOST_DEFENCE_CLASSES;
 use suit_plans::{Defence, DefenceRow, DefenceRows, Plan, Row, Rows};
+use suit_text::MOST_TEXT;
 
 /// The most rows that a line may tell of.
 pub const MOST_ROWS: u32 = 4_294_967_295;
 
-/// The number of the line that the last byte of a longest text can stand on, with room for the lines that are due.
-pub const MOST_LINES: u32 = 16_777_300;
+/// No line that is due in a text has a number above this: each line before it has a byte of the text at least.
+pub const MOST_LINES: u32 = MOST_TEXT as u32 + 1;
 
 /// A part that was read, and where the text goes on.
 #[derive(Drop)]

@@ -1,7 +1,7 @@
 //! Reading an answer text.
 ghost use Rattle.std.specs.Prelude.{◌≡◌, ◌≤◌, ◌⊎◌, length, IfOk, IfErr, Ok, Err};
 ghost use Rattle.suit_classes.specs.declared.classes.TheConstants.{MOST_DEFENCE_CLASSES};
-ghost use Rattle.suit_answer.specs.Lines.{pieces_of};
+ghost use Rattle.suit_text.specs.Strict.{pieces_of};
 ghost use Rattle.suit_answer.specs.Reading.{version_due, end_due, answer_due, answer_read};
 ghost use Rattle.suit_answer.specs.Results.{Gives};
 ghost use Rattle.suit_answer.specs.Writable.{IsWritable};
@@ -13,14 +13,12 @@ use crate::faults::{AnswerFault, ReadEnd};
 use crate::forms::is_word;
 use crate::letters::ClassLetters;
 use crate::lines::next_line;
-use crate::parts::{defence_due, plan_due};
+use crate::parts::{MOST_LINES, defence_due, plan_due};
 use crate::values::value_due;
 use std::alloc::Global;
 use suit_classes::{Classes, MOST_DEFENCE_CLASSES};
 use suit_game::Question;
-
-/// The most bytes of a text that an answer is read from.
-pub const MOST_TEXT: usize = 16_777_216;
+use suit_text::MOST_TEXT;
 
 /// Reads an answer to a question from its text: `answer 1`, the value, the plan, the defence, and `end`, each line
 /// ended by a line feed and its words one space apart. A fault is that of the first line with one: Truncated where
@@ -88,8 +86,8 @@ fn version_due(line: u32, text: &[u8]) -> Result<(), ReadEnd>
 
 /// Whether the end is next, and nothing stands after it.
 #[tactic(auto, unfolding(crate::specs::Reading::end_due), using(crate::proofs::Cuts::over_is))]
-fn end_due(line: u32, text: &[u8]) -> Result<(), ReadEnd>
-    requires { line ≤ 4294967294 }
+pub fn end_due(line: u32, text: &[u8]) -> Result<(), ReadEnd>
+    requires { line ≤ MOST_LINES }
     ensures { Gives (λ x. x) result (end_due line (pieces_of text.now)) }
 {
     let next = next_line(line, text)?;

@@ -1,7 +1,7 @@
 //! The rows of plans and of defences, read from their lines.
 ghost use Rattle.std.specs.Prelude.{◌≡◌, ◌≤◌, length};
 ghost use Rattle.suit_classes.specs.declared.classes.TheConstants.{MOST_DEFENCE_CLASSES};
-ghost use Rattle.suit_answer.specs.Lines.{words_of, words_after};
+ghost use Rattle.suit_text.specs.Strict.{words_of, words_after};
 ghost use Rattle.suit_answer.specs.Results.{Gives};
 ghost use Rattle.suit_answer.specs.Rows.{history_due, shares_due, counts_due};
 ghost use Rattle.suit_answer.specs.Rows.{plan_turn_due, defence_turn_due, plan_row_due, defence_row_due};
@@ -9,7 +9,6 @@ ghost use Rattle.suit_answer.specs.Rows.{plan_turn_due, defence_turn_due, plan_r
 use crate::faults::{AnswerFault, ReadEnd};
 use crate::forms::{is_layout_turn, is_turn, is_word};
 use crate::letters::ClassLetters;
-use crate::lines::{first_word, next_word};
 use crate::numbers::{number_due, small_due};
 use arrayvec::ArrayVec;
 use std::alloc::Global;
@@ -17,6 +16,7 @@ use suit_classes::{ClassMove, History, MOST_DEFENCE_CLASSES};
 use suit_game::HAND_SIZE;
 use suit_layouts::ClassLayout;
 use suit_plans::{Counts, DefenceRow, Row};
+use suit_text::strict::{first_word, next_word};
 
 /// A row of a plan, from its line.
 #[tactic(auto, unfolding(crate::specs::Rows::plan_row_due))]

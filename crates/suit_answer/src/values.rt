@@ -1,8 +1,8 @@
 //! The value of an answer text.
 ghost use Rattle.std.specs.Prelude.{◌≡◌};
 ghost use Rattle.suit_num.specs.Narrow.{IsNarrow};
+ghost use Rattle.suit_text.specs.Strict.{words_of};
 ghost use Rattle.suit_answer.specs.Fractions.{fraction_of};
-ghost use Rattle.suit_answer.specs.Lines.{words_of};
 ghost use Rattle.suit_answer.specs.Reading.{value_due};
 ghost use Rattle.suit_answer.specs.Results.{Gives};
 

@@ -1,5 +1,5 @@
 //! Writing an answer text, and the words that all texts write moves and numbers by.
-ghost use Rattle.std.specs.Prelude.{◌≡◌, ◌∷◌, [], ◌++◌, ◌≤◌, codes, length, map, All, Ok, OnOk, IfOk, decimal};
+ghost use Rattle.std.specs.Prelude.{◌≡◌, ◌∷◌, [], ◌++◌, ◌≤◌, length, map, All, Ok, OnOk, IfOk, decimal};
 ghost use Rattle.std.specs.Fmt.{signed_decimal};
 ghost use Rattle.std.specs.List.{flat_map};
 ghost use Rattle.suit_answer.specs.Letters.{move_word, seat_letter};
@@ -7,7 +7,8 @@ ghost use Rattle.suit_answer.specs.Reading.{answer_read};
 ghost use Rattle.suit_answer.specs.Writable.{IsWritable, IsWritableMove, IsWritableRow};
 ghost use Rattle.suit_answer.specs.Writable.{IsWritableShare, IsWritableTurn};
 ghost use Rattle.suit_answer.specs.Writing.{spaced, line_text, share_words, turn_words, plan_row_words};
-ghost use Rattle.suit_answer.specs.Writing.{defence_row_words, header_words, value_words, part_lines, text_of};
+ghost use Rattle.suit_answer.specs.Writing.{defence_row_words, header_words, value_words};
+ghost use Rattle.suit_answer.specs.Writing.{plan_lines, defence_lines, text_of};
 ghost use Rattle.suit_answer.specs.declared.parts.TheConstants.{MOST_ROWS};
 
 use crate::Memory;
@@ -182,12 +183,12 @@ fn write_header(text: &mut Vec<u8>, keyword: &[u8], den: i128, rows: u32) -> Res
     Ok(())
 }
 
-/// Writes the lines of a plan.
-fn write_plan(text: &mut Vec<u8>, letters: &ClassLetters, plan: &Plan) -> Result<(), Memory>
+/// Writes the lines of a plan at the end of a text: `plan` with its denominator and its number of rows, and the rows.
+pub fn write_plan(text: &mut Vec<u8>, letters: &ClassLetters, plan: &Plan) -> Result<(), Memory>
     requires few { length plan.now.rows ≤ MOST_ROWS }
     requires rows { All (IsWritableRow (length letters.now)) plan.now.rows }
-    ensures { OnOk result (text.new.items ≡ text.old.items
-        ++ flat_map line_text (part_lines (codes "plan") (plan_row_words letters.now) plan.now.den plan.now.rows)) }
+    ensures { OnOk result (text.new.items
+        ≡ text.old.items ++ flat_map line_text (plan_lines letters.now plan.now)) }
 {
     let rows = plan.rows.items();
     write_header(text, b"plan", plan.den, rows.len() as u32)?;
@@ -197,16 +198,17 @@ fn write_plan(text: &mut Vec<u8>, letters: &ClassLetters, plan: &Plan) -> Result
     Ok(())
 }
 
-/// Writes the lines of a defence.
-fn write_defence(
+/// Writes the lines of a defence at the end of a text: `defence` with its denominator and its number of rows, and the
+/// rows.
+pub fn write_defence(
     text: &mut Vec<u8>,
     letters: &ClassLetters,
     defence: &Defence,
 ) -> Result<(), Memory>
     requires few { length defence.now.rows ≤ MOST_ROWS }
     requires rows { All (λ row. IsWritableTurn (length letters.now) row.history row.counts) defence.now.rows }
-    ensures { OnOk result (text.new.items ≡ text.old.items ++ flat_map line_text
-        (part_lines (codes "defence") (defence_row_words letters.now) defence.now.den defence.now.rows)) }
+    ensures { OnOk result (text.new.items
+        ≡ text.old.items ++ flat_map line_text (defence_lines letters.now defence.now)) }
 {
     let rows = defence.rows.items();
     write_header(text, b"defence", defence.den, rows.len() as u32)?;

@@ -18,7 +18,7 @@ use Rattle.suit_game.specs.Validity.{IsValid}
 use Rattle.suit_game.specs.declared.question.Goal.TheVariants.{AtLeast}
 use Rattle.suit_game.proofs.EachElement.{kept_parts}
 use Rattle.suit_game.proofs.FilledPlaces.{total_of_all}
-use Rattle.suit_question.proofs.WrittenValues.{holding_back, goal_back}
+use Rattle.suit_question.proofs.ValuesBack.{holding_back, goal_back}
 use Rattle.suit_gen.proofs.Dealing.{north_some}
 use Rattle.suit_game.specs.declared.question.Question.{Question}
 use Rattle.suit_gen.specs.Deals.{deal_at, deals_from, dealt_to, place_of, question_of}

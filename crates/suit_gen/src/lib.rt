@@ -4,8 +4,6 @@
 mod deals;
 mod draws;
 mod tables;
-#[cfg(test)]
-mod tests;
 
 pub use tables::{make, questions};
 

@@ -1,6 +1,3 @@
-pub mod LineCuts
+pub mod EndPlaces
 pub mod ReadBack
-pub mod SmallNumbers
-pub mod WordCuts
-pub mod WrittenLines
-pub mod WrittenValues
+pub mod ValuesBack

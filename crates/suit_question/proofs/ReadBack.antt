@@ -17,10 +17,11 @@ use Rattle.suit_question.specs.Words.{is_skipped, is_end}
 use Rattle.suit_question.specs.Writing.{lead_text, entries_text, goal_text, question_lines, text_written}
 use Rattle.suit_question.specs.declared.columns.Columns.{Columns}
 use Rattle.suit_question.specs.declared.faults.QuestionKind.{QuestionKind}
-use Rattle.suit_question.proofs.WrittenLines.{ArePlainLines, lines_back}
-use Rattle.suit_question.proofs.WrittenValues.{number_within_back, count_back, entries_back, goal_back, lead_back}
-use Rattle.suit_question.proofs.WrittenValues.{holding_back, number_plain, entries_plain}
-use Rattle.suit_question.proofs.WrittenValues.{goal_plain, lead_plain, holding_plain}
+use Rattle.suit_text.proofs.LooseLinesBack.{ArePlainLines, lines_back}
+use Rattle.suit_question.proofs.ValuesBack.{number_within_back, count_back, entries_back, goal_back, lead_back}
+use Rattle.suit_question.proofs.ValuesBack.{holding_back, entries_plain}
+use Rattle.suit_question.proofs.ValuesBack.{goal_plain, lead_plain, holding_plain}
+use Rattle.suit_text.proofs.LooseNumbersBack.{number_plain}
 
 -- a line that puts its values
 put_step : (columns after : Columns) (number : ℕ) (line : List (List ℕ)) (lines : List (List (List ℕ)))

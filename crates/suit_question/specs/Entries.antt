@@ -5,8 +5,8 @@ use Rattle.suit_question.specs.Reading.{line_put}
 use Rattle.suit_question.specs.Words.{is_skipped, is_end}
 use Rattle.suit_question.specs.declared.columns.Columns.{Columns}
 use Rattle.suit_question.specs.declared.faults.QuestionKind.TheVariants.{Word}
-use Rattle.suit_question.specs.declared.words.Line.{Line}
-use Rattle.suit_question.specs.declared.words.Line.TheVariants.{Skipped, End, One, Two, Other}
+use Rattle.suit_question.specs.declared.line.Line.{Line}
+use Rattle.suit_question.specs.declared.line.Line.TheVariants.{Skipped, End, One, Two, Other}
 
 -- a line that says something and does not end the question
 pub record IsEntry (words : List Text) : Type 0 where

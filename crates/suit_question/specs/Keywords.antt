@@ -1,12 +1,12 @@
 -- The keywords, and the columns that their values go to.
 use Rattle.std.specs.Prelude.{List, [], ◌∷◌, codes, Option, Some, None, if◌then◌else◌}
 use Rattle.suit_cards.specs.Cards.{Text}
-use Rattle.suit_question.specs.Values.{is_word}
 use Rattle.suit_question.specs.declared.column.Column.TheVariants.{North, South, Start, Regain, EntriesN, EntriesS}
 use Rattle.suit_question.specs.declared.column.Column.TheVariants.{VacantW, VacantE, WestLeast}
 use Rattle.suit_question.specs.declared.column.Column.TheVariants.{WestMost, Goal, Nodes, Pivots}
 use Rattle.suit_question.specs.declared.keywords.Keyword.{Keyword}
 use Rattle.suit_question.specs.declared.keywords.Keyword.TheVariants.{Single, Pair}
+use Rattle.suit_text.specs.Loose.{is_word}
 
 -- the keywords, each with the one column or the two that its values go to
 abbrev pub keywords : List (Text × Keyword)

@@ -3,7 +3,6 @@ pub mod Entries
 pub mod Examples
 pub mod Faults
 pub mod Keywords
-pub mod Lines
 pub mod Ranges
 pub mod Reading
 pub mod Results

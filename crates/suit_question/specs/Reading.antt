@@ -5,9 +5,8 @@ use Rattle.suit_cards.specs.Cards.{Text}
 use Rattle.suit_game.specs.declared.question.Question.{Question}
 use Rattle.suit_question.specs.Columns.{no_columns, column_put, both_put, finished, told_at}
 use Rattle.suit_question.specs.Keywords.{keyword_named}
-use Rattle.suit_question.specs.Lines.{pieces_of, line_of, lines_of}
 use Rattle.suit_question.specs.Results.{◌>>=◌}
-use Rattle.suit_question.specs.Words.{words_of, is_skipped, is_end}
+use Rattle.suit_question.specs.Words.{is_skipped, is_end}
 use Rattle.suit_question.specs.declared.column.Column.{Column}
 use Rattle.suit_question.specs.declared.columns.Columns.{Columns}
 use Rattle.suit_question.specs.declared.faults.QuestionFault.{QuestionFault}
@@ -15,6 +14,7 @@ use Rattle.suit_question.specs.declared.faults.QuestionKind.{QuestionKind}
 use Rattle.suit_question.specs.declared.faults.QuestionKind.TheVariants.{NoLine, Word, Tail}
 use Rattle.suit_question.specs.declared.keywords.Keyword.{Keyword}
 use Rattle.suit_question.specs.declared.keywords.Keyword.TheVariants.{Single, Pair}
+use Rattle.suit_text.specs.Loose.{pieces_of, line_of, lines_of, words_of}
 
 -- one value, and no other number of them
 abbrev pub one_put : Columns → Column → List Text → Result Columns QuestionKind
@@ -35,8 +35,7 @@ values_put columns (Single column) values = one_put columns column values
 values_put columns (Pair first second) values = two_put columns first second values
 
 -- a line: its keyword, as many words as that has, and its values where the keyword has not stood before. A keyword
--- fills
--- its columns together, so that it has stood before where its first column has a value
+-- fills its columns together, so that it has stood before where its first column has a value
 abbrev pub line_put : Columns → List Text → Result Columns QuestionKind
 line_put columns [] = Err Word
 line_put columns (word ∷ values) =

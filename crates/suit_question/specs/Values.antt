@@ -1,10 +1,6 @@
 -- The values that the words of a question text stand for.
-use Rattle.std.specs.Prelude.{ℕ, nat_lt, nat_le, ◌&&◌, Bool, List, length, map}
-use Rattle.std.specs.Prelude.{codes, Option, Some, None, Result, Ok, Err, if◌then◌else◌}
-use Rattle.std.specs.Char.{to_ascii_lowercase}
+use Rattle.std.specs.Prelude.{ℕ, nat_le, ◌&&◌, codes, Result, Ok, Err, if◌then◌else◌}
 use Rattle.std.specs.Option.{option_map_or}
-use Rattle.std.specs.Str.{all_ascii_digits, bytes_eq}
-use Rattle.std.specs.Str.Parse.{digits_value}
 use Rattle.suit_cards.specs.Cards.{Cards, Text}
 use Rattle.suit_cards.specs.Reading.{holding_read}
 use Rattle.suit_cards.specs.declared.holdings.CardFault.{CardFault}
@@ -19,16 +15,8 @@ use Rattle.suit_game.specs.declared.question.Goal.TheVariants.{AtLeast, Tricks}
 use Rattle.suit_question.specs.Results.{found_as, told_as}
 use Rattle.suit_question.specs.declared.faults.QuestionKind.{QuestionKind}
 use Rattle.suit_question.specs.declared.faults.QuestionKind.TheVariants.{Word, Rank, Twice, Number, Range}
-
--- a text is a word, in capitals or not
-abbrev pub is_word : Text → Text → Bool
-is_word word text = bytes_eq (map to_ascii_lowercase text) (map to_ascii_lowercase word)
-
--- up to nine digits, and at least one, are a number
-abbrev pub number_read : Text → Option ℕ
-number_read text =
-    if nat_lt 0 (length text) && nat_le (length text) 9 && all_ascii_digits text then Some (digits_value 10 text)
-    else None
+use Rattle.suit_question.specs.declared.values.TheConstants.{MOST_DIGITS}
+use Rattle.suit_text.specs.Loose.{is_word, number_read}
 
 -- a number is to be in its range
 abbrev pub within : ℕ → ℕ → ℕ → Result ℕ QuestionKind
@@ -36,7 +24,7 @@ within least most number = if nat_le least number && nat_le number most then Ok 
 
 -- the number in a range that a word stands for
 abbrev pub number_within : ℕ → ℕ → Text → Result ℕ QuestionKind
-number_within least most text = option_map_or (within least most) (number_read text) (Err Number)
+number_within least most text = option_map_or (within least most) (number_read MOST_DIGITS text) (Err Number)
 
 -- a holding is at fault at its first bad byte
 abbrev pub kind_of : CardFault → QuestionKind

@@ -1,5 +1,5 @@
 -- How a question is written.
-use Rattle.std.specs.Prelude.{ℕ, List, [], ◌∷◌, ◌++◌, codes, decimal}
+use Rattle.std.specs.Prelude.{List, [], ◌∷◌, ◌++◌, codes, decimal}
 use Rattle.std.specs.List.{flat_map}
 use Rattle.suit_cards.specs.Cards.{Text}
 use Rattle.suit_cards.specs.Holdings.{text_of}
@@ -10,15 +10,7 @@ use Rattle.suit_game.specs.declared.question.Entries.{Entries}
 use Rattle.suit_game.specs.declared.question.Entries.TheVariants.{Count, Free}
 use Rattle.suit_game.specs.declared.question.Goal.{Goal}
 use Rattle.suit_game.specs.declared.question.Goal.TheVariants.{AtLeast, Tricks}
-
--- the words of a line, one space apart
-abbrev pub line_body : List Text → Text
-line_body [] = []
-line_body (word ∷ words) = word ++ flat_map (λ more. 32 ∷ more) words
-
--- a line with the line feed that ends it
-unfoldable pub line_text : List Text → Text
-line_text words = line_body words ++ 10 ∷ []
+use Rattle.suit_text.specs.Writing.{line_text}
 
 -- where the lead stands
 abbrev pub lead_text : LeadAt → Text

@@ -7,7 +7,7 @@ ghost use Rattle.suit_question.specs.Reading.{line_put};
 use crate::column::Column;
 use crate::columns::Columns;
 use crate::faults::QuestionKind;
-use crate::values::is_same;
+use suit_text::loose::is_word;
 
 /// The columns that a keyword's values go to.
 #[derive(Clone, Copy)]
@@ -47,7 +47,7 @@ fn found_in(mut table: &[(&[u8], Keyword)], word: &[u8]) -> Option<Keyword>
     ensures { result ≡ named_in (map (λ entry. (entry.0.now, entry.1)) table.entry.now) word.now }
 {
     while let [entry, rest @ ..] = table {
-        if is_same(word, entry.0) {
+        if is_word(entry.0, word) {
             return Some(entry.1);
         }
         table = rest;

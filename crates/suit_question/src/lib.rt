@@ -7,17 +7,14 @@ mod draft;
 pub mod examples;
 mod faults;
 mod keywords;
-mod lines;
+mod line;
 mod reading;
-#[cfg(test)]
-mod tests;
 mod values;
-mod words;
 mod writing;
 
 pub use draft::Draft;
 pub use faults::{QuestionFault, QuestionKind};
-pub use reading::{MOST_TEXT, question_end, read_question};
+pub use reading::{question_end, read_question};
 pub use writing::question_text;
 
 /// Memory ran out.

@@ -2,19 +2,17 @@
 ghost use Rattle.std.specs.Prelude.{◌≡◌, ◌≤◌, ◌+◌, length, IfOk};
 ghost use Rattle.suit_game.specs.Validity.{IsValid};
 ghost use Rattle.suit_question.specs.Columns.{AreInRange};
-ghost use Rattle.suit_question.specs.Lines.{lines_of};
 ghost use Rattle.suit_question.specs.Reading.{first_saying, ended, question_read, end_index};
-ghost use Rattle.suit_question.specs.Words.{is_end, is_skipped, words_of};
+ghost use Rattle.suit_question.specs.Words.{is_end, is_skipped};
+ghost use Rattle.suit_text.specs.Loose.{lines_of, words_of};
 
 use crate::columns::Columns;
 use crate::faults::{QuestionFault, QuestionKind};
 use crate::keywords::{put_one, put_two};
-use crate::lines::first_line;
-use crate::words::{Line, line_in};
+use crate::line::{Line, line_in};
 use suit_game::Question;
-
-/// The most bytes of a text that a question is read from.
-pub const MOST_TEXT: usize = 16_777_216;
+use suit_text::MOST_TEXT;
+use suit_text::loose::first_line;
 
 /// Reads the question that a text asks. The lines come in any order up to `end`, after which nothing may be said. A
 /// fault is that of the first line with one: for a line before the end Word where it has no keyword or a wrong number
@@ -85,7 +83,7 @@ fn saying_line(first: u32, text: &[u8]) -> Option<u32>
 }
 
 /// How many bytes the question takes: all up to and with its first line of the one word `end`, or all that there are.
-#[tactic(auto, using(crate::proofs::LineCuts::end_here, crate::proofs::LineCuts::end_later, crate::proofs::LineCuts::no_end))]
+#[tactic(auto, using(crate::proofs::EndPlaces::end_here, crate::proofs::EndPlaces::end_later, crate::proofs::EndPlaces::no_end))]
 pub fn question_end(bytes: &[u8]) -> usize
     ensures value { result ≡ end_index bytes.now }
     ensures within { result ≤ length bytes.now }

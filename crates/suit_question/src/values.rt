@@ -1,37 +1,16 @@
 //! The values of single columns.
-ghost use Rattle.std.specs.Prelude.{◌≡◌, ◌≤◌, ◌<◌, ◌^◌, IfOk, IfSome};
+ghost use Rattle.std.specs.Prelude.{◌≡◌, ◌≤◌, IfOk};
 ghost use Rattle.suit_cards.specs.Holdings.{IsHolding};
 ghost use Rattle.suit_game.specs.Validity.{AreEntries, IsGoal};
-ghost use Rattle.suit_question.specs.Values.{is_word, number_read, number_within};
-ghost use Rattle.suit_question.specs.Values.{holding_named, lead_named, entries_named, goal_named};
+ghost use Rattle.suit_question.specs.Values.{number_within, holding_named, lead_named, entries_named, goal_named};
 
 use crate::faults::QuestionKind;
 use suit_cards::{CardFault, Holding};
 use suit_game::{Entries, Goal, HAND_SIZE, LeadAt};
+use suit_text::loose::{is_word, number_in};
 
-/// Whether two words are the same but for the case of their letters.
-pub fn is_same(text: &[u8], word: &[u8]) -> bool
-    ensures { result ≡ is_word word.now text.now }
-{
-    text.eq_ignore_ascii_case(word)
-}
-
-/// The number that one to nine digits stand for.
-pub fn number_in(text: &[u8]) -> Option<u32>
-    ensures { result ≡ number_read text.now }
-{
-    if text.is_empty() || text.len() > 9 {
-        return None;
-    }
-    let mut number = 0;
-    for byte in text {
-        if !byte.is_ascii_digit() {
-            return None;
-        }
-        number = number * 10 + (*byte - b'0') as u32;
-    }
-    Some(number)
-}
+/// The most digits of a number, zeros in front with them.
+pub const MOST_DIGITS: usize = 9;
 
 /// The number that a word stands for, which is to be from the least to the most.
 pub fn number_from(least: u32, most: u32, text: &[u8]) -> Result<u32, QuestionKind>
@@ -39,7 +18,7 @@ pub fn number_from(least: u32, most: u32, text: &[u8]) -> Result<u32, QuestionKi
     ensures least { IfOk result (λ number. least ≤ number) }
     ensures most { IfOk result (λ number. number ≤ most) }
 {
-    let number = number_in(text).ok_or(QuestionKind::Number)?;
+    let number = number_in(MOST_DIGITS, text).ok_or(QuestionKind::Number)? as u32;
     if number < least || number > most {
         return Err(QuestionKind::Range);
     }
@@ -71,13 +50,13 @@ pub fn holding_in(text: &[u8]) -> Result<Holding, QuestionKind>
 pub fn lead_in(text: &[u8]) -> Result<LeadAt, QuestionKind>
     ensures { result ≡ lead_named text.now }
 {
-    if is_same(text, b"n") {
+    if is_word(b"n", text) {
         return Ok(LeadAt::N);
     }
-    if is_same(text, b"s") {
+    if is_word(b"s", text) {
         return Ok(LeadAt::S);
     }
-    if is_same(text, b"either") {
+    if is_word(b"either", text) {
         return Ok(LeadAt::Either);
     }
     Err(QuestionKind::Word)
@@ -88,7 +67,7 @@ pub fn entries_in(text: &[u8]) -> Result<Entries, QuestionKind>
     ensures value { result ≡ entries_named text.now }
     ensures most { IfOk result AreEntries }
 {
-    if is_same(text, b"free") {
+    if is_word(b"free", text) {
         return Ok(Entries::Free);
     }
     Ok(Entries::Count(count_in(text)?))
@@ -99,7 +78,7 @@ pub fn goal_in(text: &[u8]) -> Result<Goal, QuestionKind>
     ensures value { result ≡ goal_named text.now }
     ensures most { IfOk result IsGoal }
 {
-    if is_same(text, b"tricks") {
+    if is_word(b"tricks", text) {
         return Ok(Goal::Tricks);
     }
     Ok(Goal::AtLeast(count_in(text)?))

@@ -3,7 +3,8 @@ ghost use Rattle.std.specs.Prelude.{◌≡◌, ◌++◌, Ok, IfOk, OnOk, string_
 ghost use Rattle.std.specs.List.{flat_map};
 ghost use Rattle.suit_game.specs.Validity.{IsValid};
 ghost use Rattle.suit_question.specs.Reading.{question_read};
-ghost use Rattle.suit_question.specs.Writing.{line_text, hand_lines, place_lines, goal_lines, lead_text, text_written};
+ghost use Rattle.suit_question.specs.Writing.{hand_lines, place_lines, goal_lines, lead_text, text_written};
+ghost use Rattle.suit_text.specs.Writing.{line_text};
 
 use crate::Memory;
 use std::alloc::Global;
@@ -30,7 +31,7 @@ pub fn question_text(alloc: Global, question: &Question) -> Result<Vec<u8>, Memo
 }
 
 /// The lines of the hands and of the lead.
-#[tactic(auto, unfolding(crate::specs::Writing::line_text))]
+#[tactic(auto, unfolding(suit_text::specs::Writing::line_text))]
 fn write_hands(text: &mut String, question: &Question) -> Result<(), Memory>
     ensures { OnOk result (string_bytes text.new
         ≡ string_bytes text.old ++ flat_map line_text (hand_lines question.now)) }
@@ -42,7 +43,7 @@ fn write_hands(text: &mut String, question: &Question) -> Result<(), Memory>
 }
 
 /// The lines of the entries, the vacant places and West's range.
-#[tactic(auto, unfolding(crate::specs::Writing::line_text))]
+#[tactic(auto, unfolding(suit_text::specs::Writing::line_text))]
 fn write_places(text: &mut String, question: &Question) -> Result<(), Memory>
     ensures { OnOk result (string_bytes text.new
         ≡ string_bytes text.old ++ flat_map line_text (place_lines question.now)) }
@@ -55,7 +56,7 @@ fn write_places(text: &mut String, question: &Question) -> Result<(), Memory>
 }
 
 /// The lines of the goal and the budgets, and the end.
-#[tactic(auto, unfolding(crate::specs::Writing::line_text))]
+#[tactic(auto, unfolding(suit_text::specs::Writing::line_text))]
 fn write_goal(text: &mut String, question: &Question) -> Result<(), Memory>
     ensures { OnOk result (string_bytes text.new
         ≡ string_bytes text.old ++ flat_map line_text (goal_lines question.now)) }

@@ -2,7 +2,7 @@
 use Rattle.std.proofs.Common.{◌≡◌, ℕ, List, [], ◌∷◌, ◌++◌, true, false, refl, sym, ap, ◌∙◌, length, arith}
 use Rattle.std.specs.Prelude.{reverse}
 use Rattle.std.proofs.lemmas.List.{reverse-append, reverse-reverse}
-use Rattle.suit_question.specs.Words.{is_blank}
+use Rattle.suit_text.specs.Loose.{is_blank}
 use Rattle.suit_table.specs.Fields.{without_front}
 
 pub no_first : (text : List ℕ) → length text ≡ 0 → text ≡ without_front text

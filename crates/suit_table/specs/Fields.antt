@@ -4,7 +4,7 @@ use Rattle.suit_cards.specs.Cards.{Text}
 use Rattle.suit_game.specs.declared.question.Question.{Question}
 use Rattle.suit_question.specs.Columns.{no_columns, column_numbered, column_put, finished, told_at}
 use Rattle.suit_question.specs.Results.{◌>>=◌}
-use Rattle.suit_question.specs.Words.{is_blank}
+use Rattle.suit_text.specs.Loose.{is_blank}
 use Rattle.suit_question.specs.declared.column.Column.{Column}
 use Rattle.suit_question.specs.declared.columns.Columns.{Columns}
 use Rattle.suit_question.specs.declared.faults.QuestionFault.{QuestionFault}

@@ -7,7 +7,7 @@ use Rattle.suit_table.specs.declared.judging.Finding.{Finding}
 use Rattle.suit_table.specs.declared.judging.Finding.TheVariants.{Judged, Faulty}
 use Rattle.suit_table.specs.declared.outcomes.Outcome.{Outcome}
 use Rattle.suit_table.specs.declared.outcomes.Outcome.TheVariants.{Value, Nodes, Support, Pivots, Wide, Memory}
-use Rattle.suit_table.specs.declared.summaries.Counts.{Counts}
+use Rattle.suit_table.specs.declared.summaries.Tally.{Tally}
 use Rattle.suit_table.specs.Outcomes.{Fit}
 
 -- each question has an outcome that fits it
@@ -77,20 +77,20 @@ summary_line outcomes =
     ++ codes " wide " ++ decimal (count_of is_wide outcomes) ++ codes "\n"
 
 -- how many outcomes there are, and how many of each kind
-pub record AreCounts (outcomes : List Outcome) (counts : Counts) : Type 0 where
-  pub records : counts.records ≡ length outcomes
-  pub values : counts.values ≡ count_of is_value outcomes
-  pub nodes : counts.nodes ≡ count_of is_nodes outcomes
-  pub support : counts.support ≡ count_of is_support outcomes
-  pub pivots : counts.pivots ≡ count_of is_pivots outcomes
-  pub wide : counts.wide ≡ count_of is_wide outcomes
+pub record IsTally (outcomes : List Outcome) (tally : Tally) : Type 0 where
+  pub records : tally.records ≡ length outcomes
+  pub values : tally.values ≡ count_of is_value outcomes
+  pub nodes : tally.nodes ≡ count_of is_nodes outcomes
+  pub support : tally.support ≡ count_of is_support outcomes
+  pub pivots : tally.pivots ≡ count_of is_pivots outcomes
+  pub wide : tally.wide ≡ count_of is_wide outcomes
 
--- the line of counts
-abbrev pub counts_line : Counts → Text
-counts_line counts =
-    codes "records " ++ decimal counts.records ++ codes " values " ++ decimal counts.values
-    ++ codes " nodes " ++ decimal counts.nodes ++ codes " support " ++ decimal counts.support
-    ++ codes " pivots " ++ decimal counts.pivots ++ codes " wide " ++ decimal counts.wide ++ codes "\n"
+-- the line of a tally
+abbrev pub tally_line : Tally → Text
+tally_line tally =
+    codes "records " ++ decimal tally.records ++ codes " values " ++ decimal tally.values
+    ++ codes " nodes " ++ decimal tally.nodes ++ codes " support " ++ decimal tally.support
+    ++ codes " pivots " ++ decimal tally.pivots ++ codes " wide " ++ decimal tally.wide ++ codes "\n"
 
 -- the summary of questions: of outcomes that fit them, none of which is want of memory
 pub record IsSummary (Fits : Fit) (questions : List Question) (text : Text) : Type 0 where

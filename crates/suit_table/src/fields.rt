@@ -3,13 +3,13 @@ ghost use Rattle.std.specs.Prelude.{◌≡◌, Ok, Err, IfErr, IfOk, OnOk, lengt
 ghost use Rattle.csv.specs.Records.{fields_of};
 ghost use Rattle.suit_game.specs.Validity.{IsValid};
 ghost use Rattle.suit_question.specs.Columns.{IsColumn, column_numbered};
-ghost use Rattle.suit_question.specs.Words.{is_blank};
 ghost use Rattle.suit_table.specs.Fields.{without_front, field_put, question_named, trimmed};
 ghost use Rattle.suit_table.specs.declared.records.TheConstants.{FIELDS};
 
 use csv::ByteRecord;
 use suit_game::Question;
 use suit_question::{Draft, QuestionFault};
+use suit_text::loose::is_blank;
 
 /// The question that the fields of a record name, each without the blanks at its ends, or the first fault.
 pub(crate) fn question_named(fields: &ByteRecord, number: u32) -> Result<Question, QuestionFault>
@@ -67,11 +67,4 @@ fn without_end_blanks(text: &[u8]) -> &[u8]
         rest = before;
     }
     rest
-}
-
-/// Whether a byte is a space or a tab.
-fn is_blank(byte: u8) -> bool
-    ensures { result ≡ is_blank byte }
-{
-    byte == b' ' || byte == b'\t'
 }

@@ -14,7 +14,7 @@ use suit_game::{Gate, Question};
 use suit_question::{QuestionFault, QuestionKind};
 
 /// The most tasks that stand at once.
-const BATCH: usize = 4;
+pub const BATCH: usize = 4;
 
 /// Judges questions.
 pub trait Judge {
@@ -29,16 +29,16 @@ pub trait Judge {
 
 /// A record once it is read.
 #[derive(Clone, Copy, Debug)]
-pub(crate) struct Entry {
+pub struct Entry {
     /// Its number, counted from 1.
-    pub(crate) number: u32,
+    pub number: u32,
     /// The question that it names, or its fault.
-    pub(crate) read: Result<Question, QuestionFault>,
+    pub read: Result<Question, QuestionFault>,
 }
 
 /// What is found of a record.
 #[derive(Clone, Copy, Debug)]
-pub(crate) enum Finding {
+pub enum Finding {
     /// Its question, and an outcome of that.
     Judged(Question, Outcome),
     /// Its fault.
@@ -47,15 +47,20 @@ pub(crate) enum Finding {
 
 /// A record once it is judged.
 #[derive(Clone, Copy, Debug)]
-pub(crate) struct Told {
+pub struct Told {
     /// Its number.
-    pub(crate) number: u32,
+    pub number: u32,
     /// What was found of it.
-    pub(crate) finding: Finding,
+    pub finding: Finding,
 }
 
-/// Judges the records in their order, one batch after another.
-pub(crate) fn judge_all<R: Threads + Sync, G: Gate + Sync, J: Judge + Sync>(
+/// Judges the records in their order, one batch after another: at most four at once. What is told of one does not depend
+/// on the others.
+///
+/// # Errors
+///
+/// Want of memory.
+pub fn judge_all<R: Threads + Sync, G: Gate + Sync, J: Judge + Sync>(
     rt: &R,
     gate: &G,
     alloc: Global,

@@ -8,11 +8,10 @@ mod outcomes;
 mod records;
 mod summaries;
 mod tables;
-#[cfg(test)]
-mod tests;
 
-pub use judging::Judge;
-pub use outcomes::{MOST_BITS, MOST_SUPPORT, Outcome};
+pub use judging::{BATCH, Entry, Finding, Judge, Told, judge_all};
+pub use lines::{detail_of, word_of};
+pub use outcomes::{MOST_BITS, Outcome};
 pub use records::{FIELDS, MOST_TABLE};
 pub use summaries::{MOST_QUESTIONS, summary};
 pub use tables::{TableEnd, table};

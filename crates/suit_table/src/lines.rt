@@ -7,10 +7,10 @@ ghost use Rattle.suit_table.specs.Outcomes.{detail_of, line, outcome_line, word_
 
 use crate::Memory;
 use crate::judging::{Finding, Told};
-use crate::outcomes::{MOST_BITS, MOST_SUPPORT, Outcome};
+use crate::outcomes::{MOST_BITS, Outcome};
 use csv::{Error, WriterBuilder};
 use std::alloc::{AllocError, Global};
-use suit_game::Question;
+use suit_game::{MOST_SUPPORT, Question};
 
 /// The line of a record.
 pub(crate) fn told_line(alloc: Global, told: &Told) -> Result<Vec<u8>, Memory>
@@ -38,8 +38,8 @@ fn outcome_line(
     line(alloc, number, word_of(outcome), &detail)
 }
 
-/// The word of an outcome.
-fn word_of(outcome: Outcome) -> &'static str
+/// The word of an outcome, as the line of a record tells it.
+pub fn word_of(outcome: Outcome) -> &'static str
     ensures { result.now ≡ word_of outcome }
 {
     match outcome {
@@ -52,8 +52,13 @@ fn word_of(outcome: Outcome) -> &'static str
     }
 }
 
-/// The detail of an outcome.
-fn detail_of(alloc: Global, question: &Question, outcome: Outcome) -> Result<String, Memory>
+/// The detail of an outcome, as the line of a record tells it: the value, the budget of the question that was passed,
+/// the limit of solving that was, or 0 for want of memory.
+///
+/// # Errors
+///
+/// Want of memory.
+pub fn detail_of(alloc: Global, question: &Question, outcome: Outcome) -> Result<String, Memory>
     ensures { IfOk result (λ text. string_bytes text ≡ detail_of question.now outcome) }
 {
     match outcome {

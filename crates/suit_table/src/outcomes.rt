@@ -2,9 +2,6 @@
 
 use suit_num::Frac;
 
-/// The limit on rows and columns of a program, which the line of `Support` tells.
-pub const MOST_SUPPORT: u32 = 4_000;
-
 /// In how many bits the numbers of a run are kept, which the line of `Wide` tells.
 pub const MOST_BITS: u32 = 128;
 

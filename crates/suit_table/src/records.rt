@@ -6,9 +6,10 @@ ghost use Rattle.suit_table.specs.Records.{first_misfit, is_misfit, records_of};
 use crate::Memory;
 use csv::{ByteRecord, ReaderBuilder};
 use std::alloc::{AllocError, Global};
+use suit_text::MOST_TEXT;
 
-/// The most bytes of a table.
-pub const MOST_TABLE: usize = 16_777_216;
+/// The most bytes of a table: as many as of any text.
+pub const MOST_TABLE: usize = MOST_TEXT;
 
 /// How many fields a record has: one for each column of a question.
 pub const FIELDS: usize = 13;

@@ -1,7 +1,7 @@
 //! How many questions come to which outcome.
 ghost use Rattle.std.specs.Prelude.{◌≡◌, ℕ, ◌<◌, ◌≤◌, All, Ok, IfOk, length, slice_index_or, string_bytes};
 ghost use Rattle.suit_game.specs.Validity.{IsValid};
-ghost use Rattle.suit_table.specs.Summaries.{AreCounts, IsOutcome, IsSummary, count_of, counts_line};
+ghost use Rattle.suit_table.specs.Summaries.{IsTally, IsOutcome, IsSummary, count_of, tally_line};
 ghost use Rattle.suit_table.specs.Summaries.{is_nodes, is_pivots, is_support, is_value, is_wide, summary_line};
 
 use crate::Memory;
@@ -17,7 +17,7 @@ pub const MOST_QUESTIONS: usize = 10_000;
 
 /// How many outcomes there are, and how many of each kind.
 #[derive(Clone, Copy)]
-struct Counts {
+struct Tally {
     records: usize,
     values: usize,
     nodes: usize,
@@ -94,15 +94,15 @@ fn outcome_of(finding: &Finding) -> Result<Outcome, Memory>
 fn summary_line(alloc: Global, outcomes: &[Outcome]) -> Result<Vec<u8>, Memory>
     ensures { IfOk result (λ text. text.items ≡ summary_line outcomes.now) }
 {
-    let line = counts_line(alloc, &counts_of(outcomes))?;
+    let line = tally_line(alloc, &tally_of(outcomes))?;
     Ok(line.into_bytes())
 }
 
 /// How many outcomes there are of each kind.
-fn counts_of(outcomes: &[Outcome]) -> Counts
-    ensures { AreCounts outcomes.now result }
+fn tally_of(outcomes: &[Outcome]) -> Tally
+    ensures { IsTally outcomes.now result }
 {
-    Counts {
+    Tally {
         records: outcomes.len(),
         values: values_among(outcomes),
         nodes: nodes_among(outcomes),
@@ -162,13 +162,13 @@ fn wide_among(outcomes: &[Outcome]) -> usize
         .count()
 }
 
-/// The line that tells counts.
-fn counts_line(alloc: Global, counts: &Counts) -> Result<String, Memory>
-    ensures { IfOk result (λ text. string_bytes text ≡ counts_line counts.now) }
+/// The line that tells a tally.
+fn tally_line(alloc: Global, tally: &Tally) -> Result<String, Memory>
+    ensures { IfOk result (λ text. string_bytes text ≡ tally_line tally.now) }
 {
     let mut line = String::new(alloc);
-    write!(line, "records {} values {}", counts.records, counts.values)?;
-    write!(line, " nodes {} support {}", counts.nodes, counts.support)?;
-    writeln!(line, " pivots {} wide {}", counts.pivots, counts.wide)?;
+    write!(line, "records {} values {}", tally.records, tally.values)?;
+    write!(line, " nodes {} support {}", tally.nodes, tally.support)?;
+    writeln!(line, " pivots {} wide {}", tally.pivots, tally.wide)?;
     Ok(line)
 }

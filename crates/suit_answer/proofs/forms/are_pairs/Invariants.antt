@@ -1,7 +1,7 @@
 -- The words left decide.
 use Rattle.std.proofs.Common.{◌≡◌, length}
+use Rattle.suit_text.specs.Strict.{words_after}
 use Rattle.suit_answer.specs.Forms.{are_pairs}
-use Rattle.suit_answer.specs.Lines.{words_after}
 use Rattle.suit_answer.proofs.forms.are_pairs.Given as goal
 
 abbrev pub invariant-loop-mv : goal.invariant-loop-mv

@@ -1,7 +1,7 @@
 -- The words left decide.
 use Rattle.std.proofs.Common.{◌≡◌, length}
+use Rattle.suit_text.specs.Strict.{words_after}
 use Rattle.suit_answer.specs.Forms.{is_turn}
-use Rattle.suit_answer.specs.Lines.{words_after}
 use Rattle.suit_answer.proofs.forms.is_turn.Given as goal
 
 abbrev pub invariant-loop-word : goal.invariant-loop-word

@@ -1,7 +1,7 @@
 -- The rows so far, and those to come.
 use Rattle.std.proofs.Common.{◌≡◌, ◌+◌, ◌-◌, ◌≤◌, length}
 use Rattle.std.specs.Prelude.{vec_len}
-use Rattle.suit_answer.specs.Lines.{pieces_of}
+use Rattle.suit_text.specs.Strict.{pieces_of}
 use Rattle.suit_answer.specs.Reading.{rows_due}
 use Rattle.suit_answer.specs.Rows.{defence_row_due}
 use Rattle.suit_answer.proofs.Fronts.{with_front}

@@ -1,6 +1,6 @@
 use Rattle.std.proofs.Common.{◌≡◌, Ok, length, ap, sym, ◌∙◌}
 use Rattle.suit_classes.specs.Classes.{Hands, defence_classes, hands_of}
-use Rattle.suit_answer.specs.Lines.{pieces_of}
+use Rattle.suit_text.specs.Strict.{pieces_of}
 use Rattle.suit_answer.specs.Reading.{answer_due, answer_read}
 use Rattle.suit_answer.proofs.TextTaken.{text_taken}
 use Rattle.suit_answer.proofs.reading.read_answer.Goals as goal

@@ -1,6 +1,6 @@
 -- The counts so far, and those to come.
 use Rattle.std.proofs.Common.{◌≡◌, length}
-use Rattle.suit_answer.specs.Lines.{words_after}
+use Rattle.suit_text.specs.Strict.{words_after}
 use Rattle.suit_answer.specs.Rows.{counts_due}
 use Rattle.suit_answer.proofs.Fronts.{with_front}
 use Rattle.suit_answer.proofs.rows.counts_due.Given as goal

@@ -1,6 +1,6 @@
 -- The moves so far, and those to come.
 use Rattle.std.proofs.Common.{◌≡◌, length}
-use Rattle.suit_answer.specs.Lines.{words_after}
+use Rattle.suit_text.specs.Strict.{words_after}
 use Rattle.suit_answer.specs.Rows.{history_due}
 use Rattle.suit_answer.proofs.Fronts.{with_front}
 use Rattle.suit_answer.proofs.rows.history_due.Given as goal

@@ -1,6 +1,6 @@
 -- The shares so far, and those to come.
 use Rattle.std.proofs.Common.{◌≡◌, length}
-use Rattle.suit_answer.specs.Lines.{words_after}
+use Rattle.suit_text.specs.Strict.{words_after}
 use Rattle.suit_answer.specs.Rows.{shares_due}
 use Rattle.suit_answer.proofs.Fronts.{in_front}
 use Rattle.suit_answer.proofs.rows.shares_due.Given as goal

@@ -2,8 +2,8 @@ use Rattle.std.proofs.Common.{◌≡◌, Some, sym, ◌∙◌, rules}
 use Rattle.std.specs.Prelude.{FitsSigned}
 use Rattle.std.specs.Int.{w128}
 use Rattle.std.proofs.lemmas.Int.{to_z-of_z}
+use Rattle.suit_text.specs.Strict.{words_of}
 use Rattle.suit_answer.specs.Fractions.{fraction_of}
-use Rattle.suit_answer.specs.Lines.{words_of}
 use Rattle.suit_answer.proofs.Lowest.{value_found}
 use Rattle.suit_answer.proofs.values.value_due.Goals as goal
 

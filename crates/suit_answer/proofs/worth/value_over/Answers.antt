@@ -4,6 +4,7 @@ use Rattle.std.specs.Int.{w128}
 use Rattle.std.proofs.lemmas.Int.{to_z-of_z, to_z_pos}
 use Rattle.suit_game.specs.Layouts.{total}
 use Rattle.suit_game.proofs.FilledPlaces.{total_at_most}
+use Rattle.suit_game.specs.declared.limits.TheConstants.{MOST_TOTAL}
 use Rattle.suit_answer.proofs.ReducedFractions.{made_fraction, some_from_one, whole_fits, whole_over}
 use Rattle.suit_answer.proofs.worth.value_over.Goals as goal
 
@@ -12,7 +13,7 @@ overflow_mul-den c =
     let den : ℤ = c.args.den in
     let weight : ℕ = c.total.result in
     let den_fits : FitsSigned w128 den = search rules in
-    let few : weight ≤ 10400600 =
+    let few : weight ≤ MOST_TOTAL =
     omega (arith, c.total.ensures, total_at_most c.args.question.now c.requires.valid) in
     let product : to_z w128 (of_z w128 den) *ℤ to_z w128 weight ≡ den *ℤ pos weight =
     ap (λ (z : ℤ). z *ℤ to_z w128 weight) (to_z-of_z w128 den den_fits)
@@ -26,7 +27,7 @@ reduced-requires-clause-positive c =
     let den : ℤ = c.args.den in
     let weight : ℕ = c.total.result in
     let den_fits : FitsSigned w128 den = search rules in
-    let few : weight ≤ 10400600 =
+    let few : weight ≤ MOST_TOTAL =
     omega (arith, c.total.ensures, total_at_most c.args.question.now c.requires.valid) in
     let product : to_z w128 (of_z w128 den) *ℤ to_z w128 weight ≡ den *ℤ pos weight =
     ap (λ (z : ℤ). z *ℤ to_z w128 weight) (to_z-of_z w128 den den_fits)
@@ -43,7 +44,7 @@ returns c =
     let den : ℤ = c.args.den in
     let weight : ℕ = c.total.result in
     let den_fits : FitsSigned w128 den = search rules in
-    let few : weight ≤ 10400600 =
+    let few : weight ≤ MOST_TOTAL =
     omega (arith, c.total.ensures, total_at_most c.args.question.now c.requires.valid) in
     let product : to_z w128 (of_z w128 den) *ℤ to_z w128 weight ≡ den *ℤ pos weight =
     ap (λ (z : ℤ). z *ℤ to_z w128 weight) (to_z-of_z w128 den den_fits)

@@ -5,8 +5,8 @@ use Rattle.suit_cards.specs.Reading.{spots_from, holding_read}
 use Rattle.suit_num.specs.Binomials.{next_row, binomial_row, binomial}
 use Rattle.suit_game.specs.Layouts.{choices_of, layouts}
 use Rattle.suit_question.specs.Keywords.{keyword_named}
-use Rattle.suit_question.specs.Lines.{pieces_of}
-use Rattle.suit_question.specs.Words.{words_of}
+use Rattle.suit_text.specs.Loose.{pieces_of}
+use Rattle.suit_text.specs.Loose.{words_of}
 use Rattle.suit_question.specs.Reading.{first_saying, asked_by, end_of}
 use Rattle.suit_question.proofs.examples.line_faults.Goals as goal
 

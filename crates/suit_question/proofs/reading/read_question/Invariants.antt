@@ -1,8 +1,8 @@
 -- The lines left, after the columns so far, ask what the whole text asks.
 use Rattle.std.proofs.Common.{◌≡◌, ◌≤◌, ◌+◌, length}
 use Rattle.suit_question.specs.Columns.{AreInRange}
-use Rattle.suit_question.specs.Lines.{lines_of}
-use Rattle.suit_question.specs.declared.reading.TheConstants.{MOST_TEXT}
+use Rattle.suit_text.specs.Loose.{lines_of}
+use Rattle.suit_text.specs.declared.limits.TheConstants.{MOST_TEXT}
 use Rattle.suit_question.specs.Reading.{asked_by, question_read}
 use Rattle.suit_question.proofs.reading.read_question.Given as goal
 

@@ -1,7 +1,7 @@
 -- The first line left that says something is that of the whole text.
 use Rattle.std.proofs.Common.{◌≡◌, ◌≤◌, ◌+◌, length}
-use Rattle.suit_question.specs.Lines.{lines_of}
-use Rattle.suit_question.specs.declared.reading.TheConstants.{MOST_TEXT}
+use Rattle.suit_text.specs.Loose.{lines_of}
+use Rattle.suit_text.specs.declared.limits.TheConstants.{MOST_TEXT}
 use Rattle.suit_question.specs.Reading.{first_saying}
 use Rattle.suit_question.proofs.reading.saying_line.Given as goal
 

@@ -1,0 +1,22 @@
+use Rattle.std.proofs.Common.{◌≡◌, Ok, length, ap, sym, ◌∙◌}
+use Rattle.suit_classes.specs.Classes.{Hands, defence_classes, hands_of}
+use Rattle.suit_text.specs.Strict.{pieces_of}
+use Rattle.suit_answer.specs.Alone.{defence_alone_due, defence_read}
+use Rattle.suit_answer.proofs.AloneTexts.{defence_taken}
+use Rattle.suit_answer.proofs.alone.read_defence.Goals as goal
+
+was_read : (c : goal.In-Ok) → defence_read c.args.question.now c.args.bytes.now ≡ Ok c.in-Ok.defence
+was_read c =
+    let classes : c.len.result ≡ length (defence_classes (hands_of c.args.question.now)) =
+    c.len.ensures.value ∙ ap length c.defence-classes.ensures.value
+    ∙ ap (λ (hands : Hands). length (defence_classes hands)) c.of.ensures in
+    (λ i. defence_alone_due (sym c.of-letters.ensures.value i) (sym classes i) (pieces_of c.args.bytes.now))
+    ∙ c.in-Ok.ensures
+
+pub returns-in-Ok-clause-written : goal.returns-in-Ok-clause-written
+returns-in-Ok-clause-written c =
+    (defence_taken c.args.question.now c.args.bytes.now c.in-Ok.defence (was_read c)).0
+
+pub returns-in-Ok-clause-writable : goal.returns-in-Ok-clause-writable
+returns-in-Ok-clause-writable c =
+    (defence_taken c.args.question.now c.args.bytes.now c.in-Ok.defence (was_read c)).1
