@@ -5,7 +5,7 @@ use Rattle.suit_cards.specs.Cards.{Text}
 use Rattle.suit_game.specs.declared.question.Question.{Question}
 use Rattle.suit_answer.specs.declared.answer.Answer.{Answer}
 use Rattle.suit_ports.specs.Bytes.{Bytes}
-use Rattle.suit_ports.specs.Counts.{Rose}
+use Rattle.suit_ports.specs.PortCounts.{Rose}
 use Rattle.suit_question.specs.Reading.{question_read}
 use Rattle.suit_solve.specs.Fates.{fate}
 use Rattle.suit_top.specs.declared.commands.TheConstants.{MOST_INPUT}

@@ -1,6 +1,19 @@
--- What some runs owe, written down by hand.
-use Rattle.std.specs.Prelude.{◌≡◌, [], ◌∷◌, codes}
+-- What some runs owe, and the limits as numbers, written down by hand.
+use Rattle.std.specs.Prelude.{◌≡◌, ◌^◌, ◌-◌, [], ◌∷◌, codes, pos}
+use Rattle.suit_num.specs.Narrow.{IsNarrow}
 use Rattle.suit_cards.specs.Cards.{Text}
+use Rattle.suit_game.specs.declared.limits.TheConstants.{DEFAULT_NODES, DEFAULT_PIVOTS, HAND_SIZE, MOST_MOVES}
+use Rattle.suit_game.specs.declared.limits.TheConstants.{MOST_NODES, MOST_PIVOTS, MOST_SUPPORT, MOST_TOTAL}
+use Rattle.suit_gen.specs.declared.deals.TheConstants.{MADE_NODES, MADE_PIVOTS}
+use Rattle.suit_layouts.specs.declared.class_list.TheConstants.{MOST_CLASS_LAYOUTS}
+use Rattle.suit_linear.specs.declared.limits.TheConstants.{MOST_SMALL}
+use Rattle.suit_plans.specs.declared.plan.TheConstants.{MOST_DEN}
+use Rattle.suit_table.specs.declared.judging.TheConstants.{BATCH}
+use Rattle.suit_table.specs.declared.outcomes.TheConstants.{MOST_BITS}
+use Rattle.suit_table.specs.declared.records.TheConstants.{FIELDS, MOST_TABLE}
+use Rattle.suit_table.specs.declared.summaries.TheConstants.{MOST_QUESTIONS}
+use Rattle.suit_top.specs.declared.commands.TheConstants.{MOST_INPUT}
+use Rattle.suit_top.specs.declared.commands.made.TheConstants.{MOST_RECORDS}
 use Rattle.suit_top.specs.declared.status.Status.{Status}
 use Rattle.suit_top.specs.declared.status.Status.TheVariants.{Done, Usage, Malformed}
 use Rattle.suit_top.specs.Owing.{due}
@@ -20,3 +33,36 @@ pub record Refused : Type 0 where
   pub vacant : Owed (codes "weigh") (codes "vacant 1 1\nsouth -\nnorth AKQJT98765\ngoal 1\nend\n") Malformed
       (codes "malformed 10 at line 5\n")
   pub other_word : Owed (codes "Solve") [] Usage []
+
+-- the limits, as numbers: definitions cite the constants of the code, so that another number would be proved as well
+pub record Limits : Type 0 where
+  -- bytes of input, of a table and of all else
+  pub table : MOST_TABLE ≡ 16777216
+  pub input : MOST_INPUT ≡ 2097152
+  -- budgets: the most, and what stands where none is given
+  pub nodes : MOST_NODES ≡ 4000000
+  pub usual_nodes : DEFAULT_NODES ≡ 200000
+  pub pivots : MOST_PIVOTS ≡ 1000000
+  pub usual_pivots : DEFAULT_PIVOTS ≡ 100000
+  -- rows and columns of a support
+  pub support : MOST_SUPPORT ≡ 4000
+  -- the denominator of a plan or a defence
+  pub den : MOST_DEN ≡ pos (2 ^ 90)
+  -- class layouts, moves of a history, cards of a hand, and what all layouts weigh
+  pub class_layouts : MOST_CLASS_LAYOUTS ≡ 162
+  pub moves : MOST_MOVES ≡ 52
+  pub hand : HAND_SIZE ≡ 13
+  pub total : MOST_TOTAL ≡ 10400600
+  -- the numbers of a run, the bits that their line tells, and the small ones
+  pub narrow : IsNarrow (pos (2 ^ 127 - 1))
+  pub wide : IsNarrow (pos (2 ^ 127)) → ⊥
+  pub bits : MOST_BITS ≡ 128
+  pub small : MOST_SMALL ≡ 2 ^ 62
+  -- tables: columns, records of a made one with their budgets, questions of a summary
+  pub columns : FIELDS ≡ 13
+  pub records : MOST_RECORDS ≡ 10000
+  pub questions : MOST_QUESTIONS ≡ 10000
+  pub made_nodes : MADE_NODES ≡ 2000
+  pub made_pivots : MADE_PIVOTS ≡ 200
+  -- tasks that stand at once
+  pub tasks : BATCH ≡ 4

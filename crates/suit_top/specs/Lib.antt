@@ -1,4 +1,5 @@
 pub mod Asking
+pub mod Certified
 pub mod Commands
 pub mod Completeness
 pub mod Dues

@@ -4,7 +4,7 @@ use Rattle.std.specs.Prelude.{length, take, Option, Some, IsTrue, IfSome, IsSome
 use Rattle.std.specs.Io.KnownBytes.{Keeps, Appends, Consumes}
 use Rattle.suit_cards.specs.Cards.{Text}
 use Rattle.suit_ports.specs.Bytes.{Bytes}
-use Rattle.suit_ports.specs.Counts.{Rose}
+use Rattle.suit_ports.specs.PortCounts.{Rose}
 use Rattle.suit_ports.specs.Room.{KeepsRoom, IsFull}
 use Rattle.suit_top.specs.declared.status.Status.{Status}
 use Rattle.suit_top.specs.declared.status.Status.TheVariants.{Done, Usage, ReadFault, WriteFault, Memory}

@@ -3,10 +3,10 @@ use Rattle.std.specs.Prelude.{◌≡◌, ◌≤◌, [], ◌∷◌, ◌++◌, Som
 use Rattle.suit_cards.specs.Cards.{Text}
 use Rattle.suit_question.specs.Reading.{end_index}
 use Rattle.suit_top.specs.declared.commands.TheConstants.{MOST_INPUT}
-use Rattle.suit_top.specs.declared.commands.Command.TheVariants.{About}
-use Rattle.suit_top.specs.declared.commands.inquiry.Inquiry.TheVariants.{Solve}
+use Rattle.suit_top.specs.declared.commands.Command.TheVariants.{OnQuestion}
+use Rattle.suit_top.specs.declared.commands.on_question.QuestionCommand.TheVariants.{Solve}
 use Rattle.suit_top.specs.Commands.{Says}
-use Rattle.suit_top.specs.Commands.Checking.{valid_text}
+use Rattle.suit_top.specs.Commands.Check.{valid_text}
 use Rattle.suit_top.specs.Dues.{done}
 use Rattle.suit_top.specs.Owing.{due}
 
@@ -19,5 +19,5 @@ pub record EndsAsked (input : Text) : Type 0 where
 -- where a run of `solve` has ended with Done for such an input, so that its text says this, `check` owes that the text
 -- is valid behind the input, if both are within the limit
 abbrev pub SolvedTextsAreValid : Type 0
-SolvedTextsAreValid = (input text : Text) → EndsAsked input → Says (Some (About Solve)) input text
+SolvedTextsAreValid = (input text : Text) → EndsAsked input → Says (Some (OnQuestion Solve)) input text
     → length (input ++ text) ≤ MOST_INPUT → due (codes "check" ∷ []) (input ++ text) ≡ done valid_text

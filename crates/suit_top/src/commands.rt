@@ -1,4 +1,5 @@
-//! The commands, one file each, and the lists that name them all.
+//! The commands, by what they read: a room for each, which lists the commands that read alike. Each command has a file
+//! of its own, here and in the definitions.
 ghost use Rattle.std.specs.Prelude.{◌≡◌, ◌≤◌, Some, IfOk, IfSome, length, map};
 ghost use Rattle.suit_top.specs.Commands.{command_of, IsCommand, limit_of, reads_input, due_within, IsOwedWithin, Says};
 ghost use Rattle.suit_top.specs.Texts.{text_bytes};
@@ -9,34 +10,41 @@ use crate::status::Status;
 use std::alloc::{AllocError, Global};
 use std::thread::Threads;
 use suit_game::Gate;
+use suit_table::MOST_TABLE;
 
 mod check;
-mod inquiry;
 mod lines;
 mod made;
 mod make;
+mod on_answer;
+mod on_nothing;
+mod on_question;
+mod on_table;
 mod solve;
 mod table;
 mod trial;
 mod weigh;
 
-pub use inquiry::Inquiry;
 pub use made::MadeTable;
+pub use on_answer::AnswerCommand;
+pub use on_nothing::BareCommand;
+pub use on_question::QuestionCommand;
+pub use on_table::TableCommand;
 
-/// The most bytes of input of a command that reads a question.
+/// The most bytes of input of a command that reads a question, and of what follows it.
 pub const MOST_INPUT: usize = 2_097_152;
 
-/// What the program can be asked to do.
+/// What the program can be asked to do, by what it reads.
 #[derive(Clone, Copy, Debug, PartialEq, Eq)]
 pub enum Command {
-    /// Say something about the question that the input asks.
-    About(Inquiry),
-    /// Judge the questions of the table that is read.
-    Table,
-    /// Make a table.
-    Make(MadeTable),
-    /// Judge the questions of a made table, and tell how many come to which outcome.
-    Trial(MadeTable),
+    /// It reads a question.
+    OnQuestion(QuestionCommand),
+    /// It reads a question and an answer to it.
+    OnAnswer(AnswerCommand),
+    /// It reads a table.
+    OnTable(TableCommand),
+    /// It reads nothing.
+    OnNothing(BareCommand),
 }
 
 impl Command {
@@ -45,17 +53,17 @@ impl Command {
         ensures command { result ≡ command_of (map (λ word. word.now) words.now) }
         ensures within { IfSome result IsCommand }
     {
-        if let Some(inquiry) = Inquiry::of(words) {
-            return Some(Command::About(inquiry));
+        if let Some(command) = QuestionCommand::of(words) {
+            return Some(Command::OnQuestion(command));
         }
-        if table::are_words(words) {
-            return Some(Command::Table);
+        if let Some(command) = AnswerCommand::of(words) {
+            return Some(Command::OnAnswer(command));
         }
-        if let Some(made) = make::table_in(words) {
-            return Some(Command::Make(made));
+        if let Some(command) = TableCommand::of(words) {
+            return Some(Command::OnTable(command));
         }
-        if let Some(made) = trial::table_in(words) {
-            return Some(Command::Trial(made));
+        if let Some(command) = BareCommand::of(words) {
+            return Some(Command::OnNothing(command));
         }
         None
     }
@@ -65,8 +73,8 @@ impl Command {
         ensures { result ≡ reads_input self }
     {
         match self {
-            Command::About(_) | Command::Table => true,
-            Command::Make(_) | Command::Trial(_) => false,
+            Command::OnQuestion(_) | Command::OnAnswer(_) | Command::OnTable(_) => true,
+            Command::OnNothing(_) => false,
         }
     }
 
@@ -75,9 +83,9 @@ impl Command {
         ensures { result ≡ limit_of self }
     {
         match self {
-            Command::About(_) => MOST_INPUT,
-            Command::Table => table::LIMIT,
-            Command::Make(_) | Command::Trial(_) => 0,
+            Command::OnQuestion(_) | Command::OnAnswer(_) => MOST_INPUT,
+            Command::OnTable(_) => MOST_TABLE,
+            Command::OnNothing(_) => 0,
         }
     }
 
@@ -97,10 +105,10 @@ impl Command {
             → Says (Some self) input.now (text_bytes reply.text)) }
     {
         match self {
-            Command::About(inquiry) => inquiry.reply(rt, gate, alloc, input),
-            Command::Table => table::reply(rt, gate, alloc, input),
-            Command::Make(made) => make::reply(alloc, made),
-            Command::Trial(made) => trial::reply(rt, gate, alloc, made),
+            Command::OnQuestion(command) => command.reply(alloc, input),
+            Command::OnAnswer(command) => command.reply(rt, gate, alloc, input),
+            Command::OnTable(command) => command.reply(rt, gate, alloc, input),
+            Command::OnNothing(command) => command.reply(rt, gate, alloc),
         }
     }
 }

@@ -3,7 +3,7 @@ ghost use Rattle.std.specs.Prelude.{◌≡◌, Err};
 ghost use Rattle.suit_game.specs.declared.question.Question.{Question};
 ghost use Rattle.suit_solve.specs.Fates.{fate};
 ghost use Rattle.suit_table.specs.declared.outcomes.Outcome.{Outcome};
-ghost use Rattle.suit_top.specs.Commands.Tabling.{outcome_of, Shows};
+ghost use Rattle.suit_top.specs.Commands.Table.{outcome_of, Shows};
 
 use std::alloc::Global;
 use suit_game::Question;

@@ -8,8 +8,6 @@ pub mod laws;
 mod refusal;
 mod reply;
 mod status;
-#[cfg(test)]
-mod tests;
 mod top;
 
 pub use judge::SolvingJudge;

@@ -1,6 +1,6 @@
 //! What a command makes of its input, whole, before the first byte is written.
 ghost use Rattle.std.specs.Prelude.{◌≡◌, [], false, IfOk, IsErrOf, string_bytes};
-ghost use Rattle.suit_ports.specs.Counts.{Rose};
+ghost use Rattle.suit_ports.specs.PortCounts.{Rose};
 ghost use Rattle.suit_top.specs.Commands.{IsCommand, reads_input};
 ghost use Rattle.suit_top.specs.Refusals.{malformed_line};
 ghost use Rattle.suit_top.specs.Replies.{Failed, IsReply};

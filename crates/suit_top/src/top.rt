@@ -1,6 +1,6 @@
 //! The call that `main` makes.
 ghost use Rattle.std.specs.Prelude.{◌≡◌, ◌<◌, ◌⊎◌, false, None, map};
-ghost use Rattle.suit_ports.specs.Counts.{Rose};
+ghost use Rattle.suit_ports.specs.PortCounts.{Rose};
 ghost use Rattle.suit_ports.specs.Room.{KeepsRoom, IsFull};
 ghost use Rattle.suit_top.specs.Replies.{Delivered, Stopped};
 ghost use Rattle.suit_top.specs.Commands.{command_of, words_read};

@@ -1,21 +1,17 @@
 //! `check`: whether the answer that follows a question shows its value.
-ghost use Rattle.std.specs.Prelude.{◌≡◌, ◌≤◌, IfOk, length, map};
+ghost use Rattle.std.specs.Prelude.{◌≡◌, IfOk, map};
 ghost use Rattle.suit_game.specs.Validity.{IsValid};
-ghost use Rattle.suit_answer.specs.declared.reading.TheConstants.{MOST_TEXT};
 ghost use Rattle.suit_check.specs.Verdicts.{seen, verdict_of};
-ghost use Rattle.suit_top.specs.Commands.Checking.{is_check, due_checking, due_found, due_of_answer, valid_text};
-ghost use Rattle.suit_top.specs.Commands.Checking.{Checks};
+ghost use Rattle.suit_top.specs.Commands.Check.{Checks, due_checking, due_found, is_check, valid_text};
 ghost use Rattle.suit_top.specs.Texts.{text_bytes};
 
 use super::is_only;
-use crate::refusal::{
-    Refusal, other_least, other_most, past_nodes, wrong_answer, wrong_defence, wrong_plan,
-};
+use crate::refusal::{Refusal, other_least, other_most, past_nodes, wrong_defence, wrong_plan};
 use crate::reply::Reply;
 use crate::status::Status;
 use std::alloc::{AllocError, Global};
 use std::thread::Threads;
-use suit_answer::{Answer, AnswerFault, read_answer};
+use suit_answer::Answer;
 use suit_check::{CheckEnd, Verdict, check};
 use suit_game::{Gate, Question};
 
@@ -26,30 +22,8 @@ pub fn are_words(words: &[&str]) -> bool
     is_only("check", words)
 }
 
-/// The reply to a question and the text that follows it.
-pub fn reply<R: Threads + Sync, G: Gate + Sync>(
-    rt: &R,
-    gate: &G,
-    alloc: Global,
-    question: &Question,
-    rest: &[u8],
-) -> Result<Reply, AllocError>
-    requires valid { IsValid question.now }
-    requires short { length rest.now ≤ MOST_TEXT }
-    ensures status { IfOk result (λ reply. reply.status ≡ (due_checking question.now rest.now).status) }
-    ensures text { IfOk result (λ reply. text_bytes reply.text ≡ (due_checking question.now rest.now).text) }
-    ensures says { IfOk result (λ reply. reply.status ≡ Status.Done
-        → Checks question.now rest.now (text_bytes reply.text)) }
-{
-    match read_answer(alloc, question, rest) {
-        Ok(answer) => reply_to_answer(rt, gate, alloc, question, &answer),
-        Err(AnswerFault::Memory) => Err(AllocError),
-        Err(fault) => Ok(Reply::told(Status::NotValid, wrong_answer(fault))),
-    }
-}
-
 /// The reply to a question and an answer.
-pub(super) fn reply_to_answer<R: Threads + Sync, G: Gate + Sync>(
+pub fn reply<R: Threads + Sync, G: Gate + Sync>(
     rt: &R,
     gate: &G,
     alloc: Global,
@@ -57,8 +31,10 @@ pub(super) fn reply_to_answer<R: Threads + Sync, G: Gate + Sync>(
     answer: &Answer,
 ) -> Result<Reply, AllocError>
     requires { IsValid question.now }
-    ensures status { IfOk result (λ reply. reply.status ≡ (due_of_answer question.now answer.now).status) }
-    ensures text { IfOk result (λ reply. text_bytes reply.text ≡ (due_of_answer question.now answer.now).text) }
+    ensures status { IfOk result (λ reply. reply.status ≡ (due_checking question.now answer.now).status) }
+    ensures text { IfOk result (λ reply. text_bytes reply.text ≡ (due_checking question.now answer.now).text) }
+    ensures says { IfOk result (λ reply. reply.status ≡ Status.Done
+        → Checks question.now answer.now (text_bytes reply.text)) }
 {
     match check(rt, gate, alloc, question, answer) {
         Ok(verdict) => Ok(told(&verdict)),

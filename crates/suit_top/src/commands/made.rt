@@ -1,6 +1,8 @@
 //! The words that name a made table: its number, and how many records it has.
 ghost use Rattle.std.specs.Prelude.{◌≡◌, ◌≤◌, IfSome, map};
-ghost use Rattle.suit_top.specs.Commands.Making.{digits_read, IsMade, number_named, numbers_named, table_named};
+ghost use Rattle.suit_top.specs.Commands.Made.{IsMade, number_named, numbers_named, table_named};
+
+use suit_text::loose::number_in;
 
 /// The most records of a made table.
 pub const MOST_RECORDS: u16 = 10_000;
@@ -53,24 +55,6 @@ fn number_named(word: &str, digits: usize, most: u64) -> Option<u64>
     ensures named { result ≡ number_named digits most word.now }
     ensures within { IfSome result (λ number. number ≤ most) }
 {
-    let number = digits_read(word, digits)?;
+    let number = number_in(digits, word.as_bytes())?;
     if number > most { None } else { Some(number) }
-}
-
-/// The number that at least one digit, and at most so many, stand for.
-fn digits_read(word: &str, digits: usize) -> Option<u64>
-    requires { digits ≤ 10 }
-    ensures { result ≡ digits_read digits word.now }
-{
-    if word.is_empty() || word.len() > digits {
-        return None;
-    }
-    let mut number = 0;
-    for byte in word.as_bytes() {
-        if !byte.is_ascii_digit() {
-            return None;
-        }
-        number = number * 10 + (*byte - b'0') as u64;
-    }
-    Some(number)
 }

@@ -1,6 +1,7 @@
 //! `make`: a table of questions that a plain generator draws.
 ghost use Rattle.std.specs.Prelude.{◌≡◌, IfOk, IfSome, map};
-ghost use Rattle.suit_top.specs.Commands.Making.{IsMade, made_by_words, made_text};
+ghost use Rattle.suit_top.specs.Commands.Made.{IsMade};
+ghost use Rattle.suit_top.specs.Commands.Make.{made_by_words, made_text};
 ghost use Rattle.suit_top.specs.Texts.{text_bytes};
 
 use super::made::{MadeTable, table_named};

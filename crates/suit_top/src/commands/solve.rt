@@ -1,7 +1,7 @@
 //! `solve`: the value of a question, with a plan and a defence that show it.
 ghost use Rattle.std.specs.Prelude.{◌≡◌, ◌≢◌, map, IfOk, Err};
 ghost use Rattle.suit_game.specs.Validity.{IsValid};
-ghost use Rattle.suit_top.specs.Commands.Solving.{Answers, due_of_fate, due_solving, is_solve};
+ghost use Rattle.suit_top.specs.Commands.Solve.{Answers, due_of_fate, due_solving, is_solve};
 ghost use Rattle.suit_top.specs.Texts.{text_bytes};
 
 use super::is_only;

@@ -1,6 +1,6 @@
 //! `table`: the questions that the records of a table name, each with its outcome.
 ghost use Rattle.std.specs.Prelude.{◌≡◌, ◌≤◌, IfOk, length, map};
-ghost use Rattle.suit_top.specs.Commands.Tabling.{due_tabling, is_table, IsTextTabled, Shows};
+ghost use Rattle.suit_top.specs.Commands.Table.{due_tabling, is_table, IsTextTabled, Shows};
 ghost use Rattle.suit_top.specs.Texts.{text_bytes};
 ghost use Rattle.suit_table.specs.Tables.{IsTable};
 ghost use Rattle.suit_table.specs.declared.records.TheConstants.{MOST_TABLE};
@@ -13,10 +13,7 @@ use crate::status::Status;
 use std::alloc::{AllocError, Global};
 use std::thread::Threads;
 use suit_game::Gate;
-use suit_table::{MOST_TABLE, TableEnd, table};
-
-/// The most bytes of input.
-pub const LIMIT: usize = MOST_TABLE;
+use suit_table::{TableEnd, table};
 
 /// Whether the words are those of the command.
 pub fn are_words(words: &[&str]) -> bool

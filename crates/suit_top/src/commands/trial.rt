@@ -1,7 +1,7 @@
 //! `trial`: the questions of a made table, judged, and how many come to which outcome.
 ghost use Rattle.std.specs.Prelude.{◌≡◌, IfOk, IfSome, map};
-ghost use Rattle.suit_top.specs.Commands.Making.{IsMade};
-ghost use Rattle.suit_top.specs.Commands.Trying.{tried_by_words, trial_text};
+ghost use Rattle.suit_top.specs.Commands.Made.{IsMade};
+ghost use Rattle.suit_top.specs.Commands.Trial.{tried_by_words, trial_text};
 ghost use Rattle.suit_top.specs.Texts.{text_bytes};
 
 use super::made::{MadeTable, table_named};

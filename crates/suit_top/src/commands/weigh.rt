@@ -2,8 +2,8 @@
 ghost use Rattle.std.specs.Prelude.{◌≡◌, ◌++◌, IfOk, OnOk, map, string_bytes};
 ghost use Rattle.std.specs.List.{flat_map};
 ghost use Rattle.suit_game.specs.Validity.{IsValid};
-ghost use Rattle.suit_top.specs.Commands.Weighing.{is_weigh, count_text, layout_line};
-ghost use Rattle.suit_top.specs.Commands.Weighing.{weights_text, due_weighing, Weighs};
+ghost use Rattle.suit_top.specs.Commands.Weigh.{is_weigh, count_text, layout_line};
+ghost use Rattle.suit_top.specs.Commands.Weigh.{weights_text, due_weighing, Weighs};
 ghost use Rattle.suit_top.specs.Texts.{text_bytes};
 
 use super::is_only;
@@ -35,7 +35,7 @@ pub fn reply(alloc: Global, question: &Question) -> Result<Reply, AllocError>
 }
 
 /// The text of some class layouts, each with its weight, and of a total.
-#[tactic(auto, unfolding(crate::specs::Commands::Weighing::weights_text))]
+#[tactic(auto, unfolding(crate::specs::Commands::Weigh::weights_text))]
 fn weights_text(
     alloc: Global,
     layouts: &[(ClassLayout, u64)],
@@ -61,7 +61,7 @@ fn add_layouts(text: &mut String, layouts: &[(ClassLayout, u64)]) -> Result<(), 
 }
 
 /// The line of one class layout: West's counts, and the weight.
-#[tactic(auto, unfolding(crate::specs::Commands::Weighing::layout_line))]
+#[tactic(auto, unfolding(crate::specs::Commands::Weigh::layout_line))]
 fn add_layout(text: &mut String, counts: &[u8], weight: u64) -> Result<(), AllocError>
     ensures { OnOk result (string_bytes text.new ≡ string_bytes text.old ++ layout_line (counts.now, weight)) }
 {
@@ -81,7 +81,7 @@ fn add_counts(text: &mut String, counts: &[u8]) -> Result<(), AllocError>
 }
 
 /// A count behind a space.
-#[tactic(auto, unfolding(crate::specs::Commands::Weighing::count_text))]
+#[tactic(auto, unfolding(crate::specs::Commands::Weigh::count_text))]
 fn add_count(text: &mut String, count: u8) -> Result<(), AllocError>
     ensures { OnOk result (string_bytes text.new ≡ string_bytes text.old ++ count_text count) }
 {

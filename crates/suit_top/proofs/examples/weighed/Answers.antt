@@ -7,12 +7,12 @@ use Rattle.suit_game.specs.Blocks.{blocks_of}
 use Rattle.suit_game.specs.Layouts.{choices_of, layouts}
 use Rattle.suit_game.specs.Positions.{without}
 use Rattle.suit_question.specs.Keywords.{keyword_named}
-use Rattle.suit_question.specs.Lines.{pieces_of}
+use Rattle.suit_text.specs.Loose.{pieces_of}
 use Rattle.suit_question.specs.Reading.{first_saying, asked_by}
-use Rattle.suit_question.specs.Words.{words_of}
+use Rattle.suit_text.specs.Loose.{words_of}
 use Rattle.suit_classes.specs.Classes.{class_below}
 use Rattle.suit_layouts.specs.ClassLayouts.{class_layouts, class_weight, counts_up_to, weighed}
-use Rattle.suit_top.specs.Commands.Weighing.{count_text, layout_line, weights_text}
+use Rattle.suit_top.specs.Commands.Weigh.{count_text, layout_line, weights_text}
 use Rattle.std.specs.Fmt.{digits}
 use Rattle.suit_top.proofs.examples.weighed.Goals as goal
 

@@ -1,4 +1,4 @@
-use Rattle.suit_top.proofs.Completeness.{runs_complete}
+use Rattle.suit_top.proofs.SureRunsComplete.{runs_complete}
 use Rattle.suit_top.proofs.laws.runs_complete.Goals as goal
 
 pub returns : goal.returns

@@ -1,4 +1,4 @@
-use Rattle.suit_top.proofs.Completeness.{solves_complete}
+use Rattle.suit_top.proofs.SureRunsComplete.{solves_complete}
 use Rattle.suit_top.proofs.laws.solves_complete.Goals as goal
 
 pub returns : goal.returns

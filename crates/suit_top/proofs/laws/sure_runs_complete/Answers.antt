@@ -1,4 +1,4 @@
-use Rattle.suit_top.proofs.Completeness.{sure_runs_complete}
+use Rattle.suit_top.proofs.SureRunsComplete.{sure_runs_complete}
 use Rattle.suit_top.proofs.laws.sure_runs_complete.Goals as goal
 
 pub returns : goal.returns

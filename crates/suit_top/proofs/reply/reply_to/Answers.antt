@@ -1,6 +1,6 @@
 use Rattle.std.proofs.Common.{◌≡◌, Global, true, ◌∙◌, arith, rules}
 use Rattle.suit_top.specs.Commands.{reads_input}
-use Rattle.suit_top.proofs.Endings.{long_replies, short_replies}
+use Rattle.suit_top.proofs.RunsEndAsOwed.{long_replies, short_replies}
 use Rattle.suit_top.proofs.reply.reply_to.Goals as goal
 
 pub returns-in-Err-Long-clause-reply : goal.returns-in-Err-Long-clause-reply

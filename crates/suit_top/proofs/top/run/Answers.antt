@@ -1,5 +1,5 @@
 use Rattle.std.proofs.Common.{sym, ◌∙◌}
-use Rattle.suit_top.proofs.Endings.{run_none, run_replies}
+use Rattle.suit_top.proofs.RunsEndAsOwed.{run_none, run_replies}
 use Rattle.suit_top.proofs.top.run.Goals as goal
 
 pub returns-in-Ok-clause-clause : goal.returns-in-Ok-clause-clause

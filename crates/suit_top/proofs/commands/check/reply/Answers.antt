@@ -1,7 +1,9 @@
-use Rattle.suit_top.proofs.Checked.{checked_reply}
+use Rattle.std.proofs.Common.{sym, ◌∙◌}
+use Rattle.suit_check.specs.Verdicts.{seen}
+use Rattle.suit_top.proofs.ValidIsCertified.{found_checks}
 use Rattle.suit_top.proofs.commands.check.reply.Goals as goal
 
 pub returns-in-Ok-clause-says : goal.returns-in-Ok-clause-says
-returns-in-Ok-clause-says g c =
-    checked_reply c.args.question.now c.args.rest.now c.in-Ok.answer c.reply_to_answer.result c.requires.valid
-    c.in-Ok.ensures.value c.reply_to_answer.ensures.status c.reply_to_answer.ensures.text
+returns-in-Ok-clause-says g c = λ done.
+    found_checks c.args.question.now c.args.answer.now (seen c.in-Ok.verdict) _ c.requires c.in-Ok.ensures.verdict
+    (sym c.told.ensures.status ∙ done) c.told.ensures.text

@@ -1,7 +1,11 @@
-use Rattle.suit_top.proofs.ToldAnswers.{told_reply}
+use Rattle.std.proofs.Common.{sym, ◌∙◌}
+use Rattle.suit_top.proofs.ValidIsTellable.{done_proper, done_tellable}
 use Rattle.suit_top.proofs.commands.lines.reply.Goals as goal
 
-pub returns-in-Ok-clause-says : goal.returns-in-Ok-clause-says
-returns-in-Ok-clause-says g c =
-    told_reply c.args.question.now c.args.rest.now c.in-Ok.answer c.told_answer.result c.requires.valid
-    c.in-Ok.ensures.value c.told_answer.ensures.status c.told_answer.ensures.text
+pub lines_text-requires-clause-proper : goal.lines_text-requires-clause-proper
+lines_text-requires-clause-proper g c =
+    done_proper c.args.question.now c.args.answer.now c.requires (sym c.in_ok-checked.ensures.status ∙ c.in-Done.is)
+
+pub lines_text-requires-clause-value : goal.lines_text-requires-clause-value
+lines_text-requires-clause-value g c =
+    done_tellable c.args.question.now c.args.answer.now c.requires (sym c.in_ok-checked.ensures.status ∙ c.in-Done.is)

@@ -1,5 +1,5 @@
 use Rattle.std.proofs.Common.{◌∙◌}
-use Rattle.suit_top.proofs.Solved.{solved}
+use Rattle.suit_top.proofs.FatesAreCertified.{solved}
 use Rattle.suit_top.proofs.commands.solve.reply.Goals as goal
 
 pub returns-in_ok-answer_text-in-Ok-clause-says : goal.returns-in_ok-answer_text-in-Ok-clause-says

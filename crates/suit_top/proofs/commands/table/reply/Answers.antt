@@ -1,7 +1,7 @@
 use Rattle.std.proofs.Common.{subst, sym}
 use Rattle.suit_cards.specs.Cards.{Text}
-use Rattle.suit_top.specs.Commands.Tabling.{IsTextTabled}
-use Rattle.suit_top.proofs.Tabled.{tabled_text}
+use Rattle.suit_top.specs.Commands.Table.{IsTextTabled}
+use Rattle.suit_top.proofs.ShownTablesAreDue.{tabled_text}
 use Rattle.suit_top.proofs.commands.table.reply.Goals as goal
 
 pub returns-in-Ok-clause-text : goal.returns-in-Ok-clause-text

@@ -2,8 +2,8 @@ use Rattle.std.proofs.Common.{List, subst, ◌∙◌}
 use Rattle.suit_game.specs.declared.question.Question.{Question}
 use Rattle.suit_gen.specs.Deals.{deals_from}
 use Rattle.suit_table.specs.Summaries.{IsSummary}
-use Rattle.suit_top.specs.Commands.Tabling.{Shows}
-use Rattle.suit_top.proofs.Tried.{tried_text}
+use Rattle.suit_top.specs.Commands.Table.{Shows}
+use Rattle.suit_top.proofs.SummariesAreDue.{tried_text}
 use Rattle.suit_top.proofs.commands.trial.reply.Goals as goal
 
 pub returns-clause-text : goal.returns-clause-text

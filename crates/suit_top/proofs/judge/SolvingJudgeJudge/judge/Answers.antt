@@ -1,4 +1,4 @@
-use Rattle.suit_top.proofs.Tabled.{value_shown}
+use Rattle.suit_top.proofs.ShownTablesAreDue.{value_shown}
 use Rattle.suit_top.proofs.judge.SolvingJudgeJudge.judge.Goals as goal
 
 pub returns-in-Ok : goal.returns-in-Ok

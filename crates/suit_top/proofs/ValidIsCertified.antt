@@ -1,8 +1,8 @@
--- checked: an answer that is found to be valid is certified.
-use Rattle.std.proofs.Common.{◌≡◌, ℕ, zero, suc, ◌*◌, ◌<◌, Bool, true, false, Result, Ok, Err, refl, sym, ap, ◌∙◌}
+-- `found_checks`: an answer that is found to be valid is certified.
+use Rattle.std.proofs.Common.{◌≡◌, ℕ, zero, suc, ◌*◌, ◌<◌, Bool, true, false, refl, sym, ap, ◌∙◌}
 use Rattle.std.proofs.Common.{subst, arith}
 use Rattle.std.proofs.lemmas.Int.{ints}
-use Rattle.std.specs.Prelude.{ℤ, pos, negsuc, ◌*ℤ◌, ◌≤ℤ◌, ◌<ℤ◌, IfOk, nat_lt, unsigned_abs, if◌then◌else◌}
+use Rattle.std.specs.Prelude.{ℤ, pos, negsuc, ◌*ℤ◌, ◌≤ℤ◌, ◌<ℤ◌, nat_lt, unsigned_abs, if◌then◌else◌}
 use Rattle.suit_num.specs.Divisors.{IsCoprime}
 use Rattle.suit_cards.specs.Cards.{Text}
 use Rattle.suit_game.specs.declared.question.Question.{Question}
@@ -12,21 +12,17 @@ use Rattle.suit_game.specs.Validity.{IsValid}
 use Rattle.suit_tree.specs.CountedHistories.{node_count}
 use Rattle.suit_plans.specs.BestReplies.{least, most}
 use Rattle.suit_answer.specs.declared.answer.Answer.{Answer}
-use Rattle.suit_answer.specs.declared.faults.AnswerFault.{AnswerFault}
-use Rattle.suit_answer.specs.Reading.{answer_read}
 use Rattle.suit_check.specs.Verdicts.{Finding, Valid, Plan, Defence, Least, Most, verdict_of}
 use Rattle.suit_check.specs.VerdictLaws.{IsMet}
 use Rattle.suit_check.proofs.VerdictsMet.{valid_is_met}
-use Rattle.suit_lift.specs.Certified.{IsCertified}
 use Rattle.suit_lift.proofs.DefenceGains.{defences_hold}
 use Rattle.suit_lift.proofs.OneValue.{met_is_certified}
 use Rattle.suit_lift.proofs.PlanGains.{plans_earn}
-use Rattle.suit_top.specs.declared.reply.Reply.{Reply}
 use Rattle.suit_top.specs.declared.status.Status.TheVariants.{Done, Nodes, Usage}
-use Rattle.suit_top.specs.Commands.Checking.{Checks, due_found, due_of_answer, due_of_answer_read, valid_text}
+use Rattle.suit_top.specs.Certified.{IsCertifiedAnswer}
+use Rattle.suit_top.specs.Commands.Check.{Checks, due_checking, due_found, valid_text}
 use Rattle.suit_top.specs.Dues.{Due}
 use Rattle.suit_top.specs.Refusals.{nodes_line}
-use Rattle.suit_top.specs.Texts.{text_bytes}
 
 -- a number that comes to a fraction, in whole numbers
 record IsWhole (number num den part : ℤ) (whole : ℕ) : Type 0 where
@@ -48,15 +44,7 @@ met_whole (negsuc a) num den part whole low above some met = absurd (omega (arit
 met_whole (pos a) num (negsuc d) part whole low above some met = absurd (omega (arith, ints, above))
 met_whole (pos a) num (pos d) (negsuc p) whole low above some met = absurd (omega (arith, some))
 
--- an answer is certified, and its value is told in whole numbers
-pub record IsCertifiedAnswer (question : Question) (answer : Answer) : Type 0 where
-  pub num : ℕ
-  pub den : ℕ
-  pub num_is : answer.value.num ≡ pos num
-  pub den_is : answer.value.den ≡ pos den
-  pub certified : IsCertified question num den answer.plan answer.defence
-
--- so is an answer that is met
+-- an answer that is met is certified
 pub met_certified : (question : Question) (answer : Answer) → IsValid question → IsMet question answer
     → IsCertifiedAnswer question answer
 met_certified question answer valid met =
@@ -83,50 +71,23 @@ met_certified question answer valid met =
     above_nothing (pos n) some = omega (arith, ints, some)
     above_nothing (negsuc n) some = absurd (omega (arith, ints, some))
 
--- the text of an answer that is met is certified
-met_checks : (question : Question) (rest text : Text) (answer : Answer) → IsValid question
-    → answer_read question rest ≡ Ok answer → IsMet question answer → text ≡ valid_text → Checks question rest text
-met_checks question rest text answer valid read met is_text =
-    let is = met_certified question answer valid met in
-    record {
-      answer = answer;
-      read = read;
-      num = is.num;
-      den = is.den;
-      num_is = is.num_is;
-      den_is = is.den_is;
-      certified = is.certified;
-      is_text = is_text;
-    }
-
-found_checks : (question : Question) (rest text : Text) (answer : Answer) (found : Finding) → IsValid question
-    → answer_read question rest ≡ Ok answer → verdict_of question answer ≡ found
-    → (due_found found).status ≡ Done → text ≡ (due_found found).text → Checks question rest text
-found_checks question rest text answer Valid valid read is done is_text =
-    met_checks question rest text answer valid read ((valid_is_met question answer valid).0 is) is_text
-found_checks question rest text answer (Plan fault) valid read is done is_text = absurd (cc)
-found_checks question rest text answer (Defence fault) valid read is done is_text = absurd (cc)
-found_checks question rest text answer (Least found) valid read is done is_text = absurd (cc)
-found_checks question rest text answer (Most found) valid read is done is_text = absurd (cc)
+-- where this is found of an answer and told with Done, the answer is checked
+pub found_checks : (question : Question) (answer : Answer) (found : Finding) (text : Text) → IsValid question
+    → found ≡ verdict_of question answer → (due_found found).status ≡ Done → text ≡ (due_found found).text
+    → Checks question answer text
+found_checks question answer Valid text valid is done is_text = record {
+  certified = met_certified question answer valid ((valid_is_met question answer valid).0 (sym is));
+  is_text = is_text;
+}
+found_checks question answer (Plan fault) text valid is done is_text = absurd (cc)
+found_checks question answer (Defence fault) text valid is done is_text = absurd (cc)
+found_checks question answer (Least found) text valid is done is_text = absurd (cc)
+found_checks question answer (Most found) text valid is done is_text = absurd (cc)
 
 -- what is due about an answer, where it is known whether its tree fits the budget
 abbrev due_within_budget : Bool → Question → Answer → Due
 due_within_budget past question answer =
     if past then record { status = Nodes; text = nodes_line question.nodes } else due_found (verdict_of question answer)
-
-budget_checks : (past : Bool) (question : Question) (rest text : Text) (answer : Answer) → IsValid question
-    → answer_read question rest ≡ Ok answer → (due_within_budget past question answer).status ≡ Done
-    → text ≡ (due_within_budget past question answer).text → Checks question rest text
-budget_checks true question rest text answer valid read done is_text = absurd (cc)
-budget_checks false question rest text answer valid read done is_text =
-    found_checks question rest text answer (verdict_of question answer) valid read refl done is_text
-
--- where the text of an answer is told with Done, it is certified
-pub checked : (question : Question) (rest text : Text) (answer : Answer) → IsValid question
-    → answer_read question rest ≡ Ok answer → (due_of_answer question answer).status ≡ Done
-    → text ≡ (due_of_answer question answer).text → Checks question rest text
-checked question rest text answer valid read done is_text =
-    budget_checks (nat_lt question.nodes (node_count question)) question rest text answer valid read done is_text
 
 found_tells : (found : Finding) → (due_found found).status ≡ Usage → ⊥
 found_tells Valid usage = cc
@@ -140,19 +101,6 @@ budget_tells : (past : Bool) (question : Question) (answer : Answer)
 budget_tells true question answer usage = cc
 budget_tells false question answer usage = found_tells (verdict_of question answer) usage
 
--- no answer owes Usage
-pub answer_tells : (question : Question) (found : Result Answer AnswerFault)
-    → (due_of_answer_read question found).status ≡ Usage → ⊥
-answer_tells question (Err fault) usage = cc
-answer_tells question (Ok answer) usage =
-    budget_tells (nat_lt question.nodes (node_count question)) question answer usage
-
--- so is an answer whose reply ends with Done
-pub checked_reply : {E : Type 0} (question : Question) (rest : Text) (answer : Answer) (result : Result Reply E)
-    → IsValid question → answer_read question rest ≡ Ok answer
-    → IfOk result (λ reply. reply.status ≡ (due_of_answer question answer).status)
-    → IfOk result (λ reply. text_bytes reply.text ≡ (due_of_answer question answer).text)
-    → IfOk result (λ reply. reply.status ≡ Done → Checks question rest (text_bytes reply.text))
-checked_reply question rest answer (Ok reply) valid read status text =
-    λ done. checked question rest (text_bytes reply.text) answer valid read (sym status ∙ done) text
-checked_reply question rest answer (Err end) valid read status text = tt
+-- `check` owes Usage about no answer
+pub check_tells : (question : Question) (answer : Answer) → (due_checking question answer).status ≡ Usage → ⊥
+check_tells question answer usage = budget_tells (nat_lt question.nodes (node_count question)) question answer usage

@@ -10,8 +10,8 @@ use Rattle.suit_solve.specs.declared.ends.SolveEnd.TheVariants as ends
 use Rattle.suit_solve.specs.Fates.{Fate, fate}
 use Rattle.suit_solve.proofs.FatesTold.{answers_are_shown}
 use Rattle.suit_top.specs.declared.status.Status.TheVariants.{Usage}
-use Rattle.suit_top.specs.Commands.Solving.{Answers, due_of_fate}
-use Rattle.suit_top.proofs.Checked.{met_certified}
+use Rattle.suit_top.specs.Commands.Solve.{Answers, due_of_fate}
+use Rattle.suit_top.proofs.ValidIsCertified.{met_certified}
 
 -- the answer of a question is met by its plan and its defence
 pub fate_met : (question : Question) (answer : Answer) → IsValid question → fate question ≡ Ok answer
@@ -24,15 +24,10 @@ fate_met question answer valid is =
 pub solved : (question : Question) (text : Text) (answer : Answer) → IsValid question → fate question ≡ Ok answer
     → text ≡ text_of question answer → Answers question text
 solved question text answer valid is is_text =
-    let certified = met_certified question answer valid (fate_met question answer valid is) in
     record {
       answer = answer;
       is_fate = is;
-      num = certified.num;
-      den = certified.den;
-      num_is = certified.num_is;
-      den_is = certified.den_is;
-      certified = certified.certified;
+      certified = met_certified question answer valid (fate_met question answer valid is);
       is_text = is_text;
     }
 

@@ -7,7 +7,7 @@ use Rattle.std.specs.Io.KnownBytes.{Appends}
 use Rattle.std.proofs.lemmas.Bool.{le-ltb}
 use Rattle.std.proofs.lemmas.List.{length-take}
 use Rattle.suit_cards.specs.Cards.{Text}
-use Rattle.suit_ports.specs.Counts.{Rose}
+use Rattle.suit_ports.specs.PortCounts.{Rose}
 use Rattle.suit_ports.specs.Room.{IsFull, KeepsRoom}
 use Rattle.suit_game.specs.declared.question.Question.{Question}
 use Rattle.suit_question.specs.Reading.{question_read}
@@ -18,7 +18,7 @@ use Rattle.suit_top.specs.declared.status.Status.{Status}
 use Rattle.suit_top.specs.declared.status.Status.TheVariants.{Long, Memory}
 use Rattle.suit_top.specs.Asking.{due_of_read}
 use Rattle.suit_top.specs.Commands.{command_of, words_read}
-use Rattle.suit_top.specs.Commands.Solving.{due_of_fate, due_solving}
+use Rattle.suit_top.specs.Commands.Solve.{due_of_fate, due_solving}
 use Rattle.suit_top.specs.Completeness.{IsToldInput, RunsComplete, SolvesComplete}
 use Rattle.suit_top.specs.Completeness.{SureRunsComplete}
 use Rattle.suit_top.specs.Dues.{silent}

@@ -1,13 +1,13 @@
 -- `solve`: the value of a question, with a plan and a defence that show it.
-use Rattle.std.specs.Prelude.{◌≡◌, ℕ, Bool, List, Ok, Err, codes, pos}
+use Rattle.std.specs.Prelude.{◌≡◌, Bool, List, Ok, Err, codes}
 use Rattle.suit_cards.specs.Cards.{Text}
 use Rattle.suit_game.specs.declared.question.Question.{Question}
 use Rattle.suit_answer.specs.declared.answer.Answer.{Answer}
 use Rattle.suit_answer.specs.Writing.{text_of}
-use Rattle.suit_lift.specs.Certified.{IsCertified}
 use Rattle.suit_solve.specs.declared.ends.SolveEnd.TheVariants as ends
 use Rattle.suit_solve.specs.Fates.{Fate, fate}
 use Rattle.suit_top.specs.declared.status.Status.TheVariants.{Memory, Nodes, Pivots, Support, Wide}
+use Rattle.suit_top.specs.Certified.{IsCertifiedAnswer}
 use Rattle.suit_top.specs.Dues.{Due, done, silent}
 use Rattle.suit_top.specs.Refusals.{nodes_line, pivots_line, size_line, width_line}
 use Rattle.suit_top.specs.Words.{is_only}
@@ -29,15 +29,9 @@ due_of_fate question (Err ends.Memory) = silent Memory
 abbrev pub due_solving : Question → Due
 due_solving question = due_of_fate question (fate question)
 
--- a text answers a question: it is that of an answer, which is the question's fate, and whose value is certified by its
--- plan and its defence: played with single cards, the plan earns at least that against every defence, and the defence
--- holds every way of declarer's to at most that
+-- a text answers a question: it is that of an answer, which is the question's fate and is certified
 pub record Answers (question : Question) (text : Text) : Type 0 where
   pub answer : Answer
   pub is_fate : fate question ≡ Ok answer
-  pub num : ℕ
-  pub den : ℕ
-  pub num_is : answer.value.num ≡ pos num
-  pub den_is : answer.value.den ≡ pos den
-  pub certified : IsCertified question num den answer.plan answer.defence
+  pub certified : IsCertifiedAnswer question answer
   pub is_text : text ≡ text_of question answer

@@ -17,10 +17,10 @@ use Rattle.suit_table.specs.Tables.{AreLines, IsTable}
 use Rattle.suit_table.specs.declared.outcomes.Outcome.{Outcome}
 use Rattle.suit_table.specs.declared.outcomes.Outcome.TheVariants.{Value, Nodes, Support, Pivots, Wide, Memory}
 use Rattle.suit_top.specs.declared.status.Status.TheVariants.{Csv, Done}
-use Rattle.suit_top.specs.Commands.Tabling.{due_of_records, due_tabling, Fits, IsShown, IsTextTabled, outcome_of, Shows}
+use Rattle.suit_top.specs.Commands.Table.{due_of_records, due_tabling, Fits, IsCertifiedValue, IsTextTabled, outcome_of, Shows}
 use Rattle.suit_top.specs.Refusals.{misfit_line}
-use Rattle.suit_top.proofs.Checked.{met_certified}
-use Rattle.suit_top.proofs.Solved.{fate_met}
+use Rattle.suit_top.proofs.ValidIsCertified.{met_certified}
+use Rattle.suit_top.proofs.FatesAreCertified.{fate_met}
 
 -- an outcome that is shown fits
 shown_fits : (question : Question) (outcome : Outcome) → Shows question outcome → Fits question outcome
@@ -78,19 +78,14 @@ misfit_status input at is =
 
 -- the value of a question that was answered is shown
 pub value_shown : (question : Question) (answer : Answer) → IsValid question → fate question ≡ Ok answer
-    → IsShown question answer.value
+    → IsCertifiedValue question answer.value
 value_shown question answer valid is =
-    let certified = met_certified question answer valid (fate_met question answer valid is) in
     record {
       valid = valid;
       answer = answer;
       is_fate = is;
       value_is = refl;
-      num = certified.num;
-      den = certified.den;
-      num_is = certified.num_is;
-      den_is = certified.den_is;
-      certified = certified.certified;
+      certified = met_certified question answer valid (fate_met question answer valid is);
     }
 
 -- and so is why one was not

@@ -11,9 +11,10 @@ use Rattle.suit_table.specs.Summaries.{summary_line}
 use Rattle.suit_table.specs.declared.outcomes.Outcome.{Outcome}
 use Rattle.suit_table.specs.declared.outcomes.Outcome.TheVariants.{Memory}
 use Rattle.suit_top.specs.declared.commands.made.MadeTable.{MadeTable}
-use Rattle.suit_top.specs.Commands.Making.{table_named}
-use Rattle.suit_top.specs.Commands.Tabling.{own_outcome}
+use Rattle.suit_top.specs.Commands.Made.{table_named}
+use Rattle.suit_top.specs.Commands.Table.{own_outcome}
 
+-- the table that the words of the command name
 abbrev pub tried_by_words : List Text → Option MadeTable
 tried_by_words words = table_named (codes "trial") words
 

@@ -6,23 +6,31 @@ use Rattle.std.proofs.lemmas.Bool.{le-ltb, lt-ltb}
 use Rattle.std.specs.Io.KnownBytes.{Appends, Consumes, IsAtEnd}
 use Rattle.suit_ports.specs.declared.transfer.ReadEnd.{ReadEnd}
 use Rattle.suit_ports.specs.declared.transfer.ReadEnd.TheVariants as Reading
-use Rattle.suit_ports.specs.Counts.{Rose}
+use Rattle.suit_ports.specs.PortCounts.{Rose}
 use Rattle.suit_ports.specs.Reading.{Took}
 use Rattle.suit_ports.specs.Room.{KeepsRoom, IsFull}
 use Rattle.suit_game.specs.declared.question.Question.{Question}
 use Rattle.suit_top.specs.declared.commands.Command.{Command}
-use Rattle.suit_top.specs.declared.commands.Command.TheVariants.{About, Table, Make, Trial}
-use Rattle.suit_top.specs.declared.commands.inquiry.Inquiry.{Inquiry}
-use Rattle.suit_top.specs.declared.commands.inquiry.Inquiry.TheVariants.{Check, Lines, Solve, Weigh}
+use Rattle.suit_top.specs.declared.commands.Command.TheVariants.{OnQuestion, OnAnswer, OnTable, OnNothing}
+use Rattle.suit_top.specs.declared.commands.on_answer.AnswerCommand.{AnswerCommand}
+use Rattle.suit_top.specs.declared.commands.on_answer.AnswerCommand.TheVariants.{Check, Lines}
+use Rattle.suit_top.specs.declared.commands.on_question.QuestionCommand.{QuestionCommand}
+use Rattle.suit_top.specs.declared.commands.on_question.QuestionCommand.TheVariants.{Solve, Weigh}
+use Rattle.suit_top.specs.declared.commands.on_table.TableCommand.{TableCommand}
+use Rattle.suit_top.specs.declared.commands.on_table.TableCommand.TheVariants.{Table}
 use Rattle.suit_top.specs.declared.reply.Reply.{Reply}
 use Rattle.suit_top.specs.declared.status.Status.{Status}
 use Rattle.suit_top.specs.declared.status.Status.TheVariants.{Done, Usage, WriteFault, Long}
 use Rattle.suit_cards.specs.Cards.{Text}
+use Rattle.suit_answer.specs.declared.answer.Answer.{Answer}
+use Rattle.suit_answer.specs.declared.faults.AnswerFault.{AnswerFault}
 use Rattle.suit_answer.specs.Reading.{answer_read}
-use Rattle.suit_top.specs.Asking.{answer_part, due_of_read}
+use Rattle.suit_top.specs.Asking.{answer_part, due_of_answer_read, due_of_read, question_part}
 use Rattle.suit_top.specs.Commands.{command_of, reads_input, limit_of, due_within, IsOwedWithin, Says, words_read}
-use Rattle.suit_top.specs.Commands.Inquiries.{asking_part, due_about}
-use Rattle.suit_top.specs.Commands.Tabling.{due_of_records}
+use Rattle.suit_top.specs.Commands.OnAnswer.{due_answered, due_with_answer}
+use Rattle.suit_top.specs.Commands.OnQuestion.{due_about}
+use Rattle.suit_top.specs.Commands.OnTable.{due_on_table}
+use Rattle.suit_top.specs.Commands.Table.{due_of_records}
 use Rattle.suit_table.specs.Records.{Record, first_misfit, records_of}
 use Rattle.suit_top.specs.Dues.{Due, done, silent}
 use Rattle.suit_question.specs.Reading.{question_read}
@@ -31,38 +39,49 @@ use Rattle.suit_top.specs.Texts.{text_bytes}
 use Rattle.suit_top.specs.Owing.{due_for, IsOwedText, Owes}
 use Rattle.suit_top.specs.Replies.{IsReply, Delivered, Stopped}
 use Rattle.suit_top.specs.Runs.{IsInput, Ports, Runs}
-use Rattle.suit_top.proofs.Checked.{answer_tells}
-use Rattle.suit_top.proofs.Solved.{fate_tells}
+use Rattle.suit_top.proofs.ValidIsCertified.{check_tells}
+use Rattle.suit_top.proofs.FatesAreCertified.{fate_tells}
 use Rattle.suit_solve.specs.Fates.{fate}
-use Rattle.suit_top.proofs.ToldAnswers.{told_tells}
-use Rattle.suit_top.proofs.Inputs.{is_input, long_input}
+use Rattle.suit_top.proofs.ValidIsTellable.{lines_tell}
+use Rattle.suit_top.proofs.InputsOfSources.{is_input, long_input}
 
--- no inquiry owes Usage about a question
-about_tells : (inquiry : Inquiry) (input : Text) (question : Question)
-    → (due_about inquiry input question).status ≡ Usage → ⊥
-about_tells Solve input question usage = fate_tells question (fate question) usage
-about_tells Check input question usage =
-    answer_tells question (answer_read question (answer_part input)) usage
-about_tells Lines input question usage =
-    told_tells question (answer_read question (answer_part input)) usage
-about_tells Weigh input question usage = cc
+-- no text owes Usage whose question owes none
+asked_tells : (about : Question → Due) (found : Result Question QuestionFault)
+    → ((question : Question) → (about question).status ≡ Usage → ⊥) → (due_of_read about found).status ≡ Usage → ⊥
+asked_tells about (Err fault) tells usage = cc
+asked_tells about (Ok question) tells usage = tells question usage
 
--- nor about a text that was read
-read_tells : (inquiry : Inquiry) (input : Text) (found : Result Question QuestionFault)
-    → (due_of_read (due_about inquiry input) found).status ≡ Usage → ⊥
-read_tells inquiry input (Err fault) usage = cc
-read_tells inquiry input (Ok question) usage = about_tells inquiry input question usage
+answer_tells : (about : Answer → Due) (found : Result Answer AnswerFault)
+    → ((answer : Answer) → (about answer).status ≡ Usage → ⊥) → (due_of_answer_read about found).status ≡ Usage → ⊥
+answer_tells about (Err fault) tells usage = cc
+answer_tells about (Ok answer) tells usage = tells answer usage
+
+about_tells : (command : QuestionCommand) (question : Question) → (due_about command question).status ≡ Usage → ⊥
+about_tells Solve question usage = fate_tells question (fate question) usage
+about_tells Weigh question usage = cc
+
+answered_tells : (command : AnswerCommand) (question : Question) (answer : Answer)
+    → (due_answered command question answer).status ≡ Usage → ⊥
+answered_tells Check question answer usage = check_tells question answer usage
+answered_tells Lines question answer usage = lines_tell question answer usage
 
 records_tell : (records : List Record) (misfit : Option ℕ) → (due_of_records records misfit).status ≡ Usage → ⊥
 records_tell records None usage = cc
 records_tell records (Some at) usage = cc
 
+table_tells : (command : TableCommand) (input : Text) → (due_on_table command input).status ≡ Usage → ⊥
+table_tells Table input usage = records_tell (records_of input) (first_misfit (records_of input)) usage
+
 -- no command owes it for an input
 within_tells : (command : Command) (input : Text) → (due_within command input).status ≡ Usage → ⊥
-within_tells (About inquiry) input usage = read_tells inquiry input (question_read (asking_part inquiry input)) usage
-within_tells Table input usage = records_tell (records_of input) (first_misfit (records_of input)) usage
-within_tells (Make made) input usage = cc
-within_tells (Trial made) input usage = cc
+within_tells (OnQuestion command) input usage =
+    asked_tells (due_about command) (question_read input) (about_tells command) usage
+within_tells (OnAnswer command) input usage =
+    asked_tells (due_with_answer command (answer_part input)) (question_read (question_part input))
+    (λ question. answer_tells (due_answered command question) (answer_read question (answer_part input))
+    (answered_tells command question)) usage
+within_tells (OnTable command) input usage = table_tells command input usage
+within_tells (OnNothing command) input usage = cc
 
 long_tells : (long : Bool) (due : Due) → (due.status ≡ Usage → ⊥) → (if long then silent Long else due).status ≡ Usage
     → ⊥

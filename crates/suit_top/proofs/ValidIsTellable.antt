@@ -1,18 +1,17 @@
--- An answer that is told with Done is certified (`told_reply`): `check` finds it valid, and then it can be told
--- (`done_proper`, `done_tellable`).
-use Rattle.std.proofs.Common.{◌≡◌, ℕ, zero, suc, ◌+◌, ◌*◌, ◌^◌, ◌<◌, ◌≤◌, Bool, true, false, [], Result, Ok, Err, refl}
+-- An answer of which `check` owes Done can be told (`done_tellable`): its plan is proper and its value is not large.
+use Rattle.std.proofs.Common.{◌≡◌, ℕ, zero, suc, ◌+◌, ◌*◌, ◌^◌, ◌<◌, ◌≤◌, Bool, true, false, [], refl}
 use Rattle.std.proofs.Common.{sym}
 use Rattle.std.proofs.Common.{ap, ◌∙◌, subst, arith}
 use Rattle.std.proofs.Math.IntN.{*ℤ_comm}
 use Rattle.std.proofs.Math.Nat.{mul-le-mul_right}
-use Rattle.std.proofs.lemmas.Bool.{false≢true}
 use Rattle.std.proofs.lemmas.Int.{ints}
 use Rattle.std.proofs.lemmas.Nat.{div-mul-add, le-div}
-use Rattle.std.specs.Prelude.{ℤ, pos, negsuc, ◌*ℤ◌, ◌≤ℤ◌, ◌<ℤ◌, IfOk, nat_lt, unsigned_abs, if◌then◌else◌}
+use Rattle.std.specs.Prelude.{ℤ, pos, negsuc, ◌*ℤ◌, ◌≤ℤ◌, ◌<ℤ◌, nat_lt, unsigned_abs, if◌then◌else◌}
 use Rattle.suit_num.proofs.IntegerLaws.{int_le-true}
 use Rattle.suit_num.specs.declared.fraction.Frac.{Frac}
-use Rattle.suit_cards.specs.Cards.{Counts, Text}
+use Rattle.suit_cards.specs.Cards.{Counts}
 use Rattle.suit_game.specs.declared.question.Question.{Question}
+use Rattle.suit_game.specs.declared.limits.TheConstants.{MOST_TOTAL}
 use Rattle.suit_game.specs.Layouts.{total}
 use Rattle.suit_game.specs.Validity.{IsValid}
 use Rattle.suit_game.proofs.FilledPlaces.{total_at_most}
@@ -28,8 +27,6 @@ use Rattle.suit_plans.proofs.BoundedReplies.{sum_weighed, weighed_paid, weights_
 use Rattle.suit_plans.proofs.PaidWorths.{sum_paid}
 use Rattle.suit_plans.proofs.ProperPlans.{proper_plan}
 use Rattle.suit_answer.specs.declared.answer.Answer.{Answer}
-use Rattle.suit_answer.specs.declared.faults.AnswerFault.{AnswerFault}
-use Rattle.suit_answer.specs.Reading.{answer_read}
 use Rattle.suit_answer.specs.Reduced.{fraction}
 use Rattle.suit_answer.proofs.ReducedFractions.{fraction_small, made_fraction, some_from_one, whole_over}
 use Rattle.suit_lines.specs.Lines.{lines_of}
@@ -37,21 +34,14 @@ use Rattle.suit_lines.specs.Values.{IsTellable}
 use Rattle.suit_check.specs.Verdicts.{Finding, Valid, Plan as PlanFound, Defence, Least, Most, verdict_of}
 use Rattle.suit_check.specs.VerdictLaws.{IsMet}
 use Rattle.suit_check.proofs.VerdictsMet.{valid_is_met}
-use Rattle.suit_top.specs.declared.reply.Reply.{Reply}
-use Rattle.suit_top.specs.declared.status.Status.{Status}
 use Rattle.suit_top.specs.declared.status.Status.TheVariants.{Done, Nodes, Usage}
-use Rattle.suit_top.specs.Commands.Checking.{due_found, due_of_answer, due_of_answer_read, valid_text}
-use Rattle.suit_top.specs.Commands.Telling.{Tells, due_of_told, due_telling_of, is_done}
+use Rattle.suit_top.specs.Commands.Check.{due_checking, due_found}
+use Rattle.suit_top.specs.Commands.Lines.{due_telling, is_done}
 use Rattle.suit_top.specs.Dues.{Due, done}
 use Rattle.suit_top.specs.Refusals.{nodes_line}
-use Rattle.suit_top.specs.Texts.{text_bytes}
-use Rattle.suit_top.proofs.Checked.{answer_tells, checked}
+use Rattle.suit_top.proofs.ValidIsCertified.{check_tells}
 
 -- ---- what `check` owes with Done
-
-pub done_is : (status : Status) → is_done status ≡ true → status ≡ Done
-done_is Done is = refl
-done_is _ is = absurd (false≢true is)
 
 found_valid : (found : Finding) → (due_found found).status ≡ Done → found ≡ Valid
 found_valid Valid is = refl
@@ -62,25 +52,17 @@ found_valid (Most found) is = absurd (cc)
 
 budget_valid : (past : Bool) (question : Question) (answer : Answer)
     → (if past then record { status = Nodes; text = nodes_line question.nodes }
-    else due_found (verdict_of question answer)).status ≡ Done
-    → (verdict_of question answer ≡ Valid)
-    × (valid_text ≡ (if past then record { status = Nodes; text = nodes_line question.nodes }
-    else due_found (verdict_of question answer)).text)
+    else due_found (verdict_of question answer)).status ≡ Done → verdict_of question answer ≡ Valid
 budget_valid true question answer is = absurd (cc)
-budget_valid false question answer is =
-    let valid = found_valid (verdict_of question answer) is in
-    (valid, ap (λ (found : Finding). (due_found found).text) (sym valid))
+budget_valid false question answer is = found_valid (verdict_of question answer) is
 
-done_valid : (question : Question) (answer : Answer) → (due_of_answer question answer).status ≡ Done
-    → (verdict_of question answer ≡ Valid) × (valid_text ≡ (due_of_answer question answer).text)
-done_valid question answer is = budget_valid (nat_lt question.nodes (node_count question)) question answer is
-
-done_met : (question : Question) (answer : Answer) → IsValid question → (due_of_answer question answer).status ≡ Done
+done_met : (question : Question) (answer : Answer) → IsValid question → (due_checking question answer).status ≡ Done
     → IsMet question answer
-done_met question answer valid is = (valid_is_met question answer valid).0 (done_valid question answer is).0
+done_met question answer valid is = (valid_is_met question answer valid).0
+    (budget_valid (nat_lt question.nodes (node_count question)) question answer is)
 
 pub done_proper : (question : Question) (answer : Answer) → IsValid question
-    → (due_of_answer question answer).status ≡ Done → IsProperPlan question answer.plan
+    → (due_checking question answer).status ≡ Done → IsProperPlan question answer.plan
 done_proper question answer valid is = (done_met question answer valid is).plan
 
 -- ---- the value of a valid answer
@@ -126,7 +108,7 @@ few_value (pos a) num (negsuc d) whole low few positive some same = absurd (omeg
 few_value (pos a) num (pos d) (negsuc w) low few positive some same = absurd (omega (arith, ints, some))
 
 -- a denominator that is no larger than a plan's times the total weight is not large
-fine_den : (den part : ℤ) (t : ℕ) → pos 1 ≤ℤ part → part ≤ℤ MOST_DEN → t ≤ 10400600 → den ≤ℤ (part *ℤ pos t)
+fine_den : (den part : ℤ) (t : ℕ) → pos 1 ≤ℤ part → part ≤ℤ MOST_DEN → t ≤ MOST_TOTAL → den ≤ℤ (part *ℤ pos t)
     → den ≤ℤ pos (2 ^ 114)
 fine_den den (pos p) t one most few within =
     let below : den ≤ℤ pos (p * t) = within in
@@ -135,7 +117,7 @@ fine_den den (pos p) t one most few within =
 fine_den den (negsuc p) t one most few within = absurd (omega (arith, ints, one))
 
 pub done_tellable : (question : Question) (answer : Answer) → IsValid question
-    → (due_of_answer question answer).status ≡ Done → IsTellable answer.value
+    → (due_checking question answer).status ≡ Done → IsTellable answer.value
 done_tellable question answer valid is =
     let met = done_met question answer valid is in
     let bounds = proper_plan question answer.plan met.plan in
@@ -159,43 +141,13 @@ done_tellable question answer valid is =
 
 -- ---- what is told
 
--- no answer owes Usage
-done_tells : (b : Bool) (question : Question) (answer : Answer) (due : Due) → (due.status ≡ Usage → ⊥)
+told_usage : (b : Bool) (question : Question) (answer : Answer) (due : Due) → (due.status ≡ Usage → ⊥)
     → (if b then done (lines_of question answer) else due).status ≡ Usage → ⊥
-done_tells true question answer due tells usage = cc
-done_tells false question answer due tells usage = tells usage
+told_usage true question answer due tells usage = cc
+told_usage false question answer due tells usage = tells usage
 
-pub told_tells : (question : Question) (found : Result Answer AnswerFault)
-    → (due_of_told question found (due_of_answer_read question found)).status ≡ Usage → ⊥
-told_tells question (Err fault) usage = answer_tells question (Err fault) usage
-told_tells question (Ok answer) usage =
-    done_tells (is_done (due_of_answer question answer).status) question answer (due_of_answer question answer)
-    (answer_tells question (Ok answer)) usage
-
--- what is told of an answer with Done is certified
-certified_lines : (b : Bool) (question : Question) (rest text : Text) (answer : Answer) → IsValid question
-    → answer_read question rest ≡ Ok answer → is_done (due_of_answer question answer).status ≡ b
-    → (if b then done (lines_of question answer) else due_of_answer question answer).status ≡ Done
-    → text ≡ (if b then done (lines_of question answer) else due_of_answer question answer).text
-    → Tells question rest text
-certified_lines true question rest text answer valid read is status text_is =
-    let went = done_is (due_of_answer question answer).status is in
-    let checks = checked question rest valid_text answer valid read went (done_valid question answer went).1 in
-    let found : Ok answer ≡ Ok checks.answer = sym read ∙ checks.read in
-    let same : answer ≡ checks.answer = cc in
-    record { checked = checks; is_text = text_is ∙ ap (lines_of question) same }
-certified_lines false question rest text answer valid read is status text_is =
-    let went : is_done (due_of_answer question answer).status ≡ true = ap is_done status in
-    absurd (false≢true (sym is ∙ went))
-
-pub told_reply : {E : Type 0} (question : Question) (rest : Text) (answer : Answer) (result : Result Reply E)
-    → IsValid question → answer_read question rest ≡ Ok answer
-    → IfOk result (λ reply. reply.status ≡ (due_telling_of question answer (due_of_answer question answer)).status)
-    → IfOk result (λ reply. text_bytes reply.text
-    ≡ (due_telling_of question answer (due_of_answer question answer)).text)
-    → IfOk result (λ reply. reply.status ≡ Done → Tells question rest (text_bytes reply.text))
-told_reply question rest answer (Ok reply) valid read status text =
-    λ done. certified_lines (is_done (due_of_answer question answer).status) question rest
-    (text_bytes reply.text) answer
-    valid read refl (sym status ∙ done) text
-told_reply question rest answer (Err end) valid read status text = tt
+-- `lines` owes Usage about no answer
+pub lines_tell : (question : Question) (answer : Answer) → (due_telling question answer).status ≡ Usage → ⊥
+lines_tell question answer usage =
+    told_usage (is_done (due_checking question answer).status) question answer (due_checking question answer)
+    (check_tells question answer) usage

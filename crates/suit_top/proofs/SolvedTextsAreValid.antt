@@ -19,13 +19,15 @@ use Rattle.suit_solve.specs.Fates.{fate, fate_in_rounds}
 use Rattle.suit_solve.proofs.FatesTold.{answers_are_writable}
 use Rattle.suit_top.specs.declared.commands.TheConstants.{MOST_INPUT}
 use Rattle.suit_top.specs.declared.status.Status.TheVariants.{Nodes}
-use Rattle.suit_top.specs.Asking.{due_of_read}
-use Rattle.suit_top.specs.Commands.Checking.{due_checking, due_found, due_of_answer, due_of_answer_read, valid_text}
+use Rattle.suit_top.specs.declared.commands.on_answer.AnswerCommand.TheVariants.{Check}
+use Rattle.suit_top.specs.Asking.{due_of_answer_read, due_of_read}
+use Rattle.suit_top.specs.Commands.Check.{due_checking, due_found, valid_text}
+use Rattle.suit_top.specs.Commands.OnAnswer.{due_with_answer}
 use Rattle.suit_top.specs.Dues.{Due, done}
 use Rattle.suit_top.specs.Refusals.{nodes_line}
 use Rattle.suit_top.specs.SolvedTexts.{SolvedTextsAreValid}
-use Rattle.suit_top.proofs.AskedParts.{asked_end, drop_first, take_first}
-use Rattle.suit_top.proofs.Solved.{fate_met}
+use Rattle.suit_top.proofs.QuestionsEndAlike.{asked_end, drop_first, take_first}
+use Rattle.suit_top.proofs.FatesAreCertified.{fate_met}
 
 -- what is due for an input that is not too long
 within : (limit : ℕ) (input : Text) (due : Due) (long : Due) → length input ≤ limit
@@ -46,7 +48,7 @@ within_budget question answer is = by_count (nat_lt question.nodes (node_count q
 
 -- the answer is found to be valid
 answer_valid : (question : Question) (answer : Answer) → IsValid question → fate question ≡ Ok answer
-    → due_of_answer question answer ≡ done valid_text
+    → due_checking question answer ≡ done valid_text
 answer_valid question answer valid is =
     ap (λ (b : Bool). if b then record { status = Nodes; text = nodes_line question.nodes }
     else due_found (verdict_of question answer)) (within_budget question answer is)
@@ -54,24 +56,25 @@ answer_valid question answer valid is =
 
 -- what is due about an answer text that is written of it
 checked_valid : (question : Question) (text : Text) (answer : Answer) → IsValid question → fate question ≡ Ok answer
-    → text ≡ text_of question answer → due_checking question text ≡ done valid_text
+    → text ≡ text_of question answer → due_with_answer Check text question ≡ done valid_text
 checked_valid question text answer valid is written =
-    ap (λ (l : Text). due_of_answer_read question (answer_read question l)) written
-    ∙ ap (due_of_answer_read question) (text_back question answer (answers_are_writable question answer valid is))
+    ap (λ (l : Text). due_of_answer_read (due_checking question) (answer_read question l)) written
+    ∙ ap (due_of_answer_read (due_checking question))
+    (text_back question answer (answers_are_writable question answer valid is))
     ∙ answer_valid question answer valid is
 
 -- what is due of a question and what follows it
 parts_valid : (input text : Text) (question : Question) (end : ℕ) → end ≡ length input
-    → question_read input ≡ Ok question → due_checking question text ≡ done valid_text
-    → due_of_read (λ asked. due_checking asked (drop end (input ++ text))) (question_read (take end (input ++ text)))
+    → question_read input ≡ Ok question → due_with_answer Check text question ≡ done valid_text
+    → due_of_read (due_with_answer Check (drop end (input ++ text))) (question_read (take end (input ++ text)))
     ≡ done valid_text
 parts_valid input text question end is read due =
-    ap (λ (n : ℕ). due_of_read (λ asked. due_checking asked (drop n (input ++ text)))
+    ap (λ (n : ℕ). due_of_read (due_with_answer Check (drop n (input ++ text)))
     (question_read (take n (input ++ text)))) is
-    ∙ ap (λ (l : Text). due_of_read (λ asked. due_checking asked (drop (length input) (input ++ text)))
+    ∙ ap (λ (l : Text). due_of_read (due_with_answer Check (drop (length input) (input ++ text)))
     (question_read l)) (take_first input text)
-    ∙ ap (λ (l : Text). due_of_read (λ asked. due_checking asked l) (question_read input)) (drop_first input text)
-    ∙ ap (due_of_read (λ asked. due_checking asked text)) read
+    ∙ ap (λ (l : Text). due_of_read (due_with_answer Check l) (question_read input)) (drop_first input text)
+    ∙ ap (due_of_read (due_with_answer Check text)) read
     ∙ due
 
 pub solved_texts_are_valid : SolvedTextsAreValid

@@ -1,16 +1,14 @@
 -- `check`: whether the answer that follows a question shows its value.
-use Rattle.std.specs.Prelude.{◌≡◌, ℕ, Bool, List, codes, nat_lt, Result, Ok, Err, if◌then◌else◌, pos}
+use Rattle.std.specs.Prelude.{◌≡◌, Bool, List, codes, nat_lt, if◌then◌else◌}
 use Rattle.suit_cards.specs.Cards.{Text}
 use Rattle.suit_game.specs.declared.question.Question.{Question}
 use Rattle.suit_tree.specs.CountedHistories.{node_count}
 use Rattle.suit_answer.specs.declared.answer.Answer.{Answer}
-use Rattle.suit_answer.specs.declared.faults.AnswerFault.{AnswerFault}
-use Rattle.suit_answer.specs.Reading.{answer_read}
 use Rattle.suit_check.specs.Verdicts.{Finding, Valid, Plan, Defence, Least, Most, verdict_of}
-use Rattle.suit_lift.specs.Certified.{IsCertified}
 use Rattle.suit_top.specs.declared.status.Status.TheVariants.{NotValid, Nodes}
+use Rattle.suit_top.specs.Certified.{IsCertifiedAnswer}
 use Rattle.suit_top.specs.Dues.{Due, done}
-use Rattle.suit_top.specs.Refusals.{answer_line, defence_line, least_line, most_line, nodes_line, plan_line}
+use Rattle.suit_top.specs.Refusals.{defence_line, least_line, most_line, nodes_line, plan_line}
 use Rattle.suit_top.specs.Words.{is_only}
 
 -- the words of the command
@@ -30,29 +28,13 @@ due_found (Least found) = record { status = NotValid; text = least_line found }
 due_found (Most found) = record { status = NotValid; text = most_line found }
 
 -- what is due about an answer: the question's budget is told before what is found of it
-abbrev pub due_of_answer : Question → Answer → Due
-due_of_answer question answer =
+abbrev pub due_checking : Question → Answer → Due
+due_checking question answer =
     if nat_lt question.nodes (node_count question)
     then record { status = Nodes; text = nodes_line question.nodes }
     else due_found (verdict_of question answer)
 
--- what is due about an answer that was read, or the line of its text's first fault
-abbrev pub due_of_answer_read : Question → Result Answer AnswerFault → Due
-due_of_answer_read question (Err fault) = record { status = NotValid; text = answer_line fault }
-due_of_answer_read question (Ok answer) = due_of_answer question answer
-
--- what is due about a question and the text that follows it
-abbrev pub due_checking : Question → Text → Due
-due_checking question rest = due_of_answer_read question (answer_read question rest)
-
--- the text that follows a question is an answer whose value is certified by its plan and its defence, and the text
--- written says so
-pub record Checks (question : Question) (rest text : Text) : Type 0 where
-  pub answer : Answer
-  pub read : answer_read question rest ≡ Ok answer
-  pub num : ℕ
-  pub den : ℕ
-  pub num_is : answer.value.num ≡ pos num
-  pub den_is : answer.value.den ≡ pos den
-  pub certified : IsCertified question num den answer.plan answer.defence
+-- an answer is certified, and the text written says so
+pub record Checks (question : Question) (answer : Answer) (text : Text) : Type 0 where
+  pub certified : IsCertifiedAnswer question answer
   pub is_text : text ≡ valid_text

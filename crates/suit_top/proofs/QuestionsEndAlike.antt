@@ -6,10 +6,11 @@ use Rattle.std.specs.Prelude.{if◌then◌else◌}
 use Rattle.suit_cards.specs.Cards.{Text}
 use Rattle.suit_game.specs.declared.question.Question.{Question}
 use Rattle.suit_question.specs.Columns.{no_columns, told_at}
-use Rattle.suit_question.specs.Lines.{line_of, pieces_of}
+use Rattle.suit_text.specs.Loose.{line_of, pieces_of}
 use Rattle.suit_question.specs.Reading.{asked_by, end_index, end_of, ended, line_put, question_read}
 use Rattle.suit_question.specs.Results.{◌>>=◌}
-use Rattle.suit_question.specs.Words.{is_end, is_skipped, with_first, words_of}
+use Rattle.suit_question.specs.Words.{is_end, is_skipped}
+use Rattle.suit_text.specs.Loose.{with_first, words_of}
 use Rattle.suit_question.specs.declared.columns.Columns.{Columns}
 use Rattle.suit_question.specs.declared.faults.QuestionFault.{QuestionFault}
 

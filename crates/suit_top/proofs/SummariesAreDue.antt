@@ -9,8 +9,8 @@ use Rattle.suit_gen.specs.declared.deals.Deal.{Deal}
 use Rattle.suit_table.specs.Summaries.{AreOutcomes, IsSummary, summary_line}
 use Rattle.suit_table.specs.declared.outcomes.Outcome.{Outcome}
 use Rattle.suit_table.specs.declared.outcomes.Outcome.TheVariants.{Value, Nodes, Support, Pivots, Wide, Memory}
-use Rattle.suit_top.specs.Commands.Tabling.{outcome_of, own_outcome, Shows}
-use Rattle.suit_top.specs.Commands.Trying.{outcome_named, outcomes_of}
+use Rattle.suit_top.specs.Commands.Table.{outcome_of, own_outcome, Shows}
+use Rattle.suit_top.specs.Commands.Trial.{outcome_named, outcomes_of}
 
 -- an outcome that is shown and is not want of memory is the question's own
 own_shown : (question : Question) (outcome : Outcome) → Shows question outcome → outcome ≢ Memory

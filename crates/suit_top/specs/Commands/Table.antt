@@ -1,13 +1,12 @@
 -- `table`: the questions that the records of a table name, each with its outcome.
 use Rattle.std.specs.Prelude.{◌≡◌, ◌⊎◌, ℕ, suc, Bool, List, [], ◌∷◌, ◌++◌, Option, Some, None, MatchOption, Result}
-use Rattle.std.specs.Prelude.{Ok, Err, codes, pos}
+use Rattle.std.specs.Prelude.{Ok, Err, codes}
 use Rattle.suit_num.specs.declared.fraction.Frac.{Frac}
 use Rattle.suit_cards.specs.Cards.{Text}
 use Rattle.suit_game.specs.declared.question.Question.{Question}
 use Rattle.suit_game.specs.Validity.{IsValid}
 use Rattle.suit_question.specs.declared.faults.QuestionFault.{QuestionFault}
 use Rattle.suit_answer.specs.declared.answer.Answer.{Answer}
-use Rattle.suit_lift.specs.Certified.{IsCertified}
 use Rattle.suit_solve.specs.declared.ends.SolveEnd.TheVariants as ends
 use Rattle.suit_solve.specs.Fates.{Fate, fate}
 use Rattle.suit_table.specs.Fields.{question_named}
@@ -17,6 +16,7 @@ use Rattle.suit_table.specs.Tables.{IsTable}
 use Rattle.suit_table.specs.declared.outcomes.Outcome.{Outcome}
 use Rattle.suit_table.specs.declared.outcomes.Outcome.TheVariants.{Value, Nodes, Support, Pivots, Wide, Memory}
 use Rattle.suit_top.specs.declared.status.Status.TheVariants.{Csv}
+use Rattle.suit_top.specs.Certified.{IsCertifiedAnswer}
 use Rattle.suit_top.specs.Dues.{Due, done}
 use Rattle.suit_top.specs.Refusals.{misfit_line}
 use Rattle.suit_top.specs.Words.{is_only}
@@ -67,21 +67,17 @@ abbrev pub IsTextTabled : Text → Text → Type 0
 IsTextTabled input text =
     MatchOption (first_misfit (records_of input)) (IsTable Fits input text) (λ at. text ≡ misfit_line at)
 
--- a value is that of the answer that is a valid question's fate, and it is certified by that answer's plan and defence
-pub record IsShown (question : Question) (value : Frac) : Type 0 where
+-- a value is that of the answer that is a valid question's fate, and that answer is certified
+pub record IsCertifiedValue (question : Question) (value : Frac) : Type 0 where
   pub valid : IsValid question
   pub answer : Answer
   pub is_fate : fate question ≡ Ok answer
   pub value_is : answer.value ≡ value
-  pub num : ℕ
-  pub den : ℕ
-  pub num_is : value.num ≡ pos num
-  pub den_is : value.den ≡ pos den
-  pub certified : IsCertified question num den answer.plan answer.defence
+  pub certified : IsCertifiedAnswer question answer
 
 -- what an outcome that is told shows: a value is certified, any other is the question's own, or memory was wanted
 abbrev pub Shows : Question → Outcome → Type 0
-Shows question (Value value) = IsShown question value
+Shows question (Value value) = IsCertifiedValue question value
 Shows question Nodes = Nodes ≡ own_outcome question
 Shows question Support = Support ≡ own_outcome question
 Shows question Pivots = Pivots ≡ own_outcome question
