@@ -14,6 +14,7 @@ use Rattle.suit_plans.specs.Properness.{IsProperDefence, IsProperPlan, defence_v
 use Rattle.suit_plans.specs.declared.faults.PlanFault.{PlanFault}
 use Rattle.suit_plans.proofs.ProperDefences.{proper_defence}
 use Rattle.suit_plans.proofs.ProperPlans.{proper_plan}
+use Rattle.suit_plans.specs.declared.plan.TheConstants.{MOST_DEN}
 use Rattle.suit_answer.specs.declared.answer.Answer.{Answer}
 use Rattle.suit_answer.specs.Reduced.{value_over}
 use Rattle.suit_answer.proofs.ReducedFractions.{fraction_exact, made_fraction, some_from_one, whole_over}
@@ -85,16 +86,16 @@ passed (Ok one) (Ok other) true true earns gives is =
 
 -- the denominators of proper plans and defences
 pub plan_bounds : (question : Question) (answer : Answer) → IsProperPlan question answer.plan
-    → (pos 1 ≤ℤ answer.plan.den) × (answer.plan.den ≤ℤ pos (2 ^ 90))
+    → (pos 1 ≤ℤ answer.plan.den) × (answer.plan.den ≤ℤ MOST_DEN)
 plan_bounds question answer proper =
     let parts = proper_plan question answer.plan proper in
-    (int_le-true (pos 1) answer.plan.den parts.0, int_le-true answer.plan.den (pos (2 ^ 90)) parts.1)
+    (int_le-true (pos 1) answer.plan.den parts.0, int_le-true answer.plan.den MOST_DEN parts.1)
 
 pub defence_bounds : (question : Question) (answer : Answer) → IsProperDefence question answer.defence
-    → (pos 1 ≤ℤ answer.defence.den) × (answer.defence.den ≤ℤ pos (2 ^ 90))
+    → (pos 1 ≤ℤ answer.defence.den) × (answer.defence.den ≤ℤ MOST_DEN)
 defence_bounds question answer proper =
     let parts = proper_defence question answer.defence proper in
-    (int_le-true (pos 1) answer.defence.den parts.0, int_le-true answer.defence.den (pos (2 ^ 90)) parts.1)
+    (int_le-true (pos 1) answer.defence.den parts.0, int_le-true answer.defence.den MOST_DEN parts.1)
 
 module _ (question : Question) (answer : Answer) (valid : IsValid question) where
   plan_den : IsProperPlan question answer.plan → pos 1 ≤ℤ answer.plan.den

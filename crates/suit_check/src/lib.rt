@@ -5,8 +5,6 @@ mod checking;
 mod ends;
 pub mod laws;
 mod sharing;
-#[cfg(test)]
-mod tests;
 mod verdict;
 
 pub use checking::check;

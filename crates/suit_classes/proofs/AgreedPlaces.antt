@@ -36,7 +36,8 @@ use Rattle.suit_classes.specs.ClassPlaces.{turn_of}
 use Rattle.suit_classes.proofs.DealtClasses.{IsDealt, IsHolding-dealt, IsHolding-without}
 use Rattle.suit_classes.proofs.MergedPlaces.{HasCounts, IsMerged, merged_trick, after_merged, play_dealt}
 use Rattle.suit_classes.proofs.MovesOnce.{leads_once, merged_once}
-use Rattle.suit_classes.proofs.StartCounts.{same_filter}
+use Rattle.suit_classes.proofs.LeftAtTheStart.{same_filter}
+use Rattle.suit_classes.specs.declared.classes.TheConstants.{MOST_CLASSES}
 
 -- the classes of which some cards have one
 abbrev present : Hands → List ℕ → List ℕ
@@ -109,7 +110,7 @@ classes_left_are : (question : Question) (west : Cards) (place : Position) (view
 unfolding class_numbers
 classes_left_are question west place view seat counts =
     same_filter (λ class. nat_lt 0 (left view (counts_of (hands_of question) west) seat class))
-    (λ class. nat_lt 0 (cards_in (hands_of question) (hand question west place seat) class)) 0 13
+    (λ class. nat_lt 0 (cards_in (hands_of question) (hand question west place seat) class)) 0 MOST_CLASSES
     (λ class small. ap (nat_lt 0) (counts.left seat class (omega arith)))
 
 may_lead_same : (view : ClassView) (lead : LeadAt) (entries entries' : Entries) (seat : Seat) → view.lead ≡ lead

@@ -26,22 +26,23 @@ use Rattle.suit_classes.specs.ClassPlaces.{classes_left, counted_classes, dealt_
 use Rattle.suit_classes.specs.ClassPlaces.{none_played, or_show_out, west_count}
 use Rattle.suit_classes.proofs.DefenceClasses.{filter_range-push, filter_range-more, filter_range-most}
 use Rattle.suit_classes.proofs.RankBlocks.{StaysBelow, with_number, falling_stays}
+use Rattle.suit_classes.specs.declared.classes.TheConstants.{MOST_CLASSES}
 
 -- counts that are right up to a class, and none from it on
 pub record Filled (f : ℕ → ℕ) (counts : Counts) (class : ℕ) : Type 0 where
-  pub long : length counts ≡ 13
+  pub long : length counts ≡ MOST_CLASSES
   pub done : (k : ℕ) → k < class → get_or counts k 0 ≡ f k
   pub rest : (k : ℕ) → class ≤ k → get_or counts k 0 ≡ 0
 
 -- no card of any class
 pub none_played-at : (k : ℕ) → get_or none_played k 0 ≡ 0
 unfolding none_played class_numbers
-none_played-at k = elim (cases_lt k 13) [
-  | inl small ↦ get_or-map-range_with_len (λ class. 0) 0 13 k k 0 small (omega arith)
-  | inr past ↦ get_or_past none_played k 0 (omega (arith, length-map-range_with_len {X = ℕ} (λ class. 0) 0 13))
+none_played-at k = elim (cases_lt k MOST_CLASSES) [
+  | inl small ↦ get_or-map-range_with_len (λ class. 0) 0 MOST_CLASSES k k 0 small (omega arith)
+  | inr past ↦ get_or_past none_played k 0 (omega (arith, length-map-range_with_len {X = ℕ} (λ class. 0) 0 MOST_CLASSES))
 ]
 
-pub length-none_played : length none_played ≡ 13
+pub length-none_played : length none_played ≡ MOST_CLASSES
 unfolding none_played class_numbers
 length-none_played = refl
 
@@ -58,7 +59,7 @@ filled_none f = record {
 }
 
 -- the next count is written
-pub filled_next : (f : ℕ → ℕ) (counts : Counts) (class : ℕ) (later : List ℕ) (value : ℕ) → class < 13
+pub filled_next : (f : ℕ → ℕ) (counts : Counts) (class : ℕ) (later : List ℕ) (value : ℕ) → class < MOST_CLASSES
     → Filled f counts class
     → later ≡ set counts class value → value ≡ f class → Filled f later (class + 1)
 filled_next f counts class later value small filled written right = record {
@@ -112,7 +113,7 @@ pub filled_dealt : (hands : Hands) (owner : Owner) (counts : Counts) (class : �
     → counts ≡ dealt_to hands owner
 unfolding dealt_to class_numbers
 filled_dealt hands owner counts class all filled =
-    fill_by_all (held_by hands owner) counts 13 0 filled.long
+    fill_by_all (held_by hands owner) counts MOST_CLASSES 0 filled.long
     (λ k small. elim (cases_lt k class) [
       | inl done ↦ filled.done k done
       | inr past ↦
@@ -123,15 +124,15 @@ filled_dealt hands owner counts class all filled =
     ])
 
 -- a side's count in a class
-pub dealt_to-at : (hands : Hands) (owner : Owner) (class : ℕ) → class < 13
+pub dealt_to-at : (hands : Hands) (owner : Owner) (class : ℕ) → class < MOST_CLASSES
     → get_or (dealt_to hands owner) class 0 ≡ held_by hands owner class
 unfolding dealt_to class_numbers
 dealt_to-at hands owner class small =
-    get_or-map-range_with_len (held_by hands owner) 0 13 class class 0 small (omega arith)
+    get_or-map-range_with_len (held_by hands owner) 0 MOST_CLASSES class class 0 small (omega arith)
 
-pub length-dealt_to : (hands : Hands) (owner : Owner) → length (dealt_to hands owner) ≡ 13
+pub length-dealt_to : (hands : Hands) (owner : Owner) → length (dealt_to hands owner) ≡ MOST_CLASSES
 unfolding dealt_to class_numbers
-length-dealt_to hands owner = length-map-range_with_len (held_by hands owner) 0 13
+length-dealt_to hands owner = length-map-range_with_len (held_by hands owner) 0 MOST_CLASSES
 
 not_both : (owner : Owner) (size : ℕ)
     → (if same_owner owner owners.N then size else 0) * (if same_owner owner owners.S then size else 0) ≡ 0
@@ -141,7 +142,7 @@ not_both owners.Defence size = omega arith
 
 -- no class is North's and South's
 pub apart_dealt : (hands : Hands) → AreApart (dealt_to hands owners.N) (dealt_to hands owners.S)
-apart_dealt hands = λ class. elim (cases_lt class 13) [
+apart_dealt hands = λ class. elim (cases_lt class MOST_CLASSES) [
   | inl small ↦
       rw (dealt_to-at hands owners.N class small, dealt_to-at hands owners.S class small)
       (not_both (class_owner hands class) (class_size hands class))
@@ -201,7 +202,7 @@ moves_next base move p class b items later are is chosen =
     either false = ap (λ (l : List ℕ). base ++ map move l) (sym (append-nil (filter p (range_with_len 0 class))))
 
 -- there is room for the next class that passes
-pub moves_room : (move : ℕ → ClassMove) (p : ℕ → Bool) (class : ℕ) → class < 13 → p class ≡ true
+pub moves_room : (move : ℕ → ClassMove) (p : ℕ → Bool) (class : ℕ) → class < MOST_CLASSES → p class ≡ true
     → length (map move (filter p (range_with_len 0 class))) < length (filter p class_numbers)
 unfolding class_numbers
 moves_room move p class small passes =
@@ -211,11 +212,11 @@ moves_room move p class small passes =
       length-map (filter p (range_with_len 0 class)) move,
       filter_range-more p class,
       counts,
-      filter_range-most p (suc class) 13 (omega arith),
+      filter_range-most p (suc class) MOST_CLASSES (omega arith),
     )
 
 -- all classes, once the number has come to the end
-pub class_numbers-all : (p : ℕ → Bool) (class : ℕ) → class ≡ 13
+pub class_numbers-all : (p : ℕ → Bool) (class : ℕ) → class ≡ MOST_CLASSES
     → filter p (range_with_len 0 class) ≡ filter p class_numbers
 unfolding class_numbers
 class_numbers-all p class end = ap (λ (n : ℕ). filter p (range_with_len 0 n)) end
@@ -240,7 +241,7 @@ disjoint_fit p q [] apart = omega arith
 disjoint_fit p q (x ∷ xs) apart =
     disjoint_kept (p x) (q x) x (filter p xs) (filter q xs) (length xs) (apart x) (disjoint_fit p q xs apart)
 
-length-class_numbers : length class_numbers ≡ 13
+length-class_numbers : length class_numbers ≡ MOST_CLASSES
 unfolding class_numbers
 length-class_numbers = refl
 
@@ -251,7 +252,7 @@ one_is_none (suc n) (suc s) none some = absurd (omega (arith, none))
 
 -- the classes of two hands that share none are thirteen at most
 pub apart_fit : (north south : List ℕ) → AreApart north south
-    → length (counted_classes north) + length (counted_classes south) ≤ 13
+    → length (counted_classes north) + length (counted_classes south) ≤ MOST_CLASSES
 apart_fit north south apart =
     omega (
       arith,
@@ -261,7 +262,7 @@ apart_fit north south apart =
     )
 
 -- and those of one
-pub counted_classes-most : (counts : Counts) → length (counted_classes counts) ≤ 13
+pub counted_classes-most : (counts : Counts) → length (counted_classes counts) ≤ MOST_CLASSES
 counted_classes-most counts =
     omega (
       arith,
@@ -315,11 +316,11 @@ left_east-none view counts class is = rw is refl
 
 -- counts that are right at each class have the same classes left
 pub counted_is_left : (view : ClassView) (counts : Counts) (seat : Seat) (here : List ℕ)
-    → ((class : ℕ) → class < 13 → slice_index here class ≡ left view counts seat class)
+    → ((class : ℕ) → class < MOST_CLASSES → slice_index here class ≡ left view counts seat class)
     → counted_classes here ≡ classes_left view counts seat
 unfolding class_numbers
 counted_is_left view counts seat here right =
-    same_from 0 13 (λ class least most. ap (nat_lt 0) (right class (omega arith)))
+    same_from 0 MOST_CLASSES (λ class least most. ap (nat_lt 0) (right class (omega arith)))
   where
     same_from : (from count : ℕ)
         → ((class : ℕ) → from ≤ class → class < from + count

@@ -21,6 +21,7 @@ use Rattle.suit_classes.specs.Classes.{hands_of}
 use Rattle.suit_classes.specs.ClassGame.{Allows, decided_in, is_decided, is_goal_settled}
 use Rattle.suit_classes.specs.ClassMoves.{ClassHistory, merge}
 use Rattle.suit_classes.proofs.MergedPlaces.{play_dealt}
+use Rattle.suit_game.specs.declared.limits.TheConstants.{MOST_MOVES}
 
 settled_worth : (goal : Goal) (won longer later : ℕ) → is_goal_settled goal won longer ≡ true → won ≤ later
     → later ≤ won + longer → payoff goal later ≡ payoff goal won
@@ -88,7 +89,7 @@ decided_stays question west history moves play decided legal =
 
 -- no allowed class history has more than 52 moves
 pub class_histories_are_short : (question : Question) (counts : Counts) (history : ClassHistory)
-    → Allows question counts history → length history ≤ 52
+    → Allows question counts history → length history ≤ MOST_MOVES
 class_histories_are_short question counts history allows =
     omega (
       arith,

@@ -19,6 +19,7 @@ use Rattle.suit_classes.specs.declared.class_trick.ClassTrick.TheVariants.{Close
 use Rattle.suit_classes.specs.ClassPlaces.{ClassTrick, ClassView, class_leads, class_moves, class_moves_in}
 use Rattle.suit_classes.specs.ClassPlaces.{class_numbers, classes_left, counted_classes, left, may_lead, or_show_out}
 use Rattle.suit_classes.proofs.SameMoves.{same_move-itself}
+use Rattle.suit_classes.specs.declared.classes.TheConstants.{MOST_CLASSES}
 
 range_above : (low from count : ℕ) → low < from → AllByRecursion (λ n. low ≡ n → ⊥) (range_with_len from count)
 range_above low from zero above = tt
@@ -31,7 +32,7 @@ once_range from (suc count) = (range_above from (from + 1) count (omega arith), 
 
 once_numbers : (test : ℕ → Bool) → IsOnce (filter test class_numbers)
 unfolding class_numbers
-once_numbers test = once_filter test (range_with_len 0 13) (once_range 0 13)
+once_numbers test = once_filter test (range_with_len 0 MOST_CLASSES) (once_range 0 MOST_CLASSES)
 
 pub once_unless : {X : Type 0} (b : Bool) (xs : List X) → IsOnce xs → IsOnce (if b then [] else xs)
 unfolding IsOnce

@@ -5,7 +5,7 @@ pub mod DefenceSizes
 pub mod CountedLists
 pub mod SmallCounts
 pub mod DealtClasses
-pub mod StartCounts
+pub mod LeftAtTheStart
 pub mod MergedPlaces
 pub mod MovesOnce
 pub mod AgreedPlaces
@@ -17,6 +17,6 @@ pub mod CardsByClass
 pub mod UndecidedMoves
 pub mod ToldHistories
 pub mod DistinctMoves
-pub mod DerivedOrders
+pub mod OrderIsAsDefined
 pub mod AllowedLayouts
 pub mod EveryMove

@@ -44,7 +44,8 @@ use Rattle.suit_classes.proofs.CountedLists.{one_less-at, one_more-at, length-de
 use Rattle.suit_classes.proofs.DealtClasses.{IsDealt, IsHolding-dealt, holder-dealt, dealt_apart, class_held_by_one}
 use Rattle.suit_classes.proofs.DealtClasses.{cards_in-played, cards_in-kept}
 use Rattle.suit_classes.proofs.RankBlocks.{class_of-rises}
-use Rattle.suit_classes.proofs.StartCounts.{left-start}
+use Rattle.suit_classes.proofs.LeftAtTheStart.{left-start}
+use Rattle.suit_classes.specs.declared.classes.TheConstants.{MOST_CLASSES}
 
 -- a trick in progress, with the highest card replaced by its class
 abbrev pub merged_trick : Hands → Trick → ClassTrick
@@ -53,15 +54,15 @@ merged_trick hands (InTrick turn after winner highest) = Open turn after (side w
 
 -- lists of counts for thirteen classes
 pub record AreLong (view : ClassView) : Type 0 where
-  pub north : length view.north ≡ 13
-  pub south : length view.south ≡ 13
-  pub gone_w : length view.gone_w ≡ 13
-  pub gone_e : length view.gone_e ≡ 13
+  pub north : length view.north ≡ MOST_CLASSES
+  pub south : length view.south ≡ MOST_CLASSES
+  pub gone_w : length view.gone_w ≡ MOST_CLASSES
+  pub gone_e : length view.gone_e ≡ MOST_CLASSES
 
 -- the counts of a class place are those of a position of single cards, whatever the trick in progress
 pub record HasCounts (question : Question) (west : Cards) (place : Position) (view : ClassView) : Type 0 where
   pub long : AreLong view
-  pub left : (seat : Seat) (class : ℕ) → class < 13
+  pub left : (seat : Seat) (class : ℕ) → class < MOST_CLASSES
       → left view (counts_of (hands_of question) west) seat class
       ≡ cards_in (hands_of question) (hand question west place seat) class
   pub cards_n : view.cards_n ≡ length (hand question [] place N)
@@ -94,7 +95,7 @@ east_taken false size count gone gone' one more = omega arith
 
 -- a seat that plays a card of a class has one less of it left, and nothing else changes
 left-played : (view : ClassView) (counts : Counts) (seat other : Seat) (card_class class : ℕ) → AreLong view
-    → class < 13
+    → class < MOST_CLASSES
     → left
     (class_played view seat card_class) counts other class
     ≡ left view counts other class - taken seat card_class other class

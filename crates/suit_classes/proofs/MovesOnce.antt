@@ -17,6 +17,7 @@ use Rattle.suit_classes.specs.ClassPlaces.{class_numbers}
 use Rattle.suit_classes.proofs.ClassNumbers.{class_count-most}
 use Rattle.suit_classes.proofs.RankBlocks.{Rises, Rises-lower, StaysBelow, with_number, with_number-none, holding_rises}
 use Rattle.suit_classes.proofs.RankBlocks.{falling_stays}
+use Rattle.suit_classes.specs.declared.classes.TheConstants.{MOST_CLASSES}
 
 -- whether some of a list have a number
 abbrev has_number : (ℕ → ℕ) → List ℕ → ℕ → Bool
@@ -117,8 +118,8 @@ pub merged_once : (hands : Hands) (cards : Cards) (move : ℕ → ClassMove) →
     (filter (λ class. nat_lt 0 (cards_in hands cards class)) class_numbers)
 unfolding class_numbers
 merged_once hands cards move is told =
-    once_from (class_of hands) move cards 0 13 told (holding_rises hands cards is)
-    (stays_longer (class_of hands) (class_count hands) (0 + 13) cards (omega (arith, class_count-most hands))
+    once_from (class_of hands) move cards 0 MOST_CLASSES told (holding_rises hands cards is)
+    (stays_longer (class_of hands) (class_count hands) (0 + MOST_CLASSES) cards (omega (arith, class_count-most hands))
     (falling_stays hands 15 cards is))
 
 -- the leads of South stand after those of North, and none of them is one of North's

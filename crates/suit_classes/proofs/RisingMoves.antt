@@ -16,6 +16,7 @@ use Rattle.suit_classes.specs.declared.class_trick.ClassTrick.TheVariants.{Close
 use Rattle.suit_classes.specs.ClassPlaces.{ClassTrick, ClassView, class_moves, class_moves_in, class_numbers}
 use Rattle.suit_classes.specs.ClassPlaces.{classes_left, counted_classes, left, may_lead, or_show_out}
 use Rattle.suit_classes.specs.MoveOrder.{AreRising, stands_before}
+use Rattle.suit_classes.specs.declared.classes.TheConstants.{MOST_CLASSES}
 
 -- each element of a list is related to all later ones
 unfoldable pub Chained : {X : Type 0} → (X → X → Type 0) → List X → Type 0
@@ -72,11 +73,11 @@ chained_range from (suc count) = (range_above from (from + 1) count (omega arith
 
 numbers_rise : (test : ℕ → Bool) → Chained IsBelow (filter test class_numbers)
 unfolding class_numbers
-numbers_rise test = chained_filter IsBelow test (range_with_len 0 13) (chained_range 0 13)
+numbers_rise test = chained_filter IsBelow test (range_with_len 0 MOST_CLASSES) (chained_range 0 MOST_CLASSES)
 
 all_numbers_rise : Chained IsBelow class_numbers
 unfolding class_numbers
-all_numbers_rise = chained_range 0 13
+all_numbers_rise = chained_range 0 MOST_CLASSES
 
 -- one move stands before another
 abbrev IsBefore : ClassMove → ClassMove → Type 0

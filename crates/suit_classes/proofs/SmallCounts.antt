@@ -19,6 +19,7 @@ use Rattle.suit_classes.specs.declared.class_trick.ClassTrick.TheVariants.{Close
 use Rattle.suit_classes.specs.ClassPlaces.{ClassTrick, ClassView, IsSmall, class_after, class_ended, class_led}
 use Rattle.suit_classes.specs.ClassPlaces.{class_passed, class_played, class_start, class_step, class_step_in, side}
 use Rattle.suit_classes.proofs.CountedLists.{none_played-at}
+use Rattle.suit_game.specs.declared.limits.TheConstants.{MOST_MOVES}
 
 -- so many cards of a class have gone at most, and so many tricks been won
 record Bounded (view : ClassView) (gone won : ℕ) : Type 0 where
@@ -170,7 +171,7 @@ bounded_start question = record {
 }
 
 -- after a short history the counts are small
-pub small_after : (question : Question) (history : ClassHistory) → length history ≤ 52
+pub small_after : (question : Question) (history : ClassHistory) → length history ≤ MOST_MOVES
     → IsSmall (class_after question history)
 small_after question history short =
     let bounded = bounded_from (class_start question) history 0 0 (bounded_start question) in

@@ -61,7 +61,7 @@ DecidedStays =
     → payoff question.goal (fold (step question) (after question history) moves).won ≡ payoff question.goal
     (after question history).won
 
--- no class history that is allowed has more than 52 moves
+-- no class history that is allowed has more than MOST_MOVES moves
 abbrev pub ClassHistoriesAreShort : Type 0
 ClassHistoriesAreShort =
     (question : Question) (counts : Counts)

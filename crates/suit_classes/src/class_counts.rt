@@ -9,10 +9,10 @@ use arrayvec::ArrayVec;
 use suit_cards::Seat;
 
 /// How many cards of each class.
-pub type Counts = [u8; MOST_CLASSES];
+pub type CardsByClass = [u8; MOST_CLASSES];
 
 /// How many cards of each class a side was dealt.
-pub(crate) fn dealt_to(classes: &Classes, owner: Owner) -> Counts
+pub(crate) fn dealt_to(classes: &Classes, owner: Owner) -> CardsByClass
     ensures { result ≡ dealt_to classes.now owner }
 {
     let mut dealt = [0; MOST_CLASSES];
@@ -25,7 +25,7 @@ pub(crate) fn dealt_to(classes: &Classes, owner: Owner) -> Counts
 }
 
 /// The counts with one card of a class less.
-pub(crate) fn one_less(counts: &Counts, class: u8) -> Counts
+pub(crate) fn one_less(counts: &CardsByClass, class: u8) -> CardsByClass
     ensures { result ≡ slice_set counts.now class (slice_index counts.now class - 1) }
 {
     let mut later = *counts;
@@ -36,7 +36,7 @@ pub(crate) fn one_less(counts: &Counts, class: u8) -> Counts
 }
 
 /// The counts with one card of a class more.
-pub(crate) fn one_more(counts: &Counts, class: u8) -> Counts
+pub(crate) fn one_more(counts: &CardsByClass, class: u8) -> CardsByClass
     ensures { slice_index counts.now class < 255
         → result ≡ slice_set counts.now class (slice_index counts.now class + 1) }
 {
@@ -48,7 +48,11 @@ pub(crate) fn one_more(counts: &Counts, class: u8) -> Counts
 }
 
 /// Adds the leads of a hand that has so many cards of each class left.
-pub(crate) fn add_leads(leads: &mut ArrayVec<ClassMove, MOST_CLASSES>, seat: Seat, left: &Counts)
+pub(crate) fn add_leads(
+    leads: &mut ArrayVec<ClassMove, MOST_CLASSES>,
+    seat: Seat,
+    left: &CardsByClass,
+)
     requires { length leads.old.items + length (counted_classes left.now) ≤ MOST_CLASSES }
     ensures { leads.new.items ≡ leads.old.items ++ map (Lead seat) (counted_classes left.now) }
 {
@@ -60,7 +64,7 @@ pub(crate) fn add_leads(leads: &mut ArrayVec<ClassMove, MOST_CLASSES>, seat: Sea
 }
 
 /// The follows of a hand that has so many cards of each class left: with none it shows out.
-pub(crate) fn follows_of(left: &Counts) -> ArrayVec<ClassMove, MOST_CLASSES>
+pub(crate) fn follows_of(left: &CardsByClass) -> ArrayVec<ClassMove, MOST_CLASSES>
     ensures { result.items ≡ or_show_out (map Follow (counted_classes left.now)) }
 {
     let mut follows = ArrayVec::new();

@@ -13,8 +13,9 @@ ghost use Rattle.suit_classes.specs.ClassGame.{class_turn_at, counts_of, is_deci
 ghost use Rattle.suit_classes.specs.ClassMoves.{ClassHistory};
 ghost use Rattle.suit_classes.specs.ClassPlaces.{class_after, class_decided, class_leads, class_moves, class_payoff};
 ghost use Rattle.suit_classes.specs.ClassPlaces.{class_start, class_turn, has_class_lead, left, may_lead, turn_of};
+ghost use Rattle.suit_game.specs.declared.limits.TheConstants.{MOST_MOVES};
 
-use super::class_counts::{Counts, add_leads, dealt_to, follows_of};
+use super::class_counts::{CardsByClass, add_leads, dealt_to, follows_of};
 use super::{ClassMove, ClassTrick, ClassTurn, ClassView, Classes, MOST_CLASSES, Owner};
 use arrayvec::ArrayVec;
 use std::marker::Model;
@@ -97,9 +98,9 @@ impl ClassPlace {
     }
 
     /// The position after a move. A move of the wrong kind changes nothing: a follow or a showing out
-    /// between tricks, or a lead to a trick in progress. No history that counts allow is longer than 52 moves.
+    /// between tricks, or a lead to a trick in progress. No history that counts allow is longer than `MOST_MOVES`.
     pub fn step(&self, mv: ClassMove) -> ClassPlace
-        ensures { (question : Question) (history : ClassHistory) → length history ≤ 52
+        ensures { (question : Question) (history : ClassHistory) → length history ≤ MOST_MOVES
             → self.now ≡ class_after question history → result ≡ class_after question (history ++ mv ∷ []) }
     {
         ClassPlace {
@@ -203,7 +204,7 @@ impl ClassPlace {
     }
 
     // How many cards of each class West has left.
-    fn left_to_west(&self, counts: &[u8]) -> Counts
+    fn left_to_west(&self, counts: &[u8]) -> CardsByClass
         ensures { (class : ℕ) → class < MOST_CLASSES
             → slice_index result class ≡ left self.now counts.now Seat.W class }
     {
@@ -219,7 +220,7 @@ impl ClassPlace {
     }
 
     // How many cards of each class East has left.
-    fn left_to_east(&self, counts: &[u8]) -> Counts
+    fn left_to_east(&self, counts: &[u8]) -> CardsByClass
         ensures { (class : ℕ) → class < MOST_CLASSES
             → slice_index result class ≡ left self.now counts.now Seat.E class }
     {

@@ -3,7 +3,7 @@ ghost use Rattle.std.specs.Prelude.{◌≡◌, ◌<◌};
 ghost use Rattle.suit_classes.specs.ClassPlaces.{AreApart, IsSmall, class_ended, class_followed, class_led};
 ghost use Rattle.suit_classes.specs.ClassPlaces.{class_passed, class_played, class_step, side};
 
-use super::class_counts::{Counts, one_less, one_more};
+use super::class_counts::{CardsByClass, one_less, one_more};
 use super::{ClassMove, ClassTrick, Owner};
 use suit_cards::Seat;
 use suit_game::{Entries, Goal, LeadAt};
@@ -13,19 +13,19 @@ use suit_game::{Entries, Goal, LeadAt};
 #[derive(Clone, Copy, Debug)]
 pub struct ClassView {
     /// How many cards of each class North has left.
-    pub north: Counts,
+    pub north: CardsByClass,
     /// And South.
-    pub south: Counts,
+    pub south: CardsByClass,
     /// How many cards North has left in all.
     pub cards_n: u8,
     /// And South.
     pub cards_s: u8,
     /// How many cards of each class the defenders were dealt.
-    pub defence: Counts,
+    pub defence: CardsByClass,
     /// How many of each class West has played.
-    pub gone_w: Counts,
+    pub gone_w: CardsByClass,
     /// And East.
-    pub gone_e: Counts,
+    pub gone_e: CardsByClass,
     /// The trick in progress.
     pub trick: ClassTrick,
     /// Where the lead stands, or stood before the trick in progress.

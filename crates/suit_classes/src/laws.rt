@@ -40,7 +40,7 @@ pub fn decided_stays()
     ensures { DecidedStays }
 {}
 
-/// No class history that is allowed has more than 52 moves.
+/// No class history that is allowed has more than `MOST_MOVES`.
 pub fn class_histories_are_short()
     ensures { ClassHistoriesAreShort }
 {}

@@ -12,8 +12,6 @@ pub mod examples;
 mod history;
 pub mod laws;
 mod sharing;
-#[cfg(test)]
-mod tests;
 
 pub use class_moves::{ClassMove, is_among};
 pub use class_place::ClassPlace;

@@ -16,7 +16,7 @@ use Rattle.suit_game.specs.Weights.{weight_in_range}
 use Rattle.suit_game.proofs.ListSums.{sum_by_filter, sum_by_none, sum_by_same, sum_by_map, sum_by-mul}
 use Rattle.suit_game.specs.Blocks.{counts_of}
 use Rattle.suit_layouts.specs.ClassLayouts.{class_layouts, class_weight, counts_up_to, same_counts, ways_of, weighed}
-use Rattle.suit_layouts.proofs.GroupedSums.{grouped, up_to-sum}
+use Rattle.suit_layouts.proofs.SumsByBlocks.{grouped, up_to-sum}
 
 -- the one number of a run that is asked for: none where the run begins after it
 pick_none : (f : ℕ → ℕ) (count a n : ℕ) → count < a

@@ -13,7 +13,8 @@ use Rattle.suit_cards.specs.Cards.{Sizes}
 use Rattle.suit_game.specs.declared.question.Question.{Question}
 use Rattle.suit_game.specs.Blocks.{AreSizes}
 use Rattle.suit_layouts.specs.ClassLayouts.{class_layouts, class_weight, counts_up_to, weighed}
-use Rattle.suit_layouts.proofs.GroupedSums.{sum-cons}
+use Rattle.suit_layouts.proofs.SumsByBlocks.{sum-cons}
+use Rattle.suit_layouts.specs.declared.class_list.TheConstants.{MOST_CLASS_LAYOUTS}
 
 -- equal terms
 sum_by_each : {X : Type 0} (k : ℕ) (f : X → ℕ) (xs : List X) → ((x : X) → f x ≡ k) → sum_by f xs ≡ length xs * k
@@ -77,7 +78,7 @@ up_to_best (size ∷ sizes) few =
     rw parts (omega (arith, length-up_to size sizes, product, more))
 
 -- no blocks that the rules allow have more than 162 counts
-pub up_to_few : (sizes : Sizes) → sum sizes + length sizes ≤ 14 → length (counts_up_to sizes) ≤ 162
+pub up_to_few : (sizes : Sizes) → sum sizes + length sizes ≤ 14 → length (counts_up_to sizes) ≤ MOST_CLASS_LAYOUTS
 up_to_few sizes few =
     let fits = leb-true (best (sum sizes + length sizes)) 162
     (agree_below_at (λ n. nat_le (best n) 162) (λ n. true) 15 (sum sizes + length sizes) whole_fits
@@ -86,7 +87,7 @@ up_to_few sizes few =
 
 -- nor class layouts
 pub class_layouts_few : (question : Question) (sizes : Sizes) → AreSizes question sizes
-    → length (class_layouts question sizes) ≤ 162
+    → length (class_layouts question sizes) ≤ MOST_CLASS_LAYOUTS
 unfolding class_layouts weighed
 class_layouts_few question sizes are =
     let with_weight : List ℕ → List ℕ × ℕ = λ counts. (counts, class_weight question sizes counts) in

@@ -16,7 +16,7 @@ use Rattle.suit_game.proofs.EachElement.{Contains-first, each_map}
 use Rattle.suit_game.proofs.EachElement.{each_of, Contains-flat_map, Contains-map, Contains-range, Contains-filter}
 use Rattle.suit_layouts.specs.ClassLayouts.{class_layouts, class_weight, counts_up_to, ways_of, weighed}
 use Rattle.suit_layouts.proofs.ClassWeights.{class_weight_counted}
-use Rattle.suit_layouts.proofs.GroupedSums.{sum-cons}
+use Rattle.suit_layouts.proofs.SumsByBlocks.{sum-cons}
 
 -- a product that is something has no factor 0
 both_positive : (m n : ℕ) → 0 < m * n → (0 < m) × (0 < n)

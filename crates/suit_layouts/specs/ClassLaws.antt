@@ -31,7 +31,7 @@ ClassLayoutsExact =
     → Contains (class_layouts question sizes) (counts, deals)
     ↔ ((deals ≡ class_weight question sizes counts) × (0 < deals))
 
--- there are at most 162 of them
+-- there are at most MOST_CLASS_LAYOUTS of them
 abbrev pub ClassLayoutsFew : Type 0
 ClassLayoutsFew = (question : Question) (sizes : Sizes) → AreSizes question sizes
     → length (class_layouts question sizes) ≤ MOST_CLASS_LAYOUTS

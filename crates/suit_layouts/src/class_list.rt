@@ -18,7 +18,7 @@ pub type Memory = AllocError;
 
 /// The class layouts of positive weight in rising lexicographic order, each with its weight, where
 /// the missing cards are taken in blocks of these sizes, the highest cards first. There are at most
-/// 162 of them, and their weights add up to the question's total.
+/// `MOST_CLASS_LAYOUTS` of them, and their weights add up to the question's total.
 pub fn class_layouts(
     alloc: Global,
     question: &Question,

@@ -3,6 +3,7 @@ ghost use Rattle.std.specs.Prelude.{◌≡◌, ◌≤◌, ◌^◌, sum};
 ghost use Rattle.suit_game.specs.Validity.{IsValid};
 ghost use Rattle.suit_game.specs.Blocks.{AreSizes};
 ghost use Rattle.suit_layouts.specs.ClassLayouts.{class_weight, ways_of};
+ghost use Rattle.suit_game.specs.declared.limits.TheConstants.{HAND_SIZE};
 
 use suit_game::{Question, weight};
 use suit_num::choose;
@@ -24,7 +25,7 @@ pub fn class_weight(question: &Question, sizes: &[u8], counts: &[u8]) -> u64
 
 // In how many ways West can hold so many cards of each block.
 fn ways(sizes: &[u8], counts: &[u8]) -> u64
-    requires { sum sizes.now ≤ 13 }
+    requires { sum sizes.now ≤ HAND_SIZE }
     ensures value { result ≡ ways_of sizes.now counts.now }
     ensures small { result ≤ 2 ^ sum sizes.now }
 {
@@ -39,7 +40,7 @@ fn ways(sizes: &[u8], counts: &[u8]) -> u64
 
 // How many cards West holds.
 fn west_len(counts: &[u8]) -> u8
-    requires { sum counts.now ≤ 13 }
+    requires { sum counts.now ≤ HAND_SIZE }
     ensures { result ≡ sum counts.now }
 {
     counts.iter().sum()

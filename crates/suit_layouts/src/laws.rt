@@ -18,7 +18,7 @@ pub fn class_layouts_exact()
     ensures { ClassLayoutsExact }
 {}
 
-/// There are at most 162 class layouts.
+/// There are at most `MOST_CLASS_LAYOUTS` class layouts.
 pub fn class_layouts_few()
     ensures { ClassLayoutsFew }
 {}

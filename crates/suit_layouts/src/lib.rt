@@ -8,8 +8,6 @@ mod class_weights;
 pub mod examples;
 pub mod laws;
 mod sharing;
-#[cfg(test)]
-mod tests;
 mod walks;
 
 pub use class_layout::ClassLayout;

@@ -31,15 +31,15 @@ use Rattle.suit_plans.proofs.ProperDefences.{proper_defence}
 use Rattle.suit_lift.specs.LiftLaws.{DefencesHold}
 use Rattle.suit_lift.specs.Lifts.{defence_way}
 use Rattle.suit_lift.specs.Naming.{is_legal_from}
-use Rattle.suit_lift.proofs.AlikeLayouts.{alike_layouts, equal_lengths, is_alike}
+use Rattle.suit_lift.proofs.HowManyAreAlike.{alike_layouts, equal_lengths, is_alike}
 use Rattle.suit_lift.proofs.FractionSums.{IsNoMore, kept_sum, no_more_itself, no_more_same, no_more_then, parts_of}
 use Rattle.suit_lift.proofs.FractionSums.{plus, plus_no_more, sum_no_more, sum_of}
-use Rattle.suit_lift.proofs.HandParts.{gone_of}
-use Rattle.suit_lift.proofs.HeldPays.{all_at, defences_spread, most_at, term, term_some}
-use Rattle.suit_lift.proofs.LiveLayouts.{filter_same, is_live, live_layouts}
+use Rattle.suit_lift.proofs.GoneAndLeft.{gone_of}
+use Rattle.suit_lift.proofs.SpreadMassesPay.{all_at, defences_spread, most_at, term, term_some}
+use Rattle.suit_lift.proofs.LayoutsStillLegal.{filter_same, is_live, live_layouts}
 use Rattle.suit_lift.proofs.PlanGains.{den_some}
-use Rattle.suit_lift.proofs.PlanWorths.{most_positive}
-use Rattle.suit_lift.proofs.RowShares.{counted_mul}
+use Rattle.suit_lift.proofs.WorthsAreNotNegative.{most_positive}
+use Rattle.suit_lift.proofs.SharesAreMasses.{counted_mul}
 
 none_gone : (cards : Cards) → gone_of [] cards ≡ []
 none_gone [] = refl

@@ -24,9 +24,9 @@ use Rattle.suit_game.proofs.HeldCards.{holds-first, holds-from_without, holds-wi
 use Rattle.suit_game.proofs.LegalPlays.{follow_or_show}
 use Rattle.suit_classes.proofs.DealtClasses.{IsDealt, IsHolding-dealt}
 use Rattle.suit_game.proofs.HeldCards.{holds-left, length-left_and_gone}
-use Rattle.suit_lift.proofs.HandParts.{gone_of, holds-gone_of}
+use Rattle.suit_lift.proofs.GoneAndLeft.{gone_of, holds-gone_of}
 use Rattle.suit_lift.proofs.LegalMoves.{declarers_legal_in}
-use Rattle.suit_lift.proofs.MoveKinds.{MoveKind, OwnCard, OwnOut, TheirCard, TheirOut, move_kind}
+use Rattle.suit_lift.proofs.WhatAMoveTakes.{MoveKind, OwnCard, OwnOut, TheirCard, TheirOut, move_kind}
 
 -- of the cards gone both hands have the same
 abbrev pub IsAlike : Cards → Cards → Cards → Type 0

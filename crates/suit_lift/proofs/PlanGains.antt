@@ -33,9 +33,9 @@ use Rattle.suit_plans.specs.Properness.{IsProperPlan}
 use Rattle.suit_plans.proofs.ProperPlans.{proper_plan}
 use Rattle.suit_lift.specs.LiftLaws.{PlansEarn}
 use Rattle.suit_lift.specs.Lifts.{plan_way}
-use Rattle.suit_lift.proofs.PlanPays.{plans_pay}
-use Rattle.suit_lift.proofs.PlanWorths.{worth_positive}
-use Rattle.suit_lift.proofs.RowShares.{counted_mul, counted_total, total_positive}
+use Rattle.suit_lift.proofs.LiftPaysItsWorth.{plans_pay}
+use Rattle.suit_lift.proofs.WorthsAreNotNegative.{worth_positive}
+use Rattle.suit_lift.proofs.SharesAreMasses.{counted_mul, counted_total, total_positive}
 
 least_step : (w b fn fd mass sum d num : ℕ) → b * fd ≤ fn * mass → sum * d ≤ num * mass → (w * b + sum) * (fd
     * d) ≤ (w * fn * d + num * fd) * mass

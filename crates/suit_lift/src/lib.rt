@@ -7,8 +7,6 @@ pub mod examples;
 pub mod laws;
 mod lifts;
 mod merges;
-#[cfg(test)]
-mod tests;
 
 pub use card_share::CardShare;
 pub use lifts::{card_weights, defence_weights};

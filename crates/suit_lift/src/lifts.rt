@@ -9,6 +9,7 @@ ghost use Rattle.suit_game.specs.PlaceViews.{IsAt, IsPlay};
 ghost use Rattle.suit_game.specs.Positions.{legal};
 ghost use Rattle.suit_plans.specs.Properness.{IsProperDefence, IsProperPlan};
 ghost use Rattle.suit_lift.specs.Lifts.{defence_share, even_share, lowest_share, plan_share};
+ghost use Rattle.suit_game.specs.declared.limits.TheConstants.{HAND_SIZE};
 
 use super::CardShare;
 use super::class_shares::class_share;
@@ -70,7 +71,7 @@ pub fn defence_weights(
 
 // What a row of declarer's gives to the legal moves.
 fn lowest_shares(classes: &Classes, row: Option<&Counts>, moves: &[Move]) -> ArrayVec<CardShare, 13>
-    requires { length moves.now ≤ 13 }
+    requires { length moves.now ≤ HAND_SIZE }
     ensures { result.items
         ≡ map (lowest_share classes.now (option_map (λ shares. shares.now) row.entry) moves.now) moves.now }
 {
@@ -83,7 +84,7 @@ fn lowest_shares(classes: &Classes, row: Option<&Counts>, moves: &[Move]) -> Arr
 
 // What a row of declarer's gives to one of the legal moves.
 fn lowest_share(classes: &Classes, row: Option<&Counts>, moves: &[Move], mv: &Move) -> CardShare
-    requires { length moves.now ≤ 13 }
+    requires { length moves.now ≤ HAND_SIZE }
     ensures { result ≡ lowest_share classes.now (option_map (λ shares. shares.now) row.entry) moves.now mv.now }
 {
     let merges = merged(classes, moves);
@@ -101,7 +102,7 @@ fn lowest_share(classes: &Classes, row: Option<&Counts>, moves: &[Move], mv: &Mo
 
 // What a row of the defenders gives to the legal moves.
 fn even_shares(classes: &Classes, row: Option<&Counts>, moves: &[Move]) -> ArrayVec<CardShare, 13>
-    requires { length moves.now ≤ 13 }
+    requires { length moves.now ≤ HAND_SIZE }
     ensures { result.items
         ≡ map (even_share classes.now (option_map (λ shares. shares.now) row.entry) moves.now) moves.now }
 {
@@ -114,7 +115,7 @@ fn even_shares(classes: &Classes, row: Option<&Counts>, moves: &[Move]) -> Array
 
 // What a row of the defenders gives to one of the legal moves.
 fn even_share(classes: &Classes, row: Option<&Counts>, moves: &[Move], mv: &Move) -> CardShare
-    requires { length moves.now ≤ 13 }
+    requires { length moves.now ≤ HAND_SIZE }
     ensures { result ≡ even_share classes.now (option_map (λ shares. shares.now) row.entry) moves.now mv.now }
 {
     let merges = merged(classes, moves);

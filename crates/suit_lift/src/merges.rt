@@ -5,6 +5,7 @@ ghost use Rattle.suit_classes.specs.AllowedHistories.{is_among};
 ghost use Rattle.suit_classes.specs.ClassGame.{cards_in, counts_of};
 ghost use Rattle.suit_classes.specs.ClassMoves.{merge, merged};
 ghost use Rattle.suit_lift.specs.Lifts.{fellows, is_lowest};
+ghost use Rattle.suit_game.specs.declared.limits.TheConstants.{HAND_SIZE};
 
 use arrayvec::ArrayVec;
 use suit_cards::{Holding, Rank};
@@ -98,7 +99,7 @@ pub(crate) fn counts_of(classes: &Classes, west: Holding) -> ArrayVec<u8, MOST_D
 
 // How many of some cards are of a class.
 fn cards_in(classes: &Classes, cards: &[Rank], class: u8) -> u8
-    requires { length cards.now ≤ 13 }
+    requires { length cards.now ≤ HAND_SIZE }
     ensures { result ≡ cards_in classes.now cards.now class }
 {
     let mut count = 0;

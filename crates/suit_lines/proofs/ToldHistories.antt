@@ -38,6 +38,7 @@ use Rattle.suit_plans.proofs.ChoiceOrder.{chained_within, pairs_chained}
 use Rattle.suit_plans.proofs.PublicMoves.{Contains-allowing, Contains-public, allowing_parts, own_moves_on}
 use Rattle.suit_plans.proofs.PublicMoves.{public_allowed, some_layout}
 use Rattle.suit_plans.proofs.TurnMoves.{declarers_moves}
+use Rattle.suit_game.specs.declared.limits.TheConstants.{MOST_MOVES}
 use Rattle.suit_lines.specs.Histories.{class_histories, continued}
 use Rattle.suit_lines.specs.LineLaws.{IsToBeTold, ToldExactly, ToldInOrder}
 use Rattle.suit_lines.specs.Told.{is_told, told_histories}
@@ -157,8 +158,8 @@ module _ (question : Question) (valid : IsValid question) where
     told_is : Contains (told_histories question plan) history → IsToBeTold question plan history
     unfolding told_histories class_histories
     told_is found =
-        let kept = kept_parts (is_told question plan) (continued 52 question []) history found in
-        let listed = each_at IsListed (continued 52 question []) history (each_listed 52 [] listed_first) kept.0 in
+        let kept = kept_parts (is_told question plan) (continued MOST_MOVES question []) history found in
+        let listed = each_at IsListed (continued MOST_MOVES question []) history (each_listed MOST_MOVES [] listed_first) kept.0 in
         let last = and_parts (going_on && own && choice) live kept.1 in
         let third = and_parts (going_on && own) choice last.0 in
         let first = and_parts going_on own third.0 in
@@ -185,8 +186,8 @@ module _ (question : Question) (valid : IsValid question) where
     is_to_told told =
         let layout = told.allowed.layout in
         let held = Contains-allowing question valid history layout told.allowed.listed told.allowed.allows in
-        Contains-filter (is_told question plan) (continued 52 question []) history
-        (all_listed layout told.allowed.listed 52 [] history
+        Contains-filter (is_told question plan) (continued MOST_MOVES question []) history
+        (all_listed layout told.allowed.listed MOST_MOVES [] history
         (class_histories_are_short question layout.0 history told.allowed.allows) told.allowed.allows told.through)
         (and_from (going_on && own && choice) live
         (and_from (going_on && own) choice
@@ -250,7 +251,7 @@ moves_chained question history =
 pub told_in_order : ToldInOrder
 unfolding told_histories class_histories
 told_in_order question plan =
-    chained_pairs IsEarlier (filter (is_told question plan) (continued 52 question []))
-    (chained_filter IsEarlier (is_told question plan) (continued 52 question [])
-    (subst (Chained IsEarlier) (sym (continued_within 52 question []))
-    (chained_within (seen_play question) (moves_chained question) 52 [])))
+    chained_pairs IsEarlier (filter (is_told question plan) (continued MOST_MOVES question []))
+    (chained_filter IsEarlier (is_told question plan) (continued MOST_MOVES question [])
+    (subst (Chained IsEarlier) (sym (continued_within MOST_MOVES question []))
+    (chained_within (seen_play question) (moves_chained question) MOST_MOVES [])))

@@ -23,6 +23,7 @@ use Rattle.suit_plans.specs.declared.plan.Plan.{Plan}
 use Rattle.suit_plans.proofs.MassBounds.{mass_falls}
 use Rattle.suit_plans.proofs.ProperPlans.{plans_are_realised}
 use Rattle.suit_plans.proofs.PublicMoves.{allowing_before, allowing_parts, public_allowed, public_short, some_layout}
+use Rattle.suit_game.specs.declared.limits.TheConstants.{MOST_MOVES}
 use Rattle.suit_lines.specs.Histories.{class_histories, continued}
 use Rattle.suit_lines.specs.Lines.{history_line}
 use Rattle.suit_lines.specs.Told.{is_live, is_told, live_shares, share_of, told_histories}
@@ -157,10 +158,10 @@ module _ (question : Question) (plan : Plan) (valid : IsValid question) (proper 
       (λ move. lines_from question plan (history ++ move ∷ [])) (public_moves question history)
       (λ move found. refl)
       (λ move found dead. ap (flat_map (history_line question plan))
-      (untold (52 - length (history ++ move ∷ [])) (history ++ move ∷ [])
+      (untold (MOST_MOVES - length (history ++ move ∷ [])) (history ++ move ∷ [])
       (int_lt-false (pos 0) (plan_mass question plan (history ++ move ∷ [])) dead)))
 
-  unfold_at : (more : ℕ) (history : ClassHistory) → length history + more ≡ 52
+  unfold_at : (more : ℕ) (history : ClassHistory) → length history + more ≡ MOST_MOVES
       → piece_lines more history
       ≡ own_line question plan history ++ flat_map (λ move. lines_from question plan (history ++ move ∷ []))
       (public_moves question history)
@@ -188,16 +189,16 @@ module _ (question : Question) (plan : Plan) (valid : IsValid question) (proper 
       (λ move found. ap (λ (k : ℕ). piece_lines k (history ++ move ∷ []))
       (one_less more (length history) (length (history ++ move ∷ [])) long (length-append history (move ∷ [])))))
     where
-      one_less : (more here next : ℕ) → here + suc more ≡ 52 → next ≡ here + 1 → more ≡ 52 - next
+      one_less : (more here next : ℕ) → here + suc more ≡ MOST_MOVES → next ≡ here + 1 → more ≡ MOST_MOVES - next
       one_less more here next long is = omega arith
 
-  pub lines_unfold : (history : ClassHistory) → length history ≤ 52
+  pub lines_unfold : (history : ClassHistory) → length history ≤ MOST_MOVES
       → lines_from question plan history
       ≡ own_line question plan history ++ flat_map (next_lines question plan history)
       (live_shares question plan history)
   unfolding lines_from
   lines_unfold history short =
-      unfold_at (52 - length history) history (omega arith)
+      unfold_at (MOST_MOVES - length history) history (omega arith)
       ∙ ap (λ (l : Text). own_line question plan history ++ l) (sym (over_live history))
 
 -- from the empty class history on, these are the lines of all that is told

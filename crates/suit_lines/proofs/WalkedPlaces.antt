@@ -37,6 +37,7 @@ use Rattle.suit_plans.proofs.MassSteps.{mass_of-push}
 use Rattle.suit_plans.proofs.ProperPlans.{proper_plan}
 use Rattle.suit_plans.proofs.PublicMoves.{allows_some, going_with, public_allowed, public_short, some_layout}
 use Rattle.suit_plans.proofs.RowLimits.{some_allowed_short}
+use Rattle.suit_game.specs.declared.limits.TheConstants.{MOST_MOVES}
 use Rattle.suit_answer.specs.Letters.{class_letters}
 use Rattle.suit_answer.specs.declared.answer.Answer.{Answer}
 use Rattle.suit_answer.specs.Writable.{IsWritableMove}
@@ -197,7 +198,7 @@ first_of [] some = absurd (omega (arith, some))
 first_of (x ∷ xs) some = (x, Contains-first x xs)
 
 counts_short : (question : Question) (history : ClassHistory) → IsValid question
-    → 0 < length (allowing_counts question history) → length history ≤ 52
+    → 0 < length (allowing_counts question history) → length history ≤ MOST_MOVES
 unfolding allowing_counts
 counts_short question history valid some =
     let layout = first_of (allowing_layouts question history)
@@ -206,7 +207,7 @@ counts_short question history valid some =
 
 -- where a walk stands at most 52 moves were made
 pub stands_short : (question : Question) (plan : Plan) (history : ClassHistory) (view : ClassView) (mass : ℤ)
-    (all : List Counts) → StandsAt question plan history view mass all → length history ≤ 52
+    (all : List Counts) → StandsAt question plan history view mass all → length history ≤ MOST_MOVES
 stands_short question plan history view mass all stands =
     let some : 0 < length (allowing_counts question history) =
     subst (λ (l : List Counts). 0 < length l) stands.counts_are stands.some in
@@ -312,7 +313,7 @@ lines_more question plan history longer shares i d base text new below so_far ne
 
 -- all lines
 pub lines_all : (question : Question) (plan : Plan) (history : ClassHistory) (shares : List (ClassMove × ℤ)) (i : ℕ)
-    (old text new : Text) → IsValid question → IsProperPlan question plan → length history ≤ 52 → length shares ≤ i
+    (old text new : Text) → IsValid question → IsProperPlan question plan → length history ≤ MOST_MOVES → length shares ≤ i
     → shares ≡ live_shares question plan history → text ≡ old ++ own_line question plan history
     → new ≡ text ++ flat_map (next_lines question plan history) (take i shares)
     → new ≡ old ++ lines_from question plan history
@@ -338,7 +339,7 @@ share_fits question plan history view mass all share stands found fits =
 -- a walk goes on to a longer history, which has room
 pub stands_longer : (question : Question) (plan : Plan) (history : ClassHistory) (share : ClassMove × ℤ)
     → IsValid question → Contains (live_shares question plan history) share
-    → length (history ++ share.0 ∷ []) ≤ 52
+    → length (history ++ share.0 ∷ []) ≤ MOST_MOVES
 stands_longer question plan history share valid found =
     public_short question valid history share.0 (share_parts question plan history share found).goes
 

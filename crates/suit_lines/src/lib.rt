@@ -5,8 +5,6 @@ pub mod laws;
 mod moves;
 mod sentences;
 mod telling;
-#[cfg(test)]
-mod tests;
 mod value;
 
 pub use telling::lines_text;

@@ -52,24 +52,27 @@ pub(crate) fn having<'a>(
     Ok(kept)
 }
 
+/// How many moves the class game has: a lead from either hand and a follow with each class, and showing out.
+const MOST_KINDS: usize = 3 * MOST_CLASSES + 1;
+
 /// All moves of the class game, in their order.
-fn every_move() -> ArrayVec<ClassMove, 40>
+fn every_move() -> ArrayVec<ClassMove, MOST_KINDS>
     ensures { result.items ≡ every_move }
 {
     let mut moves = ArrayVec::new();
-    for north in 0..13 {
+    for north in 0..MOST_CLASSES as u8 {
         moves.push(ClassMove::Lead {
             seat: Seat::N,
             class: north,
         });
     }
-    for south in 0..13 {
+    for south in 0..MOST_CLASSES as u8 {
         moves.push(ClassMove::Lead {
             seat: Seat::S,
             class: south,
         });
     }
-    for follow in 0..13 {
+    for follow in 0..MOST_CLASSES as u8 {
         moves.push(ClassMove::Follow { class: follow });
     }
     moves.push(ClassMove::ShowOut);

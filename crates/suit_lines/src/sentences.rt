@@ -2,6 +2,7 @@
 ghost use Rattle.std.specs.Prelude.{◌≡◌, ◌++◌, ◌<◌, ◌≤◌, nat_lt, [], length, All, OnOk, if◌then◌else◌};
 ghost use Rattle.suit_answer.specs.Writable.{IsWritableMove};
 ghost use Rattle.suit_classes.specs.ClassPlaces.{class_start};
+ghost use Rattle.suit_game.specs.declared.limits.TheConstants.{MOST_MOVES};
 ghost use Rattle.suit_lines.specs.Sentences.{choice_words, move_words, opening, part_words, seat_name, share_words};
 ghost use Rattle.suit_lines.specs.Sentences.{turn_name};
 
@@ -79,7 +80,7 @@ pub(crate) fn write_opening(
     question: &Question,
     history: &[ClassMove],
 ) -> Result<(), Memory>
-    requires short { length history.now ≤ 52 }
+    requires short { length history.now ≤ MOST_MOVES }
     requires writable { All (IsWritableMove (length letters.now)) history.now }
     ensures { OnOk result (text.new.items
         ≡ text.old.items ++ opening letters.now (class_start question.now) history.now) }

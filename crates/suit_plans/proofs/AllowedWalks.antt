@@ -17,21 +17,23 @@ use Rattle.suit_classes.proofs.AllowedLayouts.{layouts_allow}
 use Rattle.suit_classes.proofs.DecidedPlays.{class_histories_are_short}
 use Rattle.suit_classes.proofs.SameMoves.{among-Contains}
 use Rattle.suit_classes.proofs.SmallCounts.{class_after_move}
-use Rattle.suit_layouts.proofs.HeldCounts.{class_layouts_held}
+use Rattle.suit_layouts.proofs.CountsOfALayout.{class_layouts_held}
 use Rattle.suit_plans.specs.Masses.{weight_of}
 use Rattle.suit_plans.specs.Properness.{goes_undecided}
+use Rattle.suit_game.specs.declared.limits.TheConstants.{MOST_MOVES}
+use Rattle.suit_classes.specs.ClassMoves.{ClassHistory}
 
 -- so many moves are made, and counts allow them
-pub record IsAllowedWalk (question : Question) (counts : Counts) (history : List ClassMove) (made : ℕ)
+pub record IsAllowedWalk (question : Question) (counts : Counts) (history : ClassHistory) (made : ℕ)
     (place : ClassView) : Type 0 where
   pub at : place ≡ class_after question (take made history)
   pub allowed : Allows question counts (take made history)
   pub left : allows_from counts place (drop made history) ≡ allows_from counts (class_start question) history
 
 -- no more than 52 are
-pub walked_short : (question : Question) (counts : Counts) (history : List ClassMove) (made : ℕ) (place : ClassView)
+pub walked_short : (question : Question) (counts : Counts) (history : ClassHistory) (made : ℕ) (place : ClassView)
     → IsAllowedWalk question counts history made place
-    → length (take made history) ≤ 52
+    → length (take made history) ≤ MOST_MOVES
 walked_short question counts history made place walk =
     class_histories_are_short question counts (take made history) walk.allowed
 
@@ -42,14 +44,14 @@ start_allows question counts valid weighs =
     let held = class_layouts_held question (sizes_of question) counts weighs in
     layouts_allow question held.0 counts valid held.1 held.2
 
-pub walk_first : (question : Question) (counts : Counts) (history : List ClassMove) (place : ClassView)
+pub walk_first : (question : Question) (counts : Counts) (history : ClassHistory) (place : ClassView)
     → Allows question counts [] → place ≡ class_start question
     → IsAllowedWalk question counts history 0 place
 walk_first question counts history place allowed is =
     record { at = is; allowed = allowed; left = ap (λ (v : ClassView). allows_from counts v history) is }
 
 -- a move that is among those for the counts
-pub walk_on : (question : Question) (counts : Counts) (history : List ClassMove) (made : ℕ) (d : ClassMove)
+pub walk_on : (question : Question) (counts : Counts) (history : ClassHistory) (made : ℕ) (d : ClassMove)
     (place : ClassView) (b : Bool) → made < length history
     → IsAllowedWalk question counts history made place → b ≡ is_among (class_moves place counts) (get_or history made d)
     → (b && allows_from counts (class_step place (get_or history made d)) (drop (made + 1) history))
@@ -59,7 +61,7 @@ walk_on question counts history made d place b below walk is =
     ap (λ (t : Bool). t && allows_from counts (class_step place (get_or history made d)) (drop (made + 1) history)) is
     ∙ sym (at_drop_more (allows_from counts place) history made d below) ∙ walk.left
 
-pub walk_next : (question : Question) (counts : Counts) (history : List ClassMove) (made : ℕ) (d : ClassMove)
+pub walk_next : (question : Question) (counts : Counts) (history : ClassHistory) (made : ℕ) (d : ClassMove)
     (place next : ClassView) → made < length history
     → IsAllowedWalk question counts history made place
     → true ≡ is_among (class_moves place counts) (get_or history made d)
@@ -83,7 +85,7 @@ walk_next question counts history made d place next below walk among is =
           ∙ walk_on question counts history made d place true below walk among;
     }
 
-pub walk_last : (question : Question) (counts : Counts) (history : List ClassMove) (made : ℕ) (place : ClassView)
+pub walk_last : (question : Question) (counts : Counts) (history : ClassHistory) (made : ℕ) (place : ClassView)
     → length history ≤ made
     → IsAllowedWalk question counts history made place → true ≡ allows_from counts (class_start question) history
 unfolding allows_from
@@ -91,12 +93,12 @@ walk_last question counts history made place past walk =
     sym (ap (allows_from counts place) (drop_all made history past)) ∙ walk.left
 
 -- a walk that goes past no decided position
-pub record IsUndecidedWalk (question : Question) (history : List ClassMove) (made : ℕ) (place : ClassView) : Type
+pub record IsUndecidedWalk (question : Question) (history : ClassHistory) (made : ℕ) (place : ClassView) : Type
     0 where
   pub at : place ≡ class_after question (take made history)
   pub left : goes_undecided place (drop made history) ≡ goes_undecided (class_start question) history
 
-pub undecided_on : (question : Question) (history : List ClassMove) (made : ℕ) (d : ClassMove) (place : ClassView)
+pub undecided_on : (question : Question) (history : ClassHistory) (made : ℕ) (d : ClassMove) (place : ClassView)
     (b : Bool) → made < length history
     → IsUndecidedWalk question history made place → b ≡ class_decided place
     → (not b && goes_undecided (class_step place (get_or history made d)) (drop (made + 1) history))
@@ -106,7 +108,7 @@ undecided_on question history made d place b below walk is =
     ap (λ (t : Bool). not t && goes_undecided (class_step place (get_or history made d)) (drop (made + 1) history)) is
     ∙ sym (at_drop_more (goes_undecided place) history made d below) ∙ walk.left
 
-pub undecided_next : (question : Question) (history : List ClassMove) (made : ℕ) (d : ClassMove)
+pub undecided_next : (question : Question) (history : ClassHistory) (made : ℕ) (d : ClassMove)
     (place next : ClassView) → made < length history
     → IsUndecidedWalk question history made place → false ≡ class_decided place
     → next ≡ class_after question (take made history ++ get_or history made d ∷ [])
@@ -121,7 +123,7 @@ undecided_next question history made d place next below walk undecided is =
           ∙ undecided_on question history made d place false below walk undecided;
     }
 
-pub undecided_last : (question : Question) (history : List ClassMove) (made : ℕ) (place : ClassView)
+pub undecided_last : (question : Question) (history : ClassHistory) (made : ℕ) (place : ClassView)
     → length history ≤ made
     → IsUndecidedWalk question history made place → (goes_undecided (class_start question) history ≡ true)
     × (place ≡ class_after question history)

@@ -1,4 +1,4 @@
--- The least that a proper plan earns and the most that a proper defence lets declarer earn stay below 2^118
+-- The least that a proper plan earns and the most that a proper defence lets declarer earn stay below their bound
 -- (`leasts_bounded`, `mosts_bounded`).
 use Rattle.std.proofs.Common.{◌≡◌, ℕ, ◌+◌, ◌*◌, ◌<◌, ◌≤◌, Bool, true, List, [], ◌∷◌, map, sum_by, refl, sym, ap, ◌∙◌}
 use Rattle.std.proofs.Common.{subst, arith}
@@ -20,7 +20,7 @@ use Rattle.suit_layouts.proofs.ClassWeights.{class_weights_add_up}
 use Rattle.suit_layouts.proofs.ListedCounts.{class_layouts_exact}
 use Rattle.suit_layouts.specs.ClassLayouts.{class_layouts}
 use Rattle.suit_plans.specs.declared.plan.Plan.{Plan}
-use Rattle.suit_plans.specs.declared.plan.TheConstants.{MOST_DEN}
+use Rattle.suit_plans.specs.declared.plan.TheConstants.{MOST_DEN, WORTH_BOUND}
 use Rattle.suit_plans.specs.declared.defence.Defence.{Defence}
 use Rattle.suit_plans.specs.BestReplies.{allowing_layouts, least, most, reply_to_plan, worth}
 use Rattle.suit_plans.specs.Masses.{defence_mass, mass_from, mass_of, plan_mass, weight_of}
@@ -33,6 +33,7 @@ use Rattle.suit_plans.proofs.PlanWorths.{plans_paid}
 use Rattle.suit_plans.proofs.ProperDefences.{proper_defence}
 use Rattle.suit_plans.proofs.ProperPlans.{proper_plan}
 use Rattle.suit_plans.proofs.PublicMoves.{allows_some, layout_weighs}
+use Rattle.suit_game.specs.declared.limits.TheConstants.{MOST_TOTAL}
 
 -- ---- the masses at the start
 
@@ -117,8 +118,8 @@ first_masses question defence =
 
 -- ---- the bounds
 
-most_of_all : (weights : ℕ) (den : ℤ) → weights ≤ 10400600 → pos 1 ≤ℤ den → den ≤ℤ MOST_DEN
-    → (pos 13 *ℤ (pos weights *ℤ den)) <ℤ pos (2 ^ 118)
+most_of_all : (weights : ℕ) (den : ℤ) → weights ≤ MOST_TOTAL → pos 1 ≤ℤ den → den ≤ℤ MOST_DEN
+    → (pos 13 *ℤ (pos weights *ℤ den)) <ℤ WORTH_BOUND
 most_of_all weights den few some within =
     let light : pos weights ≤ℤ pos 10400600 = omega (arith, ints, few) in
     let positive : pos 0 ≤ℤ den = omega (arith, ints, some) in
@@ -140,15 +141,15 @@ most_of_all weights den few some within =
 -- what is paid for the part of all weights
 bounded : (question : Question) (den number : ℤ) → IsValid question → pos 1 ≤ℤ den → den ≤ℤ MOST_DEN
     → IsPaid (pos (total question) *ℤ den) number
-    → (pos 0 ≤ℤ number) × (number <ℤ pos (2 ^ 118))
+    → (pos 0 ≤ℤ number) × (number <ℤ WORTH_BOUND)
 bounded question den number valid some within paid = (
   paid.some,
-  through number (pos 13 *ℤ (pos (total question) *ℤ den)) paid.few
+  through number (pos 13 *ℤ (pos (total question) *ℤ den)) WORTH_BOUND paid.few
       (most_of_all (total question) den (total_at_most question valid) some within),
 )
   where
-    through : (a b : ℤ) → a ≤ℤ b → b <ℤ pos (2 ^ 118) → a <ℤ pos (2 ^ 118)
-    through a b p q = omega (arith, ints)
+    through : (a b c : ℤ) → a ≤ℤ b → b <ℤ c → a <ℤ c
+    through a b c p q = omega (arith, ints)
 
 -- what a class layout earns is paid for its part of the weights
 pub weighed_paid : (question : Question) (plan : Plan) (layout : Counts × ℕ) → IsValid question

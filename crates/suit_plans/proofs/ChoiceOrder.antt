@@ -33,6 +33,7 @@ use Rattle.suit_plans.specs.ReplyLaws.{DefenceChoicesRise, LeastRepliesRise, Mos
 use Rattle.suit_plans.specs.ReplyLaws.{counts_at}
 use Rattle.suit_plans.specs.ReplyLaws.{defence_move_before}
 use Rattle.suit_plans.proofs.HistoryOrder.{IsStrict-moves, earlier-start}
+use Rattle.suit_game.specs.declared.limits.TheConstants.{MOST_MOVES}
 
 abbrev IsBefore : ClassMove → ClassMove → Type 0
 IsBefore here there = stands_before here there ≡ true
@@ -129,8 +130,8 @@ module _ (reply : Reply) (rises : (history : ClassHistory) → Chained IsBefore 
   unfolding choices
   choices_rise =
       let chosen : ClassHistory → Bool = λ history. has_choice reply history && is_reached reply history in
-      chained_pairs IsEarlier (filter chosen (histories_within 52 reply []))
-      (chained_filter IsEarlier chosen (histories_within 52 reply []) (chained_within 52 []))
+      chained_pairs IsEarlier (filter chosen (histories_within MOST_MOVES reply []))
+      (chained_filter IsEarlier chosen (histories_within MOST_MOVES reply []) (chained_within MOST_MOVES []))
 
 unless : (b : Bool) (moves : List ClassMove) → Chained IsBefore moves → Chained IsBefore (if b then [] else moves)
 unfolding Chained

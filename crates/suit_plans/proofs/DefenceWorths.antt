@@ -26,11 +26,13 @@ use Rattle.suit_plans.proofs.PublicMoves.{public_allowed, public_short, some_lay
 use Rattle.suit_classes.proofs.UndecidedMoves.{HasFirst}
 use Rattle.suit_plans.proofs.WhoseTurns.{Declarers, Defences, Over, WhoseTurn, own_turn, their_turn, whose_turn}
 use Rattle.suit_plans.proofs.WorthsAtTurns.{HasFirst-map, best_turn, ended_worth, left_after, most_of, summed_turn}
+use Rattle.suit_game.specs.declared.limits.TheConstants.{MOST_MOVES}
+use Rattle.suit_classes.specs.ClassMoves.{ClassHistory}
 
 -- where play is decided, the payoff for the masses that came
 pub defences_at_decided : DefencesAtDecided
 defences_at_decided question defence history decided =
-    ended_worth (reply_to_defence question defence) (52 - length history) history
+    ended_worth (reply_to_defence question defence) (MOST_MOVES - length history) history
     (ap (λ (b : Bool). if b then []
     else filter (λ move. some_allows question (history ++ move ∷ [])) every_move) decided)
     ∙ sym (sum_times (pos (class_payoff (class_after question history)))
@@ -41,14 +43,14 @@ module _ (question : Question) (defence : Defence) (valid : IsValid question) wh
   abbrev reply : Reply
   reply = reply_to_defence question defence
 
-  module _ (history : List ClassMove) (some : some_allows question history
+  module _ (history : ClassHistory) (some : some_allows question history
       ≡ true) (going : class_decided (class_after question history) ≡ false) where
     some_there : HasFirst (public_moves question history)
     some_there = let layout = some_layout question valid history some in
         some_public question valid history going layout.0 layout.1
 
     -- there is room for a move
-    pub room : length history < 52
+    pub room : length history < MOST_MOVES
     room =
         let first : ClassMove = some_there.first in
         let found : Contains (public_moves question history) first =
@@ -83,25 +85,25 @@ module _ (question : Question) (defence : Defence) (valid : IsValid question)
   to_defence = reply_to_defence question defence
 
   -- the mass in one class layout, and in all that allow a history
-  abbrev mass_at : List ClassMove → Counts × ℕ → ℤ
+  abbrev mass_at : ClassHistory → Counts × ℕ → ℤ
   mass_at history layout = defence_mass question defence layout.0 history
 
-  abbrev mass_in_all : List ClassMove → ℤ
+  abbrev mass_in_all : ClassHistory → ℤ
   mass_in_all history = sum_of (masses_of question defence history)
 
-  realised : (history : List ClassMove) (layout : Counts × ℕ) → Contains (allowing_layouts question history) layout
+  realised : (history : ClassHistory) (layout : Counts × ℕ) → Contains (allowing_layouts question history) layout
       → AreRealised question (defenders question defence.den defence.rows layout.0) layout.0
   realised history layout held =
       defences_realised question defence layout.0 valid proper
       (layout_weighs question valid layout (allowing_parts question valid history layout held).0)
 
-  pub mass_positive : (history : List ClassMove) (layout : Counts × ℕ)
+  pub mass_positive : (history : ClassHistory) (layout : Counts × ℕ)
       → Contains (allowing_layouts question history) layout → pos 0 ≤ℤ mass_at history layout
   unfolding defence_mass
   mass_positive history layout held =
       (realised history layout held).positive history (allowing_parts question valid history layout held).1
 
-  earned_paid : (history : List ClassMove) → some_allows question history ≡ true
+  earned_paid : (history : ClassHistory) → some_allows question history ≡ true
       → IsPaid (mass_in_all history) (to_defence.earned history)
   earned_paid history some =
       let payoff : ℕ = class_payoff (class_after question history) in
@@ -112,11 +114,11 @@ module _ (question : Question) (defence : Defence) (valid : IsValid question)
       (mass_positive history layout held))
 
   -- what goes on with a move, over all class layouts that allow the history before it
-  abbrev part : List ClassMove → ClassMove → Counts × ℕ → ℤ
+  abbrev part : ClassHistory → ClassMove → Counts × ℕ → ℤ
   part history move layout = if is_among (class_moves (class_after question history) layout.0) move
       then mass_at (history ++ move ∷ []) layout else pos 0
 
-  goes_on : (history : List ClassMove) (move : ClassMove)
+  goes_on : (history : ClassHistory) (move : ClassMove)
       → mass_in_all (history ++ move ∷ []) ≡ sum_of (map (part history move) (allowing_layouts question history))
   goes_on history move =
       ap (λ (l : List (Counts × ℕ)). sum_of (map (mass_at (history ++ move ∷ [])) l))
@@ -125,7 +127,7 @@ module _ (question : Question) (defence : Defence) (valid : IsValid question)
       (mass_at (history ++ move ∷ [])) (allowing_layouts question history)
 
   -- at a turn of a defender's the mass of each class layout goes on with its class moves
-  one_shared : (history : List ClassMove) (layout : Counts × ℕ) → Contains (allowing_layouts question history) layout
+  one_shared : (history : ClassHistory) (layout : Counts × ℕ) → Contains (allowing_layouts question history) layout
       → class_decided (class_after question history) ≡ false
       → is_defences (class_turn (class_after question history)) ≡ true
       → sum_of (map (λ move. part history move layout) (public_moves question history)) ≡ mass_at history layout
@@ -138,7 +140,7 @@ module _ (question : Question) (defence : Defence) (valid : IsValid question)
       ∙ (realised history layout held).shared history (allowing_parts question valid history layout held).1 theirs
 
   -- so the moves share out the masses
-  pub masses_shared : (history : List ClassMove) → class_decided (class_after question history) ≡ false
+  pub masses_shared : (history : ClassHistory) → class_decided (class_after question history) ≡ false
       → is_defences (class_turn (class_after question history)) ≡ true
       → sum_of (map (λ move. mass_in_all (history ++ move ∷ [])) (public_moves question history)) ≡ mass_in_all history
   masses_shared history going theirs =
@@ -151,7 +153,7 @@ module _ (question : Question) (defence : Defence) (valid : IsValid question)
       (λ layout held. one_shared history layout held going theirs))
 
   -- a move of declarer's keeps them
-  pub masses_kept : (history : List ClassMove) (move : ClassMove)
+  pub masses_kept : (history : ClassHistory) (move : ClassMove)
       → is_declarers (class_turn (class_after question history)) ≡ true
       → is_defences (class_turn (class_after question history)) ≡ false → Contains (public_moves question history) move
       → mass_in_all (history ++ move ∷ []) ≡ mass_in_all history
@@ -163,7 +165,7 @@ module _ (question : Question) (defence : Defence) (valid : IsValid question)
       (λ layout held. mass_kept question (defenders question defence.den defence.rows layout.0) history move
       not_theirs))
 
-  turn_paid : (history : List ClassMove) → some_allows question history ≡ true
+  turn_paid : (history : ClassHistory) → some_allows question history ≡ true
       → ((move : ClassMove) → Contains (public_moves question history) move
       → IsPaid (mass_in_all (history ++ move ∷ [])) (worth to_defence (history ++ move ∷ [])))
       → WhoseTurn (class_after question history) → IsPaid (mass_in_all history) (worth to_defence history)
@@ -185,7 +187,7 @@ module _ (question : Question) (defence : Defence) (valid : IsValid question)
       (sum_paid (λ move. worth to_defence (history ++ move ∷ [])) (λ move. mass_in_all (history ++ move ∷ []))
       (public_moves question history) paid))
 
-  paid_from : (more : ℕ) (history : List ClassMove) → some_allows question history ≡ true → more ≡ 52 - length history
+  paid_from : (more : ℕ) (history : ClassHistory) → some_allows question history ≡ true → more ≡ MOST_MOVES - length history
       → IsPaid (mass_in_all history) (worth to_defence history)
   paid_from zero history some left =
       turn_paid history some
@@ -205,7 +207,7 @@ module _ (question : Question) (defence : Defence) (valid : IsValid question)
 -- against a proper defence each class history that is allowed is worth no more than thirteen tricks of its masses
 pub defences_paid : DefencesArePaid
 defences_paid question defence history valid proper some =
-    paid_from question defence valid proper (52 - length history) history some refl
+    paid_from question defence valid proper (MOST_MOVES - length history) history some refl
 
 pub no_masses_no_worth : NoMassesAreWorthNothing
 no_masses_no_worth question defence history valid proper some none =

@@ -15,6 +15,8 @@ use Rattle.suit_plans.specs.declared.faults.PlanKind.TheVariants.{History, Order
 use Rattle.suit_plans.specs.Masses.{Shares, Side, mass_of}
 use Rattle.suit_plans.specs.Properness.{after_den, are_rising, at_row, first_fault, moves_of, row_fault, goes_undecided}
 use Rattle.suit_plans.specs.Properness.{sum_of}
+use Rattle.suit_plans.specs.declared.plan.TheConstants.{MOST_DEN}
+use Rattle.suit_classes.specs.ClassMoves.{ClassHistory}
 
 err_is_not : (verdict : Result ⊤ PlanFault) (fault : PlanFault) → verdict ≡ Err fault → verdict ≡ Ok tt → ⊥
 err_is_not verdict fault same fine = absurd (cc)
@@ -59,11 +61,11 @@ den_parts false most rows fault fine = absurd (err_is_not _ _ refl fine)
 
 -- where neither the denominator nor a row is at fault the denominator is within its bounds, and no row is at fault
 pub after_den-parts : (den : ℤ) (rows : Result ⊤ PlanFault) → after_den den rows ≡ Ok tt → (int_le (pos 1) den ≡ true)
-    × (int_le den (pos (2 ^ 90)) ≡ true) × (rows ≡ Ok tt)
-after_den-parts den rows fine = den_parts (int_le (pos 1) den) (int_le den (pos (2 ^ 90))) rows _ fine
+    × (int_le den (MOST_DEN) ≡ true) × (rows ≡ Ok tt)
+after_den-parts den rows fine = den_parts (int_le (pos 1) den) (int_le den (MOST_DEN)) rows _ fine
 
 -- a row that is not at fault shares out the mass of its history among legal moves
-pub record FitsTurn (question : Question) (side : Side) (history : List ClassMove) (shares : Shares)
+pub record FitsTurn (question : Question) (side : Side) (history : ClassHistory) (shares : Shares)
     (may_have stands : Bool) : Type 0 where
   -- the history may have a row, stays undecided, and it is the side's turn there
   pub allowed : may_have ≡ true
@@ -97,7 +99,7 @@ tests_passed true true true false true true true true none = absurd (some_is_not
 tests_passed true true true true true true true true none = (refl, refl, refl, refl, refl, refl, refl, refl)
 
 -- what is known of a row that is not at fault
-pub FitsTurn-from : (question : Question) (side : Side) (history : List ClassMove) (shares : Shares)
+pub FitsTurn-from : (question : Question) (side : Side) (history : ClassHistory) (shares : Shares)
     (may_have stands : Bool)
     → row_fault question side history shares may_have stands ≡ None
     → FitsTurn question side history shares may_have stands

@@ -6,7 +6,7 @@ use Rattle.std.specs.Prelude.{nat_lt, ◌==◌}
 use Rattle.std.proofs.lemmas.Bool.{and_from, and_parts, and_right, eq-eqb, eqb-true, false≢true, le-ltb, lt-ltb}
 use Rattle.std.proofs.lemmas.Bool.{ltb-true, or_cases, or_from, or_left, or_right}
 use Rattle.suit_classes.specs.declared.class_moves.ClassMove.{ClassMove}
-use Rattle.suit_classes.specs.ClassMoves.{same_class_move}
+use Rattle.suit_classes.specs.ClassMoves.{same_class_move, ClassHistory}
 use Rattle.suit_classes.specs.MoveOrder.{class_named, kind_of, stands_before}
 use Rattle.suit_classes.proofs.SameMoves.{same_move-itself, same_move_is}
 use Rattle.suit_plans.specs.Orders.{is_earlier, same_class_history}
@@ -120,7 +120,7 @@ IsStrict-moves = record {
 }
 
 -- a history is the same as itself
-pub same_class_history-itself : (history : List ClassMove) → same_class_history history history ≡ true
+pub same_class_history-itself : (history : ClassHistory) → same_class_history history history ≡ true
 unfolding same_class_history
 same_class_history-itself [] = refl
 same_class_history-itself (move ∷ moves) =
@@ -128,7 +128,7 @@ same_class_history-itself (move ∷ moves) =
     (same_class_history-itself moves)
 
 -- and only as itself
-pub same_class_history_is : (history other : List ClassMove) → same_class_history history other ≡ true → history ≡ other
+pub same_class_history_is : (history other : ClassHistory) → same_class_history history other ≡ true → history ≡ other
 unfolding same_class_history
 same_class_history_is [] [] same = refl
 same_class_history_is [] (other ∷ others) same = absurd (false≢true same)

@@ -12,9 +12,10 @@ use Rattle.suit_classes.proofs.AllowedHistories.{allowed_moves}
 use Rattle.suit_plans.specs.Masses.{Side, mass_of}
 use Rattle.suit_plans.specs.PlanLaws.{AreRealised}
 use Rattle.suit_plans.proofs.SharedSums.{within_sum}
+use Rattle.suit_classes.specs.ClassMoves.{ClassHistory}
 
 -- a legal move goes on with no more than what came to its turn
-pub mass_falls : (question : Question) (side : Side) (counts : Counts) (history : List ClassMove) (move : ClassMove)
+pub mass_falls : (question : Question) (side : Side) (counts : Counts) (history : ClassHistory) (move : ClassMove)
     → AreRealised question side counts → Allows question counts history
     → Contains (class_moves (class_after question history) counts) move
     → mass_of question side (history ++ move ∷ []) ≤ℤ mass_of question side history

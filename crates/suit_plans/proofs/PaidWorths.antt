@@ -17,29 +17,31 @@ use Rattle.suit_classes.proofs.AgreedPlaces.{class_game_agrees}
 use Rattle.suit_classes.proofs.MergedPlaces.{play_dealt}
 use Rattle.suit_plans.specs.Properness.{sum_of}
 use Rattle.suit_plans.specs.ReplyLaws.{IsPaid}
+use Rattle.suit_game.specs.declared.limits.TheConstants.{HAND_SIZE}
+use Rattle.suit_classes.specs.ClassMoves.{ClassHistory}
 
-payoff_most : (goal : Goal) (won : ℕ) → won ≤ 13 → payoff goal won ≤ 13
+payoff_most : (goal : Goal) (won : ℕ) → won ≤ HAND_SIZE → payoff goal won ≤ HAND_SIZE
 payoff_most (AtLeast least) won few = one (nat_le least won)
   where
-    one : (b : Bool) → (if b then 1 else 0) ≤ 13
+    one : (b : Bool) → (if b then 1 else 0) ≤ HAND_SIZE
     one true = omega arith
     one false = omega arith
 payoff_most Tricks won few = few
 
 -- no class history pays more than thirteen tricks
-pub paid_most : (question : Question) (counts : Counts) (history : List ClassMove) → Allows question counts history
-    → class_payoff (class_after question history) ≤ 13
+pub paid_most : (question : Question) (counts : Counts) (history : ClassHistory) → Allows question counts history
+    → class_payoff (class_after question history) ≤ HAND_SIZE
 paid_most question counts history allows =
     let deal = (play_dealt question allows.west allows.cards allows.play).deal in
-    let won : (after question allows.cards).won ≤ 13 =
+    let won : (after question allows.cards).won ≤ HAND_SIZE =
     thirteen_tricks question allows.west allows.cards deal allows.play.legal in
-    subst (λ (n : ℕ). n ≤ 13)
+    subst (λ (n : ℕ). n ≤ HAND_SIZE)
     (sym (class_game_agrees question allows.west allows.cards allows.play).payoff
-    ∙ ap (λ (h : List ClassMove). class_payoff (class_after question h)) allows.merges)
+    ∙ ap (λ (h : ClassHistory). class_payoff (class_after question h)) allows.merges)
     (payoff_most question.goal (after question allows.cards).won won)
 
 -- a payoff of at most thirteen tricks for a mass
-pub product_paid : (payoff : ℕ) (mass : ℤ) → payoff ≤ 13 → pos 0 ≤ℤ mass → IsPaid mass (pos payoff *ℤ mass)
+pub product_paid : (payoff : ℕ) (mass : ℤ) → payoff ≤ HAND_SIZE → pos 0 ≤ℤ mass → IsPaid mass (pos payoff *ℤ mass)
 product_paid payoff mass few positive =
     let some : pos 0 ≤ℤ pos payoff = omega (arith, ints) in
     let most : pos payoff ≤ℤ pos 13 = omega (arith, ints) in

@@ -24,25 +24,27 @@ use Rattle.suit_plans.proofs.ProperPlans.{plans_are_realised as plans_realised}
 use Rattle.suit_classes.proofs.UndecidedMoves.{HasFirst, some_move}
 use Rattle.suit_plans.proofs.WhoseTurns.{Declarers, Defences, Over, WhoseTurn, own_turn, their_turn, whose_turn}
 use Rattle.suit_plans.proofs.WorthsAtTurns.{HasFirst-map, best_turn, ended_worth, least_of, left_after, summed_turn}
+use Rattle.suit_game.specs.declared.limits.TheConstants.{MOST_MOVES}
+use Rattle.suit_classes.specs.ClassMoves.{ClassHistory}
 
 module _ (question : Question) (plan : Plan) (counts : Counts) where
   abbrev reply : Reply
   reply = reply_to_plan question plan counts
 
-  abbrev legal : List ClassMove → List ClassMove
+  abbrev legal : ClassHistory → List ClassMove
   legal history = class_moves (class_after question history) counts
 
   -- the moves of the reply, where play is not decided
-  pub moves_going : (history : List ClassMove) → class_decided (class_after question history) ≡ false
+  pub moves_going : (history : ClassHistory) → class_decided (class_after question history) ≡ false
       → reply.moves history ≡ legal history
   moves_going history going = ap (λ (b : Bool). if b then [] else legal history) going
 
-  at_decided : (history : List ClassMove) → class_decided (class_after question history) ≡ true
+  at_decided : (history : ClassHistory) → class_decided (class_after question history) ≡ true
       → worth reply history ≡ reply.earned history
-  at_decided history decided = ended_worth reply (52 - length history) history (ap (λ (b : Bool). if b then []
+  at_decided history decided = ended_worth reply (MOST_MOVES - length history) history (ap (λ (b : Bool). if b then []
       else legal history) decided)
 
-  module _ (history : List ClassMove) (allows : Allows question counts history)
+  module _ (history : ClassHistory) (allows : Allows question counts history)
       (going : class_decided (class_after question history) ≡ false) where
     some_legal : HasFirst (legal history)
     some_legal = some_move question counts history allows going
@@ -51,7 +53,7 @@ module _ (question : Question) (plan : Plan) (counts : Counts) where
     some_there = subst (HasFirst {X = ClassMove}) (sym (moves_going history going)) some_legal
 
     -- there is room for a move
-    pub room : length history < 52
+    pub room : length history < MOST_MOVES
     room =
         let first : ClassMove = some_legal.first in
         let found : Contains (legal history) first =
@@ -94,10 +96,10 @@ module _ (question : Question) (plan : Plan) (counts : Counts)
   abbrev to_plan : Reply
   to_plan = reply_to_plan question plan counts
 
-  abbrev class_moves_at : List ClassMove → List ClassMove
+  abbrev class_moves_at : ClassHistory → List ClassMove
   class_moves_at history = class_moves (class_after question history) counts
 
-  earned_paid : (history : List ClassMove) → Allows question counts history
+  earned_paid : (history : ClassHistory) → Allows question counts history
       → IsPaid (plan_mass question plan history) (to_plan.earned history)
   unfolding plan_mass
   earned_paid history allows =
@@ -106,20 +108,20 @@ module _ (question : Question) (plan : Plan) (counts : Counts)
       (realised.positive history allows)
 
   -- the masses that go on from a turn of declarer's add up
-  masses_shared : (history : List ClassMove) → Allows question counts history
+  masses_shared : (history : ClassHistory) → Allows question counts history
       → is_declarers (class_turn (class_after question history)) ≡ true
       → sum_of (map (λ move. plan_mass question plan (history ++ move ∷ [])) (class_moves_at history))
       ≡ plan_mass question plan history
   unfolding plan_mass
   masses_shared history allows own = realised.shared history allows own
 
-  masses_kept : (history : List ClassMove) (move : ClassMove)
+  masses_kept : (history : ClassHistory) (move : ClassMove)
       → is_declarers (class_turn (class_after question history)) ≡ false
       → plan_mass question plan (history ++ move ∷ []) ≡ plan_mass question plan history
   unfolding plan_mass
   masses_kept history move theirs = realised.kept history move theirs
 
-  turn_paid : (history : List ClassMove) → Allows question counts history
+  turn_paid : (history : ClassHistory) → Allows question counts history
       → ((move : ClassMove) → Contains (class_moves_at history) move
       → IsPaid (plan_mass question plan (history ++ move ∷ [])) (worth to_plan (history ++ move ∷ [])))
       → WhoseTurn (class_after question history) → IsPaid (plan_mass question plan history) (worth to_plan history)
@@ -140,7 +142,7 @@ module _ (question : Question) (plan : Plan) (counts : Counts)
       (λ move found. subst (λ (mass : ℤ). IsPaid mass (worth to_plan (history ++ move ∷ [])))
       (masses_kept history move not_own) (paid move found))
 
-  paid_from : (more : ℕ) (history : List ClassMove) → Allows question counts history → more ≡ 52 - length history
+  paid_from : (more : ℕ) (history : ClassHistory) → Allows question counts history → more ≡ MOST_MOVES - length history
       → IsPaid (plan_mass question plan history) (worth to_plan history)
   paid_from zero history allows left =
       turn_paid history allows (λ move found.
@@ -159,7 +161,7 @@ module _ (question : Question) (plan : Plan) (counts : Counts)
 -- against a proper plan each class history that is allowed is worth no more than thirteen tricks of its mass
 pub plans_paid : PlansArePaid
 plans_paid question plan counts history valid proper allows =
-    paid_from question plan counts (plans_realised question plan counts valid proper) (52 - length history) history
+    paid_from question plan counts (plans_realised question plan counts valid proper) (MOST_MOVES - length history) history
     allows refl
 
 pub no_mass_no_worth : NoMassIsWorthNothing

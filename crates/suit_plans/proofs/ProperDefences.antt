@@ -10,7 +10,7 @@ use Rattle.suit_num.proofs.IntegerLaws.{mul_not_negative, int_le-true}
 use Rattle.suit_game.specs.declared.question.Question.{Question}
 use Rattle.suit_classes.specs.declared.class_moves.ClassMove.{ClassMove}
 use Rattle.suit_classes.specs.AllowedHistories.{allows}
-use Rattle.suit_classes.specs.ClassMoves.{same_class_move}
+use Rattle.suit_classes.specs.ClassMoves.{same_class_move, ClassHistory}
 use Rattle.suit_classes.specs.MoveOrder.{stands_before}
 use Rattle.suit_plans.specs.declared.defence.DefenceRow.{DefenceRow}
 use Rattle.suit_plans.specs.declared.defence.Defence.{Defence}
@@ -26,20 +26,21 @@ use Rattle.suit_plans.proofs.FirstFaults.{faultless_at}
 use Rattle.suit_plans.proofs.HistoryOrder.{IsStrict-moves, earlier-start, same_class_history_is}
 use Rattle.suit_plans.proofs.MassSteps.{mass_of_same}
 use Rattle.suit_plans.proofs.ProperPlans.{option_map-from}
-use Rattle.suit_plans.proofs.RealisedSides.{IsSound, SharesMass, sound_realised}
-use Rattle.suit_plans.proofs.RowOrder.{FoundRow, FoundRow-from, IsRowOrder-defences, find_before}
+use Rattle.suit_plans.proofs.SideIsRealised.{IsSound, SharesMass, sound_realised}
+use Rattle.suit_plans.proofs.RowsBeforeTell.{FoundRow, FoundRow-from, IsRowOrder-defences, find_before}
+use Rattle.suit_plans.specs.declared.plan.TheConstants.{MOST_DEN}
 
 -- whether a row of a defence stands after the last of some
 abbrev pub stands_after : DefenceRow → List DefenceRow → Bool
 stands_after row before = last_passes (λ (last : DefenceRow). defence_row_before last row) before
 
 -- whether a row is that for a class layout at a history
-abbrev pub is_row_at : Counts → List ClassMove → DefenceRow → Bool
+abbrev pub is_row_at : Counts → ClassHistory → DefenceRow → Bool
 is_row_at counts history row = bytes_eq row.west counts && same_class_history row.history history
 
 -- no row of a proper defence is at fault, and its denominator is within its bounds
 pub proper_defence : (question : Question) (defence : Defence) → IsProperDefence question defence
-    → (int_le (pos 1) defence.den ≡ true) × (int_le defence.den (pos (2 ^ 90)) ≡ true)
+    → (int_le (pos 1) defence.den ≡ true) × (int_le defence.den (MOST_DEN) ≡ true)
     × IsFaultless (defence_row_fault question defence.den) [] defence.rows
 unfolding defence_verdict
 proper_defence question defence proper =
@@ -72,7 +73,7 @@ pub told_order : (question : Question) (den : ℤ) (rows : List DefenceRow) (nex
     → defence_row_fault question den rows next ≡ None → stands_after next rows ≡ true
 told_order question den rows next none = (row_fits_after question den rows next none).1.ordered
 
-before_row : (row other : DefenceRow) (begun : List ClassMove) (move : ClassMove) (more : List ClassMove)
+before_row : (row other : DefenceRow) (begun : ClassHistory) (move : ClassMove) (more : List ClassMove)
     → row.history ≡ begun ++ move ∷ more → is_row_at row.west begun other ≡ true
     → defence_row_before other row ≡ true
 before_row row other begun move more is found =
@@ -80,15 +81,15 @@ before_row row other begun move more is found =
     or_right (counts_before other.west row.west) (bytes_eq other.west row.west
     && history_before other.history row.history)
     (and_from (bytes_eq other.west row.west) (history_before other.history row.history) parts.0
-    (subst (λ (h : List ClassMove). history_before other.history h ≡ true) (sym is)
-    (subst (λ (h : List ClassMove). history_before h (begun ++ move ∷ more)
+    (subst (λ (h : ClassHistory). history_before other.history h ≡ true) (sym is)
+    (subst (λ (h : ClassHistory). history_before h (begun ++ move ∷ more)
     ≡ true) (sym (same_class_history_is other.history begun parts.1))
     (earlier-start stands_before same_class_move begun move more IsStrict-moves))))
 
 -- at each beginning of a row's history the rows before it have what all have for its class layout
 counts_before_row : (question : Question) (den : ℤ) (start : List DefenceRow) (row : DefenceRow)
     (rest : List DefenceRow) → IsFaultless (defence_row_fault question den) [] (start ++ row ∷ rest)
-    → (begun : List ClassMove) (move : ClassMove) (more : List ClassMove) → row.history ≡ begun ++ move ∷ more
+    → (begun : ClassHistory) (move : ClassMove) (more : List ClassMove) → row.history ≡ begun ++ move ∷ more
     → defence_shares_at (start ++ row ∷ rest) row.west begun ≡ defence_shares_at start row.west begun
 unfolding defence_shares_at
 counts_before_row question den start row rest fine begun move more is =
@@ -129,7 +130,7 @@ defence_row_fits question den start row rest fine =
       },
     )
 
-row_shares_at : (question : Question) (den : ℤ) (rows : List DefenceRow) (counts : Counts) (history : List ClassMove)
+row_shares_at : (question : Question) (den : ℤ) (rows : List DefenceRow) (counts : Counts) (history : ClassHistory)
     (row : DefenceRow) → IsFaultless (defence_row_fault question den) [] rows
     → FoundRow (is_row_at counts history) rows row
     → SharesMass question (defenders question den rows row.west) row.history row.counts
@@ -141,7 +142,7 @@ row_shares_at question den rows counts history row fine found =
     (record { legal = fits.legal; rising = fits.rising; positive = fits.positive; adds = fits.adds })
 
 -- the counts of a proper defence at a history share out its mass in the class layout
-pub defence_shares : (question : Question) (defence : Defence) (counts : Counts) (history : List ClassMove)
+pub defence_shares : (question : Question) (defence : Defence) (counts : Counts) (history : ClassHistory)
     (shares : Shares) → IsProperDefence question defence
     → defence_shares_at defence.rows counts history ≡ Some shares
     → SharesMass question (defenders question defence.den defence.rows counts) history shares
@@ -153,7 +154,7 @@ defence_shares question defence counts history shares proper is =
     let found = FoundRow-from (is_row_at counts history) defence.rows row some.1 in
     let parts = and_parts (bytes_eq row.west counts) (same_class_history row.history history) found.found in
     subst (SharesMass question (defenders question defence.den defence.rows counts) history) some.2
-    (subst (λ (h : List ClassMove). SharesMass question (defenders question defence.den defence.rows counts) h
+    (subst (λ (h : ClassHistory). SharesMass question (defenders question defence.den defence.rows counts) h
     row.counts) (same_class_history_is row.history history parts.1)
     (subst (λ (w : Counts). SharesMass question (defenders question defence.den defence.rows w) row.history row.counts)
     ((bytes_eq-Decides row.west counts).0 parts.0)

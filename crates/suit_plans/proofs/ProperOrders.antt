@@ -6,7 +6,7 @@ use Rattle.suit_plans.specs.Orders.{InOrder, defence_row_before, plan_row_before
 use Rattle.suit_plans.specs.Properness.{IsProperDefence, IsProperPlan, defence_row_fault, plan_row_fault}
 use Rattle.suit_plans.proofs.ProperDefences as defences
 use Rattle.suit_plans.proofs.ProperPlans as plans
-use Rattle.suit_plans.proofs.RowOrder.{IsRowOrder-defences, IsRowOrder-histories, faultless_in_order}
+use Rattle.suit_plans.proofs.RowsBeforeTell.{IsRowOrder-defences, IsRowOrder-histories, faultless_in_order}
 
 -- the rows of a proper plan stand in order
 pub plan_in_order : (question : Question) (plan : Plan) → IsProperPlan question plan → InOrder plan_row_before plan.rows

@@ -5,7 +5,7 @@ use Rattle.std.specs.Prelude.{ℤ, pos, ◌^◌, ◌≤ℤ◌, find, option_map,
 use Rattle.std.proofs.lemmas.Int.{ints}
 use Rattle.suit_game.specs.declared.question.Question.{Question}
 use Rattle.suit_classes.specs.declared.class_moves.ClassMove.{ClassMove}
-use Rattle.suit_classes.specs.ClassMoves.{same_class_move}
+use Rattle.suit_classes.specs.ClassMoves.{same_class_move, ClassHistory}
 use Rattle.suit_classes.specs.MoveOrder.{stands_before}
 use Rattle.suit_classes.specs.ClassPlaces.{class_after}
 use Rattle.suit_plans.specs.declared.plan.Row.{Row}
@@ -19,10 +19,11 @@ use Rattle.suit_plans.proofs.FirstFaults.{FitsTurn, FitsTurn-from, IsFaultless, 
 use Rattle.suit_plans.proofs.FirstFaults.{faultless_at}
 use Rattle.suit_plans.proofs.HistoryOrder.{IsStrict-moves, earlier-start, same_class_history_is}
 use Rattle.suit_plans.proofs.MassSteps.{mass_of_same}
-use Rattle.suit_plans.proofs.RealisedSides.{IsSound, SharesMass, sound_realised}
-use Rattle.suit_plans.proofs.RowOrder.{FoundRow, FoundRow-from, IsRowOrder-histories, find_before}
+use Rattle.suit_plans.proofs.SideIsRealised.{IsSound, SharesMass, sound_realised}
+use Rattle.suit_plans.proofs.RowsBeforeTell.{FoundRow, FoundRow-from, IsRowOrder-histories, find_before}
 use Rattle.suit_num.proofs.IntegerLaws.{int_le-true}
 use Rattle.suit_plans.proofs.TurnMoves.{declarers_moves}
+use Rattle.suit_plans.specs.declared.plan.TheConstants.{MOST_DEN}
 
 -- whether a row of a plan stands after the last of some
 abbrev pub stands_after : Row → List Row → Bool
@@ -30,7 +31,7 @@ stands_after row before = last_passes (λ (last : Row). plan_row_before last row
 
 -- no row of a proper plan is at fault, and its denominator is within its bounds
 pub proper_plan : (question : Question) (plan : Plan) → IsProperPlan question plan
-    → (int_le (pos 1) plan.den ≡ true) × (int_le plan.den (pos (2 ^ 90)) ≡ true)
+    → (int_le (pos 1) plan.den ≡ true) × (int_le plan.den (MOST_DEN) ≡ true)
     × IsFaultless (plan_row_fault question plan.den) [] plan.rows
 unfolding plan_verdict
 proper_plan question plan proper =
@@ -47,7 +48,7 @@ told_order question den rows next none =
 -- at each beginning of a row's history the rows before it have what all have
 counts_before_row : (question : Question) (den : ℤ) (start : List Row) (row : Row) (rest : List Row)
     → IsFaultless (plan_row_fault question den) [] (start ++ row ∷ rest)
-    → (begun : List ClassMove) (move : ClassMove) (more : List ClassMove) → row.history ≡ begun ++ move ∷ more
+    → (begun : ClassHistory) (move : ClassMove) (more : List ClassMove) → row.history ≡ begun ++ move ∷ more
     → plan_shares_at (start ++ row ∷ rest) begun ≡ plan_shares_at start begun
 unfolding plan_shares_at
 counts_before_row question den start row rest fine begun move more is =
@@ -55,8 +56,8 @@ counts_before_row question den start row rest fine begun move more is =
     (find_before plan_row_before (plan_row_fault question den) (λ (other : Row). same_class_history other.history begun)
     start row rest IsRowOrder-histories
     (told_order question den) fine
-    (λ other same. subst (λ (h : List ClassMove). history_before other.history h ≡ true) (sym is)
-    (subst (λ (h : List ClassMove). history_before h (begun ++ move ∷ more)
+    (λ other same. subst (λ (h : ClassHistory). history_before other.history h ≡ true) (sym is)
+    (subst (λ (h : ClassHistory). history_before h (begun ++ move ∷ more)
     ≡ true) (sym (same_class_history_is other.history begun same))
     (earlier-start stands_before same_class_move begun move more IsStrict-moves))))
 
@@ -94,7 +95,7 @@ pub option_map-from : {X Y : Type 0} (f : X → Y) (some : Option X) (y : Y) →
 option_map-from f None y is = absurd (cc)
 option_map-from f (Some x) y is = (x, refl, cc)
 
-row_shares_at : (question : Question) (den : ℤ) (rows : List Row) (history : List ClassMove) (row : Row)
+row_shares_at : (question : Question) (den : ℤ) (rows : List Row) (history : ClassHistory) (row : Row)
     → IsFaultless (plan_row_fault question den) [] rows
     → FoundRow (λ (other : Row). same_class_history other.history history) rows row
     → SharesMass question (declarer den rows) row.history row.counts
@@ -105,7 +106,7 @@ row_shares_at question den rows history row fine found =
     (record { legal = fits.legal; rising = fits.rising; positive = fits.positive; adds = fits.adds })
 
 -- the counts of a proper plan at a history share out its mass
-pub plan_shares : (question : Question) (plan : Plan) (history : List ClassMove) (shares : Shares)
+pub plan_shares : (question : Question) (plan : Plan) (history : ClassHistory) (shares : Shares)
     → IsProperPlan question plan → plan_shares_at plan.rows history ≡ Some shares
     → SharesMass question (declarer plan.den plan.rows) history shares
 unfolding plan_shares_at
@@ -115,7 +116,7 @@ plan_shares question plan history shares proper is =
     let found = FoundRow-from (λ (row : Row). same_class_history row.history history) plan.rows some.0 some.1 in
     let here : some.0.history ≡ history = same_class_history_is some.0.history history found.found in
     subst (SharesMass question (declarer plan.den plan.rows) history) some.2
-    (subst (λ (h : List ClassMove). SharesMass question (declarer plan.den plan.rows) h some.0.counts) here
+    (subst (λ (h : ClassHistory). SharesMass question (declarer plan.den plan.rows) h some.0.counts) here
     (row_shares_at question plan.den plan.rows history some.0 (proper_plan question plan proper).2 found))
 
 -- declarer with the rows of a proper plan is a sound side

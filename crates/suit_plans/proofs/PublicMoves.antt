@@ -35,6 +35,8 @@ use Rattle.suit_classes.proofs.EveryMove.{class_moves_listed}
 use Rattle.suit_plans.proofs.RowLimits.{some_allowed_short}
 use Rattle.suit_plans.proofs.TurnMoves.{declarers_moves}
 use Rattle.suit_classes.proofs.UndecidedMoves.{HasFirst, some_move}
+use Rattle.suit_game.specs.declared.limits.TheConstants.{MOST_MOVES}
+use Rattle.suit_classes.specs.ClassMoves.{ClassHistory}
 
 -- ---- lists
 
@@ -75,14 +77,14 @@ module _ (question : Question) (valid : IsValid question) where
       omega (arith, exact.0, exact.1)
 
   -- what it is told to allow it allows, and the other way round
-  pub layout_tells : (layout : Counts × ℕ) (history : List ClassMove)
+  pub layout_tells : (layout : Counts × ℕ) (history : ClassHistory)
       → Contains (class_layouts question (sizes_of question)) layout
       → Decides (allows question layout.0 history) (Allows question layout.0 history)
   layout_tells layout history found =
       allows_tells question layout.0 history (start_allows question layout.0 valid (layout_weighs layout found))
 
   -- a class layout among those that allow a history
-  pub allowing_parts : (history : List ClassMove) (layout : Counts × ℕ)
+  pub allowing_parts : (history : ClassHistory) (layout : Counts × ℕ)
       → Contains (allowing_layouts question history) layout
       → Contains (class_layouts question (sizes_of question)) layout × Allows question layout.0 history
   allowing_parts history layout found =
@@ -90,7 +92,7 @@ module _ (question : Question) (valid : IsValid question) where
       (class_layouts question (sizes_of question)) layout found in
       (kept.0, (layout_tells layout history kept.0).0 kept.1)
 
-  pub Contains-allowing : (history : List ClassMove) (layout : Counts × ℕ)
+  pub Contains-allowing : (history : ClassHistory) (layout : Counts × ℕ)
       → Contains (class_layouts question (sizes_of question)) layout
       → Allows question layout.0 history → Contains (allowing_layouts question history) layout
   Contains-allowing history layout found allowed =
@@ -99,7 +101,7 @@ module _ (question : Question) (valid : IsValid question) where
       ((layout_tells layout history found).1 allowed)
 
   -- where some class layout is told to allow a history there is one that does
-  pub some_layout : (history : List ClassMove) → some_allows question history ≡ true → (layout : Counts × ℕ)
+  pub some_layout : (history : ClassHistory) → some_allows question history ≡ true → (layout : Counts × ℕ)
       × Contains (allowing_layouts question history) layout
   unfolding some_allows
   some_layout history some =
@@ -110,7 +112,7 @@ module _ (question : Question) (valid : IsValid question) where
             (class_layouts question (sizes_of question)) found.0 found.1 found.2,
       )
 
-  pub allows_some : (history : List ClassMove) (layout : Counts × ℕ)
+  pub allows_some : (history : ClassHistory) (layout : Counts × ℕ)
       → Contains (allowing_layouts question history) layout → some_allows question history ≡ true
   unfolding some_allows
   allows_some history layout found =
@@ -121,7 +123,7 @@ module _ (question : Question) (valid : IsValid question) where
 
   -- a class layout allows a history with a move more where it allows the history, and the move is one of its class
   -- moves
-  pub allowing_next : (history : List ClassMove) (move : ClassMove) (layout : Counts × ℕ)
+  pub allowing_next : (history : ClassHistory) (move : ClassMove) (layout : Counts × ℕ)
       → Contains (allowing_layouts question history) layout
       → Contains (class_moves (class_after question history) layout.0) move
       → Contains (allowing_layouts question (history ++ move ∷ [])) layout
@@ -130,7 +132,7 @@ module _ (question : Question) (valid : IsValid question) where
       Contains-allowing (history ++ move
       ∷ []) layout parts.0 ((allowed_moves question layout.0 history move).1 (parts.1, goes))
 
-  pub allowing_before : (history : List ClassMove) (move : ClassMove) (layout : Counts × ℕ)
+  pub allowing_before : (history : ClassHistory) (move : ClassMove) (layout : Counts × ℕ)
       → Contains (allowing_layouts question (history ++ move ∷ [])) layout
       → Contains (allowing_layouts question history) layout
       × Contains (class_moves (class_after question history) layout.0) move
@@ -140,7 +142,7 @@ module _ (question : Question) (valid : IsValid question) where
       (Contains-allowing history layout parts.0 before.0, before.1)
 
   -- of the class layouts that allow a history, those that go on with a move allow it with the move
-  pub going_with : (history : List ClassMove) (move : ClassMove)
+  pub going_with : (history : ClassHistory) (move : ClassMove)
       → filter (λ (layout : Counts × ℕ). is_among (class_moves (class_after question history) layout.0) move)
       (allowing_layouts question history)
       ≡ allowing_layouts question (history ++ move ∷ [])
@@ -153,12 +155,12 @@ module _ (question : Question) (valid : IsValid question) where
       (λ layout. sym (allows-push question layout.0 history move)) (class_layouts question (sizes_of question))
 
   -- the moves at a history that is not decided
-  pub public_going : (history : List ClassMove) → class_decided (class_after question history) ≡ false
+  pub public_going : (history : ClassHistory) → class_decided (class_after question history) ≡ false
       → public_moves question history ≡ filter (λ move. some_allows question (history ++ move ∷ [])) every_move
   public_going history going =
       ap (λ (b : Bool). if b then [] else filter (λ move. some_allows question (history ++ move ∷ [])) every_move) going
 
-  pub public_over : (history : List ClassMove) → class_decided (class_after question history) ≡ true
+  pub public_over : (history : ClassHistory) → class_decided (class_after question history) ≡ true
       → public_moves question history ≡ []
   public_over history decided =
       ap (λ (b : Bool). if b then []
@@ -170,7 +172,7 @@ module _ (question : Question) (valid : IsValid question) where
   public_case false moves move found = found
 
   -- each is allowed by some class layout
-  pub public_allowed : (history : List ClassMove) (move : ClassMove) → Contains (public_moves question history) move
+  pub public_allowed : (history : ClassHistory) (move : ClassMove) → Contains (public_moves question history) move
       → some_allows question (history ++ move ∷ []) ≡ true
   public_allowed history move found =
       let all : List ClassMove = filter (λ other. some_allows question (history ++ other ∷ [])) every_move in
@@ -178,12 +180,12 @@ module _ (question : Question) (valid : IsValid question) where
       (public_case (class_decided (class_after question history)) all move found)).1
 
   -- so a history with one of them more has at most 52 moves
-  pub public_short : (history : List ClassMove) (move : ClassMove) → Contains (public_moves question history) move
-      → length (history ++ move ∷ []) ≤ 52
+  pub public_short : (history : ClassHistory) (move : ClassMove) → Contains (public_moves question history) move
+      → length (history ++ move ∷ []) ≤ MOST_MOVES
   public_short history move found =
       some_allowed_short question (history ++ move ∷ []) valid (sym (public_allowed history move found))
 
-  module _ (history : List ClassMove) (going : class_decided (class_after question history) ≡ false) (layout : Counts
+  module _ (history : ClassHistory) (going : class_decided (class_after question history) ≡ false) (layout : Counts
       × ℕ) (held : Contains (allowing_layouts question history) layout) where
     -- a class move is one that some class layout allows
     move_allowed : (move : ClassMove) → is_among (class_moves (class_after question history) layout.0) move ≡ true
@@ -241,7 +243,7 @@ module _ (question : Question) (valid : IsValid question) where
         ∙ sym (class_moves_listed view layout.0)
 
   -- a move of declarer's is one in each class layout that allows the history
-  pub own_allows : (history : List ClassMove) (move : ClassMove)
+  pub own_allows : (history : ClassHistory) (move : ClassMove)
       → is_declarers (class_turn (class_after question history)) ≡ true
       → Contains (public_moves question history) move
       → allowing_layouts question (history ++ move ∷ []) ≡ allowing_layouts question history

@@ -44,6 +44,7 @@ use Rattle.suit_plans.proofs.PublicMoves.{layout_weighs, public_allowed, some_pa
 use Rattle.suit_classes.proofs.UndecidedMoves.{HasFirst}
 use Rattle.suit_plans.proofs.WhoseTurns.{own_turn, their_turn}
 use Rattle.suit_plans.proofs.WorthsAtTurns.{best_attained, best_turn, max_picks, min_picks}
+use Rattle.suit_game.specs.declared.limits.TheConstants.{MOST_MOVES}
 
 -- ---- the class histories of a reply
 
@@ -67,9 +68,9 @@ module _ (Fits : ClassHistory → Type 0) (reply : Reply)
   unfolding choices
   choice_parts starts history found =
       let kept = kept_parts (λ (other : ClassHistory). has_choice reply other
-      && is_reached reply other) (histories_within 52 reply []) history found in
+      && is_reached reply other) (histories_within MOST_MOVES reply []) history found in
       let parts = and_parts (has_choice reply history) (is_reached reply history) kept.1 in
-      (each_at Fits (histories_within 52 reply []) history (each_within 52 [] starts) kept.0, parts.0, parts.1)
+      (each_at Fits (histories_within MOST_MOVES reply []) history (each_within MOST_MOVES [] starts) kept.0, parts.0, parts.1)
 
 -- ---- the move of a reply
 
@@ -92,7 +93,7 @@ first_passing test (first ∷ moves) move found passes =
 -- it is one of the moves at each turn of its side
 pub reply_move_found : (reply : Reply) (history : ClassHistory)
     → ((one other : ℤ) → (reply.best one other ≡ one) ⊎ (reply.best one other ≡ other))
-    → length history < 52 → (some : HasFirst (reply.moves history)) → reply.replies history ≡ true
+    → length history < MOST_MOVES → (some : HasFirst (reply.moves history)) → reply.replies history ≡ true
     → Contains (reply.moves history) (reply_move reply history)
 unfolding reply_move
 reply_move_found reply history picks short some own =

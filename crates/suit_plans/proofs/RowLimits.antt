@@ -22,19 +22,21 @@ use Rattle.suit_layouts.proofs.ListedCounts.{class_layouts_exact}
 use Rattle.suit_plans.specs.Masses.{weight_of}
 use Rattle.suit_plans.specs.Properness.{some_allows}
 use Rattle.suit_plans.proofs.AllowedWalks.{start_allows}
-use Rattle.suit_plans.proofs.LayoutWalks.{any_allows, all_to_come}
+use Rattle.suit_plans.proofs.SomeLayoutAllows.{any_allows, all_to_come}
+use Rattle.suit_game.specs.declared.limits.TheConstants.{MOST_MOVES}
+use Rattle.suit_classes.specs.ClassMoves.{ClassHistory}
 
 -- a class history that a class layout of positive weight allows has at most 52 moves
-pub allowed_short : (question : Question) (counts : Counts) (history : List ClassMove) → IsValid question
+pub allowed_short : (question : Question) (counts : Counts) (history : ClassHistory) → IsValid question
     → 0 < weight_of question counts → true ≡ allows question counts history
-    → length history ≤ 52
+    → length history ≤ MOST_MOVES
 allowed_short question counts history valid weighs told =
     class_histories_are_short question counts history
     ((allows_tells question counts history (start_allows question counts valid weighs)).0 (sym told))
 
-short_if_any : (question : Question) (history : List ClassMove) (layouts : List (Counts × ℕ)) → IsValid question
+short_if_any : (question : Question) (history : ClassHistory) (layouts : List (Counts × ℕ)) → IsValid question
     → AllByRecursion (λ (layout : Counts × ℕ). 0 < weight_of question layout.0) layouts
-    → any_allows question history layouts ≡ true → length history ≤ 52
+    → any_allows question history layouts ≡ true → length history ≤ MOST_MOVES
 short_if_any question history [] valid weigh told = absurd (false≢true told)
 short_if_any question history (layout ∷ layouts) valid weigh told =
     elim (or_cases (allows question layout.0 history) (any_allows question history layouts) told) [
@@ -43,8 +45,8 @@ short_if_any question history (layout ∷ layouts) valid weigh told =
     ]
 
 -- and so has one that some class layout allows
-pub some_allowed_short : (question : Question) (history : List ClassMove) → IsValid question
-    → true ≡ some_allows question history → length history ≤ 52
+pub some_allowed_short : (question : Question) (history : ClassHistory) → IsValid question
+    → true ≡ some_allows question history → length history ≤ MOST_MOVES
 some_allowed_short question history valid told =
     let come = all_to_come question history in
     short_if_any question history (class_layouts question (sizes_of question)) valid come.weigh (come.left ∙ sym told)

@@ -12,10 +12,12 @@ use Rattle.suit_plans.specs.BestReplies.{Reply, best_of, worth, worth_at, worth_
 use Rattle.suit_plans.specs.Properness.{sum_of}
 use Rattle.suit_plans.specs.ReplyLaws.{IsLeastOf, IsMostOf, WorthsUnfold, worths_with}
 use Rattle.suit_classes.proofs.UndecidedMoves.{HasFirst}
+use Rattle.suit_game.specs.declared.limits.TheConstants.{MOST_MOVES}
+use Rattle.suit_classes.specs.ClassMoves.{ClassHistory}
 
 -- one move less is left after a move more
-pub left_after : (history : List ClassMove) (move : ClassMove) (more : ℕ) → suc more ≡ 52 - length history
-    → more ≡ 52 - length (history ++ move ∷ [])
+pub left_after : (history : ClassHistory) (move : ClassMove) (more : ℕ) → suc more ≡ MOST_MOVES - length history
+    → more ≡ MOST_MOVES - length (history ++ move ∷ [])
 left_after history move more left = omega (arith, left, length-append history (move ∷ []))
 
 -- a class history of fewer than 52 moves is worth what its moves make of it
@@ -23,7 +25,7 @@ pub worth_next : WorthsUnfold
 unfolding worth_within
 worth_next reply history short =
     let more : ℕ = 51 - length history in
-    let here : 52 - length history ≡ suc more = omega (arith, short) in
+    let here : MOST_MOVES - length history ≡ suc more = omega (arith, short) in
     ap (λ (n : ℕ). worth_within n reply history) here
     ∙ ap (worth_at reply history)
     (map_same (λ move. worth_within more reply (history ++ move ∷ [])) (λ move. worth reply (history ++ move ∷ []))
@@ -32,7 +34,7 @@ worth_next reply history short =
     (left_after history move more (sym here))))
 
 -- one without moves is worth what is earned there
-pub ended_worth : (reply : Reply) (more : ℕ) (history : List ClassMove) → reply.moves history ≡ []
+pub ended_worth : (reply : Reply) (more : ℕ) (history : ClassHistory) → reply.moves history ≡ []
     → worth_within more reply history ≡ reply.earned history
 unfolding worth_within
 ended_worth reply zero history none = refl
@@ -40,8 +42,8 @@ ended_worth reply (suc more) history none =
     ap (λ (l : List ClassMove). worth_at reply history (map (λ move. worth_within more reply (history ++ move ∷ [])) l))
     none
 
-module _ (reply : Reply) (history : List ClassMove) (short : length history
-    < 52) (some : HasFirst (reply.moves history)) where
+module _ (reply : Reply) (history : ClassHistory) (short : length history
+    < MOST_MOVES) (some : HasFirst (reply.moves history)) where
   -- the worth of a turn by its first move and the others
   at_turn : (own : Bool) → reply.replies history ≡ own
       → worth reply history

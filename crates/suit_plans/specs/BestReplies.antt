@@ -53,7 +53,7 @@ worth_within zero reply history = reply.earned history
 worth_within (suc more) reply history =
     worth_at reply history (map (λ move. worth_within more reply (history ++ move ∷ [])) (reply.moves history))
 
--- what it is worth; no class history has more than 52 moves
+-- what it is worth; no class history has more than MOST_MOVES moves
 abbrev pub worth : Reply → ClassHistory → ℤ
 worth reply history = worth_within (MOST_MOVES - length history) reply history
 

@@ -72,7 +72,7 @@ let_through question side history mass move =
     else mass
 
 -- the mass of a class history that goes on from another, of which the mass is given
-unfoldable pub mass_from : Question → Side → ClassHistory → ℤ → List ClassMove → ℤ
+unfoldable pub mass_from : Question → Side → ClassHistory → ℤ → ClassHistory → ℤ
 mass_from question side history mass [] = mass
 mass_from question side history mass (move ∷ moves) =
     mass_from question side (history ++ move ∷ []) (let_through question side history mass move) moves

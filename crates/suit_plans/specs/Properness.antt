@@ -56,7 +56,7 @@ abbrev pub moves_of : Shares → List ClassMove
 moves_of shares = map (λ (count : ClassMove × ℤ). count.0) shares
 
 -- what is at fault with the shares of a row, where the legal moves and the mass are given
-abbrev pub shares_fault : List ClassMove → ℤ → Shares → Option PlanKind
+abbrev pub shares_fault : ClassHistory → ℤ → Shares → Option PlanKind
 shares_fault legal mass shares =
     if not (list_all (is_among legal) (moves_of shares) && are_rising (moves_of shares)) then Some Illegal
     else if not (list_all (λ (count : ClassMove × ℤ). int_le (pos 0) count.1) shares) then Some Negative

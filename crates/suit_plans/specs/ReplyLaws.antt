@@ -1,6 +1,6 @@
 -- What best replies are worth at each turn and within which bounds, what the entries of their lists are, and in what
 -- order they stand.
-use Rattle.std.specs.Prelude.{◌⊎◌, ◌≡◌, ℕ, ◌<◌, ◌^◌, ◌==◌, ◌&&◌, ◌||◌, nat_lt, Bool, true, false, List, [], ◌∷◌, ◌++◌}
+use Rattle.std.specs.Prelude.{◌⊎◌, ◌≡◌, ℕ, ◌<◌, ◌==◌, ◌&&◌, ◌||◌, nat_lt, Bool, true, false, List, [], ◌∷◌, ◌++◌}
 use Rattle.std.specs.Prelude.{length, map, get_or, Contains, ℤ, pos, ◌*ℤ◌, ◌≤ℤ◌, ◌<ℤ◌}
 use Rattle.suit_cards.specs.Cards.{Counts}
 use Rattle.suit_game.specs.declared.question.Question.{Question}
@@ -21,6 +21,7 @@ use Rattle.suit_plans.specs.BestReplies.{public_moves, reply_to_defence, reply_t
 use Rattle.suit_plans.specs.Masses.{is_declarers, is_defences, defence_mass, plan_mass}
 use Rattle.suit_plans.specs.Orders.{InOrder, history_before}
 use Rattle.suit_plans.specs.Properness.{IsProperDefence, IsProperPlan, some_allows, sum_of}
+use Rattle.suit_plans.specs.declared.plan.TheConstants.{WORTH_BOUND}
 
 -- ---- what a turn is worth
 
@@ -38,7 +39,7 @@ pub record IsMostOf (numbers : List ℤ) (number : ℤ) : Type 0 where
 abbrev pub worths_with : Reply → ClassHistory → List ClassMove → List ℤ
 worths_with reply history moves = map (λ move. worth reply (history ++ move ∷ [])) moves
 
--- a class history of fewer than 52 moves is worth what its moves make of it, whatever the reply
+-- a class history of fewer than MOST_MOVES moves is worth what its moves make of it, whatever the reply
 abbrev pub WorthsUnfold : Type 0
 WorthsUnfold = (reply : Reply) (history : ClassHistory) → length history < MOST_MOVES
     → worth reply history ≡ worth_at reply history (worths_with reply history (reply.moves history))
@@ -133,15 +134,15 @@ NoMassesAreWorthNothing = (question : Question) (defence : Defence) (history : C
     → defence_mass question defence layout.0 history ≡ pos 0)
     → worth (reply_to_defence question defence) history ≡ pos 0
 
--- so the least that a proper plan earns is not negative, and has fewer than 119 bits
+-- so the least that a proper plan earns is not negative, and below its bound
 abbrev pub LeastsAreBounded : Type 0
 LeastsAreBounded = (question : Question) (plan : Plan) → IsValid question → IsProperPlan question plan
-    → (pos 0 ≤ℤ least question plan) × (least question plan <ℤ pos (2 ^ 118))
+    → (pos 0 ≤ℤ least question plan) × (least question plan <ℤ WORTH_BOUND)
 
 -- and so it is with the most that a proper defence lets declarer earn
 abbrev pub MostsAreBounded : Type 0
 MostsAreBounded = (question : Question) (defence : Defence) → IsValid question → IsProperDefence question defence
-    → (pos 0 ≤ℤ most question defence) × (most question defence <ℤ pos (2 ^ 118))
+    → (pos 0 ≤ℤ most question defence) × (most question defence <ℤ WORTH_BOUND)
 
 -- ---- what the lists name
 

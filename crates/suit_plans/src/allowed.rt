@@ -6,6 +6,7 @@ ghost use Rattle.suit_classes.specs.ClassPlaces.{class_after, class_moves, class
 ghost use Rattle.suit_plans.specs.Masses.{weight_of};
 ghost use Rattle.suit_plans.specs.Properness.{goes_undecided, some_allows};
 ghost use Rattle.suit_plans.specs.Starts.{IsStart};
+ghost use Rattle.suit_game.specs.declared.limits.TheConstants.{MOST_MOVES};
 
 use suit_classes::{ClassMove, ClassPlace, Classes, is_among};
 use suit_game::Question;
@@ -65,7 +66,7 @@ fn has_move(place: &ClassPlace, counts: &[u8], mv: ClassMove) -> bool
 
 /// Where a class history leads that goes past no decided position.
 pub(crate) fn undecided_place(question: &Question, history: &[ClassMove]) -> Option<ClassPlace>
-    requires { length history.now ≤ 52 }
+    requires { length history.now ≤ MOST_MOVES }
     ensures { MatchOption result (goes_undecided (class_start question.now) history.now
         ≡ false) (λ place. (goes_undecided (class_start question.now) history.now ≡ true)
         × (place ≡ class_after question.now history.now)) }

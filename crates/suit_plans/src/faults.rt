@@ -5,7 +5,7 @@ use thiserror::Error;
 /// kinds in this order.
 #[derive(Clone, Copy, Debug, PartialEq, Eq, Error)]
 pub enum PlanKind {
-    /// A denominator that is not from 1 to 2^90.
+    /// A denominator that is not from 1 to `MOST_DEN`.
     #[error("the denominator is not from 1 to 2^90")]
     Den = 1,
     /// A row at a class history that cannot have one: no class layout with a weight allows it (a row of a

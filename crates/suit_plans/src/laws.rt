@@ -19,7 +19,7 @@ pub fn defences_are_realised()
     ensures { DefencesAreRealised }
 {}
 
-/// What a class history of fewer than 52 moves is worth to a reply is what its moves make of it.
+/// What a class history of fewer than `MOST_MOVES` is worth to a reply is what its moves make of it.
 pub fn worths_unfold()
     ensures { WorthsUnfold }
 {}
@@ -74,12 +74,12 @@ pub fn no_masses_are_worth_nothing()
     ensures { NoMassesAreWorthNothing }
 {}
 
-/// What a proper plan earns at least is not negative, and below 2^118.
+/// What a proper plan earns at least is not negative, and below `WORTH_BOUND`.
 pub fn leasts_are_bounded()
     ensures { LeastsAreBounded }
 {}
 
-/// What a proper defence lets declarer earn at most is not negative, and below 2^118.
+/// What a proper defence lets declarer earn at most is not negative, and below `WORTH_BOUND`.
 pub fn mosts_are_bounded()
     ensures { MostsAreBounded }
 {}

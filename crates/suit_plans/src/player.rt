@@ -6,6 +6,7 @@ ghost use Rattle.suit_plans.specs.declared.plan.TheConstants.{MOST_DEN};
 ghost use Rattle.suit_plans.specs.Masses.{declarer, defenders, mass_of, let_through, weight_of};
 ghost use Rattle.suit_plans.specs.Orders.{InOrder, defence_row_before, plan_row_before};
 ghost use Rattle.suit_plans.specs.Players.{AreOrdered, side_of};
+ghost use Rattle.suit_game.specs.declared.limits.TheConstants.{MOST_MOVES};
 
 use super::turns::{is_declarers, is_defences, is_first};
 use super::{Counts, DefenceRow, Row, defence_shares_at, plan_shares_at, share};
@@ -108,10 +109,10 @@ impl<'a> Player<'a> {
         )
     }
 
-    /// The mass of a class history, which has at most 52 moves.
+    /// The mass of a class history, which has at most `MOST_MOVES`.
     pub(crate) fn mass(&self, question: &Question, history: &[ClassMove]) -> i128
         requires ordered { AreOrdered self.now.rows }
-        requires short { length history.now ≤ 52 }
+        requires short { length history.now ≤ MOST_MOVES }
         ensures { result ≡ mass_of question.now (side_of self.now) history.now }
     {
         let mut place = ClassPlace::start(question, &Classes::of(question));

@@ -7,6 +7,7 @@ ghost use Rattle.suit_plans.specs.Orders.{InOrder, defence_row_before, plan_row_
 ghost use Rattle.suit_plans.specs.Players.{AreOrdered, side_of};
 ghost use Rattle.suit_plans.specs.Properness.{defence_row_fault, defence_verdict, last_passes, plan_row_fault};
 ghost use Rattle.suit_plans.specs.Properness.{plan_verdict, row_fault};
+ghost use Rattle.suit_game.specs.declared.limits.TheConstants.{MOST_MOVES};
 
 use super::allowed::{allows, some_allows, undecided_place};
 use super::lookup::is_row_before;
@@ -177,7 +178,7 @@ fn row_fault(
     ordered: bool,
 ) -> Option<PlanKind>
     requires order { AreOrdered player.now.rows }
-    requires short { length history.now ≤ 52 }
+    requires short { length history.now ≤ MOST_MOVES }
     ensures { result ≡ row_fault question.now (side_of player.now) history.now shares.now true ordered }
 {
     let Some(place) = undecided_place(question, history) else {

@@ -33,18 +33,18 @@ use Rattle.suit_reply.specs.Turns.{finished, gathered}
 use Rattle.suit_reply.specs.NodeMoves.{is_first_of}
 use Rattle.suit_reply.specs.AgainstPlan.{least_at, node_least, nodes_for, plan_share}
 use Rattle.suit_tree.proofs.FittedNodes.{map_fitted, map_fitted_kept}
-use Rattle.suit_reply.proofs.TurnReplies.GatheredWorths.{found_with, least_gathered, results_of, same_found}
+use Rattle.suit_reply.proofs.WorthAtATurn.SumOrBest.{found_with, least_gathered, results_of, same_found}
 use Rattle.suit_plans.proofs.WhoseTurns.{Declarers, Defences, Over, WhoseTurn, whose_turn}
 use Rattle.suit_tree.proofs.HeldMoves.{held_decides, held_moves, index_goes_on}
 use Rattle.suit_tree.specs.Nodes.{is_held}
-use Rattle.suit_reply.proofs.HeldMoves.{AreBelow, AreChildren, IsDecided, IsDeclarersTurn, IsDefencesTurn, IsGoing}
-use Rattle.suit_reply.proofs.HeldMoves.{NotDeclarersTurn, NotDefencesTurn, layout_counts, layout_moves, moves_below}
-use Rattle.suit_reply.proofs.HeldMoves.{own_moves_on, some_move}
-use Rattle.suit_reply.proofs.ReachedChoices.Walks.{walked}
+use Rattle.suit_reply.proofs.OwnMovesGoOn.{AreBelow, AreChildren, IsDecided, IsDeclarersTurn, IsDefencesTurn, IsGoing}
+use Rattle.suit_reply.proofs.OwnMovesGoOn.{NotDeclarersTurn, NotDefencesTurn, layout_counts, layout_moves, moves_below}
+use Rattle.suit_reply.proofs.OwnMovesGoOn.{own_moves_on, some_move}
+use Rattle.suit_reply.proofs.ChoicesAlongAReply.WalkOfAReply.{walked}
 use Rattle.suit_reply.proofs.LeastByNodes.Cases.{LeastCase, case_allows, case_next, last_decided, moves_then, reply_at}
 use Rattle.suit_reply.proofs.LeastByNodes.Cases.{walked_decided, worth_decided}
 use Rattle.suit_reply.proofs.LeastByNodes.NoMass.{found_none}
-use Rattle.suit_reply.proofs.TurnReplies.{best_turn, found_from, found_next, summed_turn}
+use Rattle.suit_reply.proofs.WorthAtATurn.{best_turn, found_from, found_next, summed_turn}
 
 at_declarers : (turn : ClassTurn) (payoff index : ℕ) (mass : ℤ) (history : ClassHistory) (rows : List Row)
     (nodes : List Node) (next : Node → ℤ → NodeReplyView) → is_declarers turn ≡ true

@@ -1,8 +1,8 @@
 -- most_by_nodes: what the nodes of a tree tell is the best reply to a defence.
-pub mod AllowingLayouts
+pub mod WhichLayoutsAllow
 pub mod Cases
 pub mod LiveMasses
-pub mod MassesBelow
+pub mod MassesWithAMoveMore
 use Rattle.std.proofs.Common.{◌≡◌, ℕ, zero, suc, Bool, true, false, List, [], ◌∷◌, ◌++◌, map, refl, sym, ap, ◌∙◌}
 use Rattle.std.specs.Prelude.{Contains, filter, if◌then◌else◌, pos, unwrap_or, ℤ, ◌*ℤ◌}
 use Rattle.std.proofs.lemmas.Bool.{false≢true}
@@ -29,19 +29,19 @@ use Rattle.suit_reply.specs.NodeReplies.{NodeReplyView}
 use Rattle.suit_reply.specs.Turns.{finished, gathered}
 use Rattle.suit_reply.specs.AgainstDefence.{LayoutMasses, if_live, is_live, layout_share, most_at, node_most}
 use Rattle.suit_reply.specs.AgainstDefence.{shared_masses}
-use Rattle.suit_reply.proofs.MostByNodes.AllowingLayouts.{earned_at, mass_at}
+use Rattle.suit_reply.proofs.MostByNodes.WhichLayoutsAllow.{earned_at, mass_at}
 use Rattle.suit_tree.proofs.FittedNodes.{map_fitted}
-use Rattle.suit_reply.proofs.TurnReplies.GatheredWorths.{found_with, most_gathered, results_of, same_found}
+use Rattle.suit_reply.proofs.WorthAtATurn.SumOrBest.{found_with, most_gathered, results_of, same_found}
 use Rattle.suit_plans.proofs.WhoseTurns.{Declarers, Defences, Over, WhoseTurn, whose_turn}
-use Rattle.suit_reply.proofs.HeldMoves.{AreBelow, AreChildren, IsDecided, IsDeclarersTurn, IsDefencesTurn, IsGoing}
-use Rattle.suit_reply.proofs.HeldMoves.{NotDeclarersTurn, NotDefencesTurn, layouts_of}
+use Rattle.suit_reply.proofs.OwnMovesGoOn.{AreBelow, AreChildren, IsDecided, IsDeclarersTurn, IsDefencesTurn, IsGoing}
+use Rattle.suit_reply.proofs.OwnMovesGoOn.{NotDeclarersTurn, NotDefencesTurn, layouts_of}
 use Rattle.suit_reply.proofs.LeastByNodes.{told_of}
 use Rattle.suit_reply.proofs.MostByNodes.LiveMasses.{live_total}
-use Rattle.suit_reply.proofs.MostByNodes.MassesBelow.{masses_pass, masses_stay}
+use Rattle.suit_reply.proofs.MostByNodes.MassesWithAMoveMore.{masses_pass, masses_stay}
 use Rattle.suit_reply.proofs.MostByNodes.Cases.{MostCase, masses_at, most_decided, most_empty, most_last, most_live}
 use Rattle.suit_reply.proofs.MostByNodes.Cases.{most_moves, most_next, most_walked, index_positive, some_on}
-use Rattle.suit_reply.proofs.TurnReplies.{best_turn, found_from, found_next, summed_turn}
-use Rattle.suit_reply.proofs.ReachedChoices.Walks.{walked}
+use Rattle.suit_reply.proofs.WorthAtATurn.{best_turn, found_from, found_next, summed_turn}
+use Rattle.suit_reply.proofs.ChoicesAlongAReply.WalkOfAReply.{walked}
 
 -- ---- where a history is decided
 

@@ -23,6 +23,7 @@ use Rattle.suit_reply.specs.declared.turn_rule.TurnRule.TheVariants.{Sum, Least}
 use Rattle.suit_reply.specs.NodeMoves.{is_first_of}
 use Rattle.suit_reply.specs.NodeReplies.{NodeReplyView, nothing}
 use Rattle.suit_reply.specs.Turns.{finished, gathered}
+use Rattle.suit_plans.specs.declared.plan.TheConstants.{MOST_DEN}
 
 -- ---- what is asked
 
@@ -44,7 +45,7 @@ pub record LeastNode (rows : List Row) (index : ℕ) (history : ClassHistory) (m
   pub held : Contains (allowing question history) index
   pub tree : IsTreeAt (MOST_MOVES - length history) question history node
   pub is_mass : mass ≡ plan_mass question plan history
-  pub within : mass ≤ℤ pos (2 ^ 90)
+  pub within : mass ≤ℤ MOST_DEN
 
 -- ---- what is found
 

@@ -8,6 +8,9 @@ ghost use Rattle.suit_plans.specs.Properness.{sum_of};
 ghost use Rattle.suit_tree.specs.Nodes.{children_of, holds_index, move_of, turn_at};
 ghost use Rattle.suit_reply.specs.AgainstDefence.{IsDefenceFor, MostNode, is_live, layout_share, most_gathers};
 ghost use Rattle.suit_reply.specs.AgainstDefence.{node_most, shared_masses};
+ghost use Rattle.suit_game.specs.declared.limits.TheConstants.{MOST_MOVES, MOST_TOTAL, HAND_SIZE};
+ghost use Rattle.suit_layouts.specs.declared.class_list.TheConstants.{MOST_CLASS_LAYOUTS};
+ghost use Rattle.suit_plans.specs.declared.plan.TheConstants.{MOST_DEN};
 
 use super::chosen_move::ChosenMove;
 use super::node_moves::is_first_for;
@@ -76,9 +79,9 @@ pub(crate) struct AgainstDefence<'a> {
 impl AgainstDefence<'_> {
     // The masses of the empty history, by the indices of the class layouts.
     fn whole_masses(&self, den: i128) -> Result<Vec<(u8, i128)>, AllocError>
-        requires few { length self.now.layouts.now ≤ 162 }
-        requires weights { All (λ layout. layout.1 ≤ 10400600) self.now.layouts.now }
-        requires den { (pos 1 ≤ℤ den) × (den ≤ℤ pos (2 ^ 90)) }
+        requires few { length self.now.layouts.now ≤ MOST_CLASS_LAYOUTS }
+        requires weights { All (λ layout. layout.1 ≤ MOST_TOTAL) self.now.layouts.now }
+        requires den { (pos 1 ≤ℤ den) × (den ≤ℤ MOST_DEN) }
         ensures { IfOk result (λ masses. masses.items
             ≡ map (λ index. (index, pos (get_or self.now.layouts.now index ([], 0)).1 *ℤ den))
             (range_with_len 0 (length self.now.layouts.now))) }
@@ -101,7 +104,7 @@ impl AgainstDefence<'_> {
     ) -> Result<NodeReply, AllocError>
         requires { MostNode self.now.layouts.now self.now.rows.now history.old.items masses.now node.now }
         ensures reply { IfOk result (λ reply. reply
-            ≡ node_most (52 - length history.old.items) self.now.layouts.now self.now.rows.now history.old.items
+            ≡ node_most (MOST_MOVES - length history.old.items) self.now.layouts.now self.now.rows.now history.old.items
             masses.now node.now) }
         ensures kept { OnOk result (history.new.items ≡ history.old.items) }
     {
@@ -215,8 +218,8 @@ fn add_live(masses: &mut Vec<(u8, i128)>, index: u8, mass: i128) -> Result<(), A
 
 // The mass of the empty history in a class layout with this weight.
 fn weighed(weight: u64, den: i128) -> i128
-    requires weight { weight ≤ 10400600 }
-    requires den { (pos 1 ≤ℤ den) × (den ≤ℤ pos (2 ^ 90)) }
+    requires weight { weight ≤ MOST_TOTAL }
+    requires den { (pos 1 ≤ℤ den) × (den ≤ℤ MOST_DEN) }
     ensures { result ≡ pos weight *ℤ den }
 {
     weight as i128 * den
@@ -224,7 +227,7 @@ fn weighed(weight: u64, den: i128) -> i128
 
 // What a decided class history is worth.
 fn earned(payoff: u64, masses: &[(u8, i128)]) -> i128
-    requires payoff { payoff ≤ 13 }
+    requires payoff { payoff ≤ HAND_SIZE }
     requires positive { All (λ held. pos 0 ≤ℤ held.1) masses.now }
     requires within { sum_of (map (λ held. held.1) masses.now) ≤ℤ pos (2 ^ 114) }
     ensures { result ≡ sum_of (map (λ held. pos payoff *ℤ held.1) masses.now) }
@@ -238,7 +241,7 @@ fn earned(payoff: u64, masses: &[(u8, i128)]) -> i128
 
 // What a payoff is worth for a mass.
 fn paid(payoff: u64, mass: i128) -> i128
-    requires payoff { payoff ≤ 13 }
+    requires payoff { payoff ≤ HAND_SIZE }
     requires mass { (pos 0 ≤ℤ mass) × (mass ≤ℤ pos (2 ^ 114)) }
     ensures { result ≡ pos payoff *ℤ mass }
 {

@@ -5,6 +5,7 @@ ghost use Rattle.suit_plans.specs.Orders.{InOrder, plan_row_before};
 ghost use Rattle.suit_tree.specs.Nodes.{children_of, turn_at};
 ghost use Rattle.suit_reply.specs.AgainstPlan.{IsPlanFor, LeastNode, goes_to, node_least, plan_share};
 ghost use Rattle.suit_reply.specs.LayoutsReplies.{IsReplyIn};
+ghost use Rattle.suit_game.specs.declared.limits.TheConstants.{MOST_MOVES};
 
 use super::chosen_move::ChosenMove;
 use super::layouts_reply::LayoutsReply;
@@ -108,7 +109,7 @@ impl AgainstPlan<'_> {
     ) -> Result<NodeReply, AllocError>
         requires { LeastNode self.now.rows.now index history.old.items mass node.now }
         ensures reply { IfOk result (λ reply. reply
-            ≡ node_least (52 - length history.old.items) self.now.rows.now index history.old.items mass node.now) }
+            ≡ node_least (MOST_MOVES - length history.old.items) self.now.rows.now index history.old.items mass node.now) }
         ensures kept { OnOk result (history.new.items ≡ history.old.items) }
     {
         if mass == 0 {

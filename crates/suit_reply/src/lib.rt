@@ -8,8 +8,6 @@ mod layouts_reply;
 mod node_moves;
 mod node_reply;
 mod on_threads;
-#[cfg(test)]
-mod tests;
 mod turn_rule;
 mod turn_so_far;
 

@@ -23,9 +23,11 @@ use Rattle.suit_tree.specs.Nodes.{children_of, move_to}
 use Rattle.suit_tree.specs.Paths.{IsCounted, is_by, nodes_at, nodes_by}
 use Rattle.suit_tree.specs.Trees.{AllFit, IsTreeAt, StandsAt, allowing, counts_at, layout_indices, moves_on}
 use Rattle.suit_tree.specs.TreeLaws.{listed_counts}
-use Rattle.suit_tree.proofs.ListedLayouts.{listed_allow, listed_tells}
+use Rattle.suit_tree.proofs.ToldIsAllowed.{listed_allow, listed_tells}
 use Rattle.suit_tree.proofs.ListedHistories.{GoesOn, goes_on, goes_past}
 use Rattle.suit_tree.proofs.NodePaths.{IsOpen, no_node, one_node, tree_stands}
+use Rattle.suit_game.specs.declared.limits.TheConstants.{MOST_MOVES}
+use Rattle.suit_classes.specs.ClassMoves.{ClassHistory}
 
 -- a number of those below one is below it
 pub in_range_below : (count index : ℕ) → Contains (range_with_len 0 count) index → index < count
@@ -42,7 +44,7 @@ counts_listed question index below =
     (Contains-get_or (listed_counts question) index [] (omega (arith, below, length-map layouts counts)))
 
 -- a node holds the indices of exactly those class layouts that allow its history
-pub kept_layouts : (question : Question) (history : List ClassMove) (index : ℕ) → IsValid question
+pub kept_layouts : (question : Question) (history : ClassHistory) (index : ℕ) → IsValid question
     → Contains (allowing question history) index
     ↔ ((index < length (class_layouts question (sizes_of question)))
     × Allows question (counts_at (class_layouts question (sizes_of question)) index) history)
@@ -78,7 +80,7 @@ index_of question counts found =
     (found.0, below, sym (get_or-map here layouts found.0 ([], 0) counts below) ∙ found.2)
 
 -- a history that is counted is a path that some class layout allows past no decided position
-counted_open : (question : Question) (counts : List ℕ) (history : List ClassMove) → IsValid question
+counted_open : (question : Question) (counts : List ℕ) (history : ClassHistory) → IsValid question
     → Contains (listed_counts question) counts
     → IsCounted question counts history → IsOpen question [] history
 counted_open question counts history valid found counted =
@@ -93,15 +95,15 @@ counted_open question counts history valid found counted =
     }
 
 -- at its path stands one node
-pub one_node_at_each_path : (question : Question) (counts : List ℕ) (history : List ClassMove) (root : Node)
+pub one_node_at_each_path : (question : Question) (counts : List ℕ) (history : ClassHistory) (root : Node)
     → IsValid question → Contains (listed_counts question) counts
-    → IsCounted question counts history → IsTreeAt 52 question [] root → (node : Node)
+    → IsCounted question counts history → IsTreeAt MOST_MOVES question [] root → (node : Node)
     × (nodes_at history root ≡ node ∷ []) × StandsAt question history node
 one_node_at_each_path question counts history root valid found counted tree =
-    let one = one_node 52 question [] history root tree
+    let one = one_node MOST_MOVES question [] history root tree
     (class_histories_are_short question counts history counted.allowed)
     (counted_open question counts history valid found counted) in
-    (one.0, one.1, tree_stands (52 - length history) question history one.0 one.2)
+    (one.0, one.1, tree_stands (MOST_MOVES - length history) question history one.0 one.2)
 
 -- where nodes fit, each of them has what fits give
 pub fit_each : (Fits : ClassMove → Node → Type 0) (P : Node → Type 0)
@@ -114,20 +116,20 @@ fit_each Fits P gives (move ∷ moves) [] fit = absurd fit
 fit_each Fits P gives (move ∷ moves) (node ∷ nodes) fit =
     (gives move node fit.0, fit_each Fits P gives moves nodes fit.1)
 
-none_case : (path : List ClassMove) (node : Node) (rest : List Node) (b : Bool) → nodes_at path node ≡ []
+none_case : (path : ClassHistory) (node : Node) (rest : List Node) (b : Bool) → nodes_at path node ≡ []
     → flat_map (nodes_at path) rest ≡ []
     → flat_map (nodes_at path) (cond b (node ∷ rest) rest) ≡ []
 none_case path node rest true none later = ap (λ (l : List Node). l ++ flat_map (nodes_at path) rest) none ∙ later
 none_case path node rest false none later = later
 
-none_each : (move : ClassMove) (path : List ClassMove) (nodes : List Node)
+none_each : (move : ClassMove) (path : ClassHistory) (nodes : List Node)
     → AllByRecursion (λ node. nodes_at path node ≡ []) nodes → flat_map (nodes_at path) (nodes_by move nodes) ≡ []
 none_each move path [] none = refl
 none_each move path (node ∷ nodes) none =
     none_case path node (nodes_by move nodes) (is_by move (move_to node)) none.0 (none_each move path nodes none.1)
 
 -- no node stands deeper than the tree may go
-too_deep : (more : ℕ) (question : Question) (history path : List ClassMove) (node : Node)
+too_deep : (more : ℕ) (question : Question) (history path : ClassHistory) (node : Node)
     → IsTreeAt more question history node → more < length path → nodes_at path node ≡ []
 unfolding nodes_at IsTreeAt
 too_deep more question history [] node tree deep = absurd (omega (arith, deep))
@@ -141,7 +143,7 @@ too_deep (suc more) question history (move ∷ path) node tree deep =
     (moves_on question history) (children_of node) tree.1)
 
 -- a path that some class layout allows past no decided position is counted for some class layout
-open_counted : (question : Question) (history : List ClassMove) → IsValid question → IsOpen question [] history
+open_counted : (question : Question) (history : ClassHistory) → IsValid question → IsOpen question [] history
     → (counts : List ℕ) × Contains (listed_counts question) counts × IsCounted question counts history
 open_counted question history valid is =
     let kept : List ℕ = allowing question history in
@@ -182,18 +184,18 @@ none_before question [] rest same some = absurd (some (sym same))
 none_before question (move ∷ start) rest same some = cc
 
 -- at the path of no other history stands a node
-pub no_other_node : (question : Question) (history : List ClassMove) (root : Node) → IsValid question
+pub no_other_node : (question : Question) (history : ClassHistory) (root : Node) → IsValid question
     → ((counts : List ℕ) → Contains (listed_counts question) counts → IsCounted question counts history → ⊥)
-    → IsTreeAt 52 question [] root → nodes_at history root ≡ []
+    → IsTreeAt MOST_MOVES question [] root → nodes_at history root ≡ []
 no_other_node question [] root valid other tree =
     let some = some_layout question valid in
     absurd (other some.0 some.1 (record {
       allowed = listed_allow question some.0 valid some.1;
       undecided = none_before question;
     }))
-no_other_node question (move ∷ path) root valid other tree = elim (cases_lt 52 (length (move ∷ path))) [
-  | inl deep ↦ too_deep 52 question [] (move ∷ path) root tree deep
+no_other_node question (move ∷ path) root valid other tree = elim (cases_lt MOST_MOVES (length (move ∷ path))) [
+  | inl deep ↦ too_deep MOST_MOVES question [] (move ∷ path) root tree deep
   | inr few ↦
-      no_node 52 question [] move path root tree few
+      no_node MOST_MOVES question [] move path root tree few
       (λ is. let counted = open_counted question (move ∷ path) valid is in other counted.0 counted.1 counted.2)
 ]

@@ -25,8 +25,9 @@ use Rattle.suit_tree.specs.Growing.{moves_within, pairs_from}
 use Rattle.suit_tree.specs.Nodes.{children_of, move_to}
 use Rattle.suit_tree.specs.TreeEnds.{IsPastBudget}
 use Rattle.suit_tree.specs.Trees.{AllFit}
-use Rattle.suit_tree.proofs.KeptIndices.{all_kept}
+use Rattle.suit_tree.proofs.WhichIndicesStay.{all_kept}
 use Rattle.suit_tree.proofs.MovesOn.{unless_parts}
+use Rattle.suit_game.specs.declared.limits.TheConstants.{MOST_MOVES}
 
 -- a child stands below a node by a move
 abbrev pub Below : ℕ → List (Counts × ℕ) → ClassView → Indices → ClassMove → Node → Type 0
@@ -247,7 +248,7 @@ module _ (layouts : List (Counts × ℕ)) (view : ClassView) (indices : Indices)
 
 -- after one more move there is room for one less
 pub room_next : (more : ℕ) (view next : ClassView) (move : ClassMove) → HasRoom more view → 0 < more
-    → ((question : Question) (history : ClassHistory) → length history ≤ 52 → view ≡ class_after question history
+    → ((question : Question) (history : ClassHistory) → length history ≤ MOST_MOVES → view ≡ class_after question history
     → next ≡ class_after question (history ++ move ∷ []))
     → HasRoom (more - 1) next
 room_next more view next move room some step = record {
@@ -259,7 +260,7 @@ room_next more view next move room some step = record {
 
 -- and it is the position after the move
 pub step_next : (more : ℕ) (view next : ClassView) (move : ClassMove) → HasRoom more view
-    → ((question : Question) (history : ClassHistory) → length history ≤ 52 → view ≡ class_after question history
+    → ((question : Question) (history : ClassHistory) → length history ≤ MOST_MOVES → view ≡ class_after question history
     → next ≡ class_after question (history ++ move ∷ []))
     → next ≡ class_step view move
 step_next more view next move room step =

@@ -17,12 +17,14 @@ use Rattle.suit_classes.specs.AllowedHistories.{allows, allows_from, is_among}
 use Rattle.suit_tree.specs.CountedHistories.{continued, counted_histories}
 use Rattle.suit_tree.specs.Paths.{IsCounted}
 use Rattle.suit_classes.proofs.SameMoves.{among-Contains, among_contained}
-use Rattle.suit_tree.proofs.ListedLayouts.{listed_tells}
+use Rattle.suit_tree.proofs.ToldIsAllowed.{listed_tells}
 use Rattle.suit_classes.proofs.DistinctMoves.{once_class_moves}
 use Rattle.suit_game.proofs.DistinctElements.{IsOnce, each_flat_map, once_flat_map, once_pairs}
 use Rattle.suit_classes.proofs.DistinctMoves.{once_unless}
 use Rattle.suit_classes.specs.Classes.{sizes_of}
 use Rattle.suit_layouts.specs.ClassLayouts.{class_layouts}
+use Rattle.suit_game.specs.declared.limits.TheConstants.{MOST_MOVES}
+use Rattle.suit_classes.specs.ClassMoves.{ClassHistory}
 
 -- no position that moves go past is decided
 unfoldable pub GoesOn : ClassView → List ClassMove → Type 0
@@ -49,7 +51,7 @@ goes_on view (move ∷ moves) past = (
 )
 
 -- a history that goes on from another by at most so many moves, which counts allow, past no decided position
-pub record Continues (more : ℕ) (question : Question) (counts : List ℕ) (before history : List ClassMove) : Type 0 where
+pub record Continues (more : ℕ) (question : Question) (counts : List ℕ) (before history : ClassHistory) : Type 0 where
   pub moves : List ClassMove
   pub parts : history ≡ before ++ moves
   pub few : length moves ≤ more
@@ -63,7 +65,7 @@ continues_none more question counts before =
     record { moves = []; parts = sym (append-nil before); few = omega arith; allowed = refl; undecided = tt }
 
 continues_more : (more : ℕ) (question : Question) (counts : List ℕ) (before : List ClassMove) (move : ClassMove)
-    (history : List ClassMove)
+    (history : ClassHistory)
     → Contains (class_moves (class_after question before) counts) move
     → class_decided (class_after question before) ≡ false
     → Continues more question counts (before ++ move ∷ []) history → Continues (suc more) question counts before history
@@ -114,14 +116,14 @@ pub Contains-continued : (more : ℕ) (question : Question) (counts : List ℕ) 
     → Contains (continued more question counts before) (before ++ moves)
 unfolding continued allows_from GoesOn
 Contains-continued zero question counts before [] few allowed undecided =
-    subst (λ (h : List ClassMove). Contains (before ∷ []) h) (sym (append-nil before)) (Contains-first before [])
+    subst (λ (h : ClassHistory). Contains (before ∷ []) h) (sym (append-nil before)) (Contains-first before [])
 Contains-continued zero question counts before (move ∷ moves) few allowed undecided = absurd (omega arith)
 Contains-continued (suc more) question counts before [] few allowed undecided =
     let later : List (List ClassMove) =
     if class_decided (class_after question before) then []
     else flat_map (λ move. continued more question counts (before ++ move ∷ []))
     (class_moves (class_after question before) counts) in
-    subst (λ (h : List ClassMove). Contains (before ∷ later) h) (sym (append-nil before)) (Contains-first before later)
+    subst (λ (h : ClassHistory). Contains (before ∷ later) h) (sym (append-nil before)) (Contains-first before later)
 Contains-continued (suc more) question counts before (move ∷ moves) few allowed undecided =
     let view : ClassView = class_after question before in
     let next : ClassMove → List (List ClassMove) = λ move. continued more question counts (before ++ move ∷ []) in
@@ -131,7 +133,7 @@ Contains-continued (suc more) question counts before (move ∷ moves) few allowe
     let parts = and_parts (is_among (class_moves view counts) move) (allows_from counts (class_step view move) moves)
     allowed in
     let there : Contains (next move) (before ++ move ∷ moves) =
-    subst (λ (h : List ClassMove). Contains (next move) h) (append_assoc before (move ∷ []) moves)
+    subst (λ (h : ClassHistory). Contains (next move) h) (append_assoc before (move ∷ []) moves)
     (Contains-continued more question counts (before ++ move ∷ []) moves (omega (arith, few))
     (subst (λ (v : ClassView). allows_from counts v moves ≡ true) (sym after) parts.1)
     (subst (λ (v : ClassView). GoesOn v moves) (sym after) undecided.1)) in
@@ -140,7 +142,7 @@ Contains-continued (suc more) question counts before (move ∷ moves) few allowe
     (Contains-flat_map next (class_moves view counts) move (before ++ move
     ∷ moves) (among-Contains (class_moves view counts) move parts.0) there))
 
-longer : (before : List ClassMove) (move : ClassMove) (moves history : List ClassMove)
+longer : (before : List ClassMove) (move : ClassMove) (moves history : ClassHistory)
     → history ≡ (before ++ move ∷ []) ++ moves → before ≡ history → ⊥
 longer before move moves history parts same =
     let whole : length before ≡ length (before ++ move ∷ moves) =
@@ -166,7 +168,7 @@ continued_once zero question counts before = (tt, tt)
 continued_once (suc more) question counts before =
     let view : ClassView = class_after question before in
     let next : ClassMove → List (List ClassMove) = λ move. continued more question counts (before ++ move ∷ []) in
-    let goes : (move : ClassMove) (history : List ClassMove) → Contains (next move) history
+    let goes : (move : ClassMove) (history : ClassHistory) → Contains (next move) history
     → Continues more question counts (before ++ move ∷ []) history =
     λ move history found.
     each_at (Continues more question counts (before ++ move ∷ [])) (next move) history
@@ -187,23 +189,23 @@ continued_once (suc more) question counts before =
     )
 
 -- exactly the histories that counts allow and that go past no decided position are counted
-pub counted_exactly : (question : Question) (counts : List ℕ) (history : List ClassMove) → IsValid question
+pub counted_exactly : (question : Question) (counts : List ℕ) (history : ClassHistory) → IsValid question
     → Contains (map (λ (layout : List ℕ × ℕ). layout.0) (class_layouts question (sizes_of question))) counts
     → Contains (counted_histories question counts) history ↔ IsCounted question counts history
 unfolding counted_histories allows
 counted_exactly question counts history valid layout = (
   λ found.
-      let goes = each_at (Continues 52 question counts []) (continued 52 question counts []) history
-      (continued_go 52 question counts []) found in
+      let goes = each_at (Continues MOST_MOVES question counts []) (continued MOST_MOVES question counts []) history
+      (continued_go MOST_MOVES question counts []) found in
       record {
         allowed = (listed_tells question counts history valid layout).0
-            (subst (λ (h : List ClassMove). allows_from counts (class_start question) h
+            (subst (λ (h : ClassHistory). allows_from counts (class_start question) h
             ≡ true) (sym goes.parts) goes.allowed);
         undecided = λ start rest is some. goes_past (class_start question) start rest
             (subst (GoesOn (class_start question)) (sym goes.parts ∙ is) goes.undecided) some;
       },
   λ counted.
-      Contains-continued 52 question counts [] history
+      Contains-continued MOST_MOVES question counts [] history
       (class_histories_are_short question counts history counted.allowed)
       ((listed_tells question counts history valid layout).1 counted.allowed)
       (goes_on (class_start question) history counted.undecided),
@@ -213,4 +215,4 @@ counted_exactly question counts history valid layout = (
 pub counted_once : (question : Question) (counts : List ℕ)
     → AllPairs (λ here there. here ≢ there) (counted_histories question counts)
 unfolding counted_histories
-counted_once question counts = once_pairs (continued 52 question counts []) (continued_once 52 question counts [])
+counted_once question counts = once_pairs (continued MOST_MOVES question counts []) (continued_once MOST_MOVES question counts [])

@@ -28,6 +28,7 @@ use Rattle.suit_classes.proofs.DistinctMoves.{once_unless}
 use Rattle.suit_classes.proofs.ToldHistories.{allows-push}
 use Rattle.suit_classes.specs.Classes.{sizes_of}
 use Rattle.suit_layouts.specs.ClassLayouts.{class_layouts}
+use Rattle.suit_classes.specs.ClassMoves.{ClassHistory}
 
 abbrev leads_n : List ClassMove
 leads_n = map (Lead N) class_numbers
@@ -142,7 +143,7 @@ once_every_move =
     (refl, tt))
 
 -- nor among those by which a history goes on
-pub once_moves_on : (question : Question) (history : List ClassMove) → IsOnce (moves_on question history)
+pub once_moves_on : (question : Question) (history : ClassHistory) → IsOnce (moves_on question history)
 unfolding moves_on
 once_moves_on question history =
     let test : ClassMove → Bool = λ move. nat_lt 0 (length (allowing question (history ++ move ∷ []))) in
@@ -197,7 +198,7 @@ allowing_start question start later some =
     (λ index allowed. allows_start (counts_at layouts index) (class_start question) start later allowed) some
 
 -- and its last move is one of all moves
-pub allowing_move : (question : Question) (history : List ClassMove) (move : ClassMove)
+pub allowing_move : (question : Question) (history : ClassHistory) (move : ClassMove)
     → 0 < length (allowing question (history ++ move ∷ [])) → Contains every_move move
 unfolding allowing
 allowing_move question history move some =
@@ -211,7 +212,7 @@ allowing_move question history move some =
     Contains-every_move view counts move (among-Contains (class_moves view counts) move parts.1)
 
 -- a move by which some class layout allows an undecided history to go on is one of those
-pub Contains-moves_on : (question : Question) (history : List ClassMove) (move : ClassMove)
+pub Contains-moves_on : (question : Question) (history : ClassHistory) (move : ClassMove)
     → class_decided (class_after question history) ≡ false
     → 0 < length (allowing question (history ++ move ∷ [])) → Contains (moves_on question history) move
 unfolding moves_on
@@ -228,7 +229,7 @@ unless_parts true moves move found = absurd (Contains-nil move found)
 unless_parts false moves move found = (refl, found)
 
 -- and no other is
-pub moves_on-parts : (question : Question) (history : List ClassMove) (move : ClassMove)
+pub moves_on-parts : (question : Question) (history : ClassHistory) (move : ClassMove)
     → Contains (moves_on question history) move
     → (class_decided (class_after question history) ≡ false) × (0 < length (allowing question (history ++ move ∷ [])))
 unfolding moves_on

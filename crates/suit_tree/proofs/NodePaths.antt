@@ -8,7 +8,7 @@ use Rattle.std.proofs.lemmas.List.{append-nil, append_assoc}
 use Rattle.suit_game.specs.declared.question.Question.{Question}
 use Rattle.suit_game.proofs.EachElement.{Contains-cons_cases, Contains-nil, each_at, each_in}
 use Rattle.suit_classes.specs.declared.class_moves.ClassMove.{ClassMove}
-use Rattle.suit_classes.specs.ClassMoves.{same_class_move}
+use Rattle.suit_classes.specs.ClassMoves.{same_class_move, ClassHistory}
 use Rattle.suit_classes.specs.declared.class_view.ClassView.{ClassView}
 use Rattle.suit_classes.specs.ClassPlaces.{class_after, class_decided}
 use Rattle.suit_classes.proofs.SmallCounts.{class_after_move}
@@ -71,50 +71,50 @@ one_by Fits move (other ∷ moves) (node ∷ nodes) fit once found = elim (Conta
 ]
 
 -- the root of a tree stands at its history
-pub tree_stands : (more : ℕ) (question : Question) (history : List ClassMove) (node : Node)
+pub tree_stands : (more : ℕ) (question : Question) (history : ClassHistory) (node : Node)
     → IsTreeAt more question history node → StandsAt question history node
 unfolding IsTreeAt
 tree_stands zero question history node tree = tree.0
 tree_stands (suc more) question history node tree = tree.0
 
 -- a path which some class layout allows after a history, and which goes past no decided position
-pub record IsOpen (question : Question) (history path : List ClassMove) : Type 0 where
+pub record IsOpen (question : Question) (history path : ClassHistory) : Type 0 where
   pub past : GoesOn (class_after question history) path
   pub some : 0 < length (allowing question (history ++ path))
 
-open_first : (question : Question) (history : List ClassMove) (move : ClassMove) (path : List ClassMove)
+open_first : (question : Question) (history : ClassHistory) (move : ClassMove) (path : ClassHistory)
     → IsOpen question history (move ∷ path)
     → (class_decided (class_after question history) ≡ false) × (0 < length (allowing question (history ++ move ∷ [])))
 unfolding GoesOn
 open_first question history move path is = (
   is.past.0,
   allowing_start question (history ++ move ∷ []) path
-      (subst (λ (h : List ClassMove). 0 < length (allowing question h)) (sym (append_assoc history (move ∷ []) path))
+      (subst (λ (h : ClassHistory). 0 < length (allowing question h)) (sym (append_assoc history (move ∷ []) path))
       is.some),
 )
 
-open_later : (question : Question) (history : List ClassMove) (move : ClassMove) (path : List ClassMove)
+open_later : (question : Question) (history : ClassHistory) (move : ClassMove) (path : ClassHistory)
     → IsOpen question history (move ∷ path)
     → IsOpen question (history ++ move ∷ []) path
 unfolding GoesOn
 open_later question history move path is = record {
   past = subst (λ (view : ClassView). GoesOn view path) (sym (class_after_move question history move)) is.past.1;
-  some = subst (λ (h : List ClassMove). 0 < length (allowing question h)) (sym (append_assoc history (move ∷ []) path))
+  some = subst (λ (h : ClassHistory). 0 < length (allowing question h)) (sym (append_assoc history (move ∷ []) path))
       is.some;
 }
 
-open_joined : (question : Question) (history : List ClassMove) (move : ClassMove) (path : List ClassMove)
+open_joined : (question : Question) (history : ClassHistory) (move : ClassMove) (path : ClassHistory)
     → class_decided (class_after question history) ≡ false → IsOpen question (history ++ move ∷ []) path
     → IsOpen question history (move ∷ path)
 unfolding GoesOn
 open_joined question history move path undecided is = record {
   past = (undecided, subst (λ (view : ClassView). GoesOn view path) (class_after_move question history move) is.past);
-  some = subst (λ (h : List ClassMove). 0 < length (allowing question h)) (append_assoc history (move ∷ []) path)
+  some = subst (λ (h : ClassHistory). 0 < length (allowing question h)) (append_assoc history (move ∷ []) path)
       is.some;
 }
 
 -- at such a path stands one node, and it is the tree at the history with the path
-pub one_node : (more : ℕ) (question : Question) (history path : List ClassMove) (node : Node)
+pub one_node : (more : ℕ) (question : Question) (history path : ClassHistory) (node : Node)
     → IsTreeAt more question history node
     → length path ≤ more → IsOpen question history path
     → (found : Node) × (nodes_at path node ≡ found ∷ [])
@@ -125,7 +125,7 @@ one_node more question history [] node tree few is =
       node,
       refl,
       subst (λ (n : ℕ). IsTreeAt n question (history ++ []) node) all
-          (subst (λ (h : List ClassMove). IsTreeAt more question h node) (sym (append-nil history)) tree),
+          (subst (λ (h : ClassHistory). IsTreeAt more question h node) (sym (append-nil history)) tree),
     )
 one_node zero question history (move ∷ path) node tree few is = absurd (omega arith)
 one_node (suc more) question history (move ∷ path) node tree few is =
@@ -139,12 +139,12 @@ one_node (suc more) question history (move ∷ path) node tree few is =
       later.0,
       ap (λ (l : List Node). flat_map (nodes_at path) l) child.1 ∙ append-nil (nodes_at path child.0) ∙ later.1,
       subst (λ (n : ℕ). IsTreeAt n question (history ++ move ∷ path) later.0) left
-          (subst (λ (h : List ClassMove). IsTreeAt (more - length path) question h later.0)
+          (subst (λ (h : ClassHistory). IsTreeAt (more - length path) question h later.0)
           (append_assoc history (move ∷ []) path) later.2),
     )
 
 -- by a move that is none of those with which the history goes on, no path leads to a node
-none_after : (more : ℕ) (question : Question) (history : List ClassMove) (move : ClassMove) (path : List ClassMove)
+none_after : (more : ℕ) (question : Question) (history : ClassHistory) (move : ClassMove) (path : ClassHistory)
     (node : Node)
     → IsTreeAt (suc more) question history node → (Contains (moves_on question history) move → ⊥)
     → nodes_at (move ∷ path) node ≡ []
@@ -157,7 +157,7 @@ none_after more question history move path node tree other =
     (λ later within same. other (subst (λ (m : ClassMove). Contains (moves_on question history) m) same within))))
 
 -- at no other path that is not empty stands a node
-pub no_node : (more : ℕ) (question : Question) (history : List ClassMove) (move : ClassMove) (path : List ClassMove)
+pub no_node : (more : ℕ) (question : Question) (history : ClassHistory) (move : ClassMove) (path : ClassHistory)
     (node : Node) → IsTreeAt more question history node
     → length (move ∷ path) ≤ more → (IsOpen question history (move ∷ path) → ⊥) → nodes_at (move ∷ path) node ≡ []
 unfolding nodes_at IsTreeAt GoesOn

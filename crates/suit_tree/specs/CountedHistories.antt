@@ -19,7 +19,7 @@ continued (suc more) question counts history =
     else flat_map (λ move. continued more question counts (history ++ move ∷ []))
     (class_moves (class_after question history) counts))
 
--- the class histories that counts of West's allow and that go past no decided position; none has more than 52 moves
+-- the class histories that counts of West's allow and that go past no decided position; none has more than MOST_MOVES moves
 unfoldable pub counted_histories : Question → Counts → List ClassHistory
 counted_histories question counts = continued MOST_MOVES question counts []
 

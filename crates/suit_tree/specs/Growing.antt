@@ -20,8 +20,9 @@ use Rattle.suit_tree.specs.declared.node.Node.{Node}
 use Rattle.suit_tree.specs.declared.offers.Offers.{Offers}
 use Rattle.suit_tree.specs.Nodes.{move_to, turn_at, layouts_at, payoff_at, children_of}
 use Rattle.suit_tree.specs.Trees.{AllFit, counts_at}
+use Rattle.suit_classes.specs.declared.classes.TheConstants.{MOST_CLASSES}
 
--- the position after a list of class moves that, with so many more, has at most 52
+-- the position after a list of class moves that, with so many more, has at most MOST_MOVES
 pub record HasRoom (more : ℕ) (view : ClassView) : Type 0 where
   pub question : Question
   pub history : ClassHistory
@@ -97,7 +98,7 @@ is_offered offers (Lead seat class) = false
 
 -- offers tell which follows, and whether showing out, are among some moves
 pub record Tells (offers : Offers) (moves : List ClassMove) : Type 0 where
-  pub follows : (class : ℕ) → class < 13 → get_or offers.follows class false ≡ is_among moves (Follow class)
+  pub follows : (class : ℕ) → class < MOST_CLASSES → get_or offers.follows class false ≡ is_among moves (Follow class)
   pub shows_out : offers.shows_out ≡ is_among moves ShowOut
 
 -- of some indices, each with offers, those whose offers have a move

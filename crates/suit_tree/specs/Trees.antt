@@ -64,7 +64,7 @@ IsTreeAt (suc more) question history node =
     × AllFit (λ move child. (move_to child ≡ Some move) × IsTreeAt more question (history ++ move ∷ []) child)
     (moves_on question history) (children_of node)
 
--- a tree is that of a question: its root stands at the empty history, and no history is longer than 52 moves
+-- a tree is that of a question: its root stands at the empty history, and no history is longer than MOST_MOVES moves
 pub record IsTreeOf (question : Question) (tree : Tree) : Type 0 where
   pub layouts : tree.layouts.items ≡ class_layouts question (sizes_of question)
   pub top : move_to tree.root ≡ None

@@ -12,6 +12,7 @@ ghost use Rattle.suit_tree.specs.TreeEnds.{IsPastBudget};
 ghost use Rattle.suit_classes.specs.Classes.{sizes_of};
 ghost use Rattle.suit_classes.specs.ClassPlaces.{class_decided, class_payoff};
 ghost use Rattle.suit_layouts.specs.ClassLayouts.{class_layouts};
+ghost use Rattle.suit_layouts.specs.declared.class_list.TheConstants.{MOST_CLASS_LAYOUTS};
 
 use super::branch::{Branch, own_branches, their_branches};
 use super::{Node, Tree, TreeEnd};
@@ -69,7 +70,7 @@ pub fn grow<'a>(
 fn layouts_of(alloc: Global, question: &Question) -> Result<Vec<(ClassLayout, u64)>, TreeEnd>
     requires { IsValid question.now }
     ensures layouts { IfOk result (λ layouts. layouts.items ≡ class_layouts question.now (sizes_of question.now)) }
-    ensures few { IfOk result (λ layouts. vec_len layouts ≤ 162) }
+    ensures few { IfOk result (λ layouts. vec_len layouts ≤ MOST_CLASS_LAYOUTS) }
     ensures end { IfErr result (λ end. end ≡ Memory) }
 {
     let sizes = Classes::of(question).sizes();

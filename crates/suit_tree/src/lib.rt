@@ -8,8 +8,6 @@ pub mod laws;
 mod node;
 mod offers;
 mod sharing;
-#[cfg(test)]
-mod tests;
 mod tree;
 mod tree_end;
 

@@ -3,6 +3,7 @@ ghost use Rattle.std.specs.Prelude.{◌≡◌, ◌<◌, ◌||◌, ℕ, false, ge
 ghost use Rattle.suit_classes.specs.declared.class_moves.ClassMove.TheVariants.{Follow, ShowOut};
 ghost use Rattle.suit_classes.specs.ClassMoves.{same_class_move};
 ghost use Rattle.suit_tree.specs.Growing.{Tells, is_offered};
+ghost use Rattle.suit_classes.specs.declared.classes.TheConstants.{MOST_CLASSES};
 
 use suit_classes::ClassMove;
 
@@ -30,7 +31,7 @@ impl Offers {
 
     // One move more.
     fn add(&mut self, mv: ClassMove)
-        ensures follows { (class : ℕ) → class < 13
+        ensures follows { (class : ℕ) → class < MOST_CLASSES
             → get_or self.new.follows class false
             ≡ (get_or self.old.follows class false || same_class_move (Follow class) mv) }
         ensures shows_out { self.new.shows_out ≡ (self.old.shows_out || same_class_move ShowOut mv) }

@@ -23,10 +23,10 @@ use Rattle.suit_plans.specs.declared.defence.Defence.{Defence}
 use Rattle.suit_plans.specs.Masses.{defence_shares_at, plan_shares_at}
 use Rattle.suit_classes.proofs.UndecidedMoves.{HasFirst}
 use Rattle.suit_lift.specs.Lifts.{RowCounts, class_share, common, defence_way, is_lowest, plan_way, row_count}
-use Rattle.suit_lift.proofs.ClassFellows.{weights_total}
-use Rattle.suit_lift.proofs.MergedMoves.{lowest_sum}
-use Rattle.suit_lift.proofs.PlanPays.{common_some, plan_weight}
-use Rattle.suit_lift.proofs.RowShares.{first_alone, share_when, some_above, some_merges}
+use Rattle.suit_lift.proofs.FellowsOfAClass.{weights_total}
+use Rattle.suit_lift.proofs.SumsOverMergedMoves.{lowest_sum}
+use Rattle.suit_lift.proofs.LiftPaysItsWorth.{common_some, plan_weight}
+use Rattle.suit_lift.proofs.SharesAreMasses.{first_alone, share_when, some_above, some_merges}
 
 shares_when : (none : Bool) (row : RowCounts) (first : ClassMove) (more : List ClassMove)
     → list_all (λ other. row_count row other == 0) (first ∷ more) ≡ none

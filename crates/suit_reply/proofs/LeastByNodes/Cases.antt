@@ -22,9 +22,10 @@ use Rattle.suit_plans.specs.declared.plan.Plan.{Plan}
 use Rattle.suit_tree.specs.Trees.{allowing}
 use Rattle.suit_tree.proofs.CountedNodes.{kept_layouts}
 use Rattle.suit_tree.proofs.HeldMoves.{index_goes_on}
-use Rattle.suit_reply.proofs.HeldMoves.{IsDecided, IsGoing, layout_counts, layout_moves, some_move}
-use Rattle.suit_reply.proofs.ReachedChoices.Walks.{walked, walked_none}
-use Rattle.suit_reply.proofs.TurnReplies.{walked_on, worth_on}
+use Rattle.suit_reply.proofs.OwnMovesGoOn.{IsDecided, IsGoing, layout_counts, layout_moves, some_move}
+use Rattle.suit_reply.proofs.ChoicesAlongAReply.WalkOfAReply.{walked, walked_none}
+use Rattle.suit_reply.proofs.WorthAtATurn.{walked_on, worth_on}
+use Rattle.suit_game.specs.declared.limits.TheConstants.{MOST_MOVES}
 
 -- what a node is asked for: the reply to a plan from a class history on, which the class layout at an index allows
 pub record LeastCase (more : ℕ) (question : Question) (plan : Plan) (index : ℕ) (history : ClassHistory) : Type 0 where
@@ -32,7 +33,7 @@ pub record LeastCase (more : ℕ) (question : Question) (plan : Plan) (index : �
   pub proper : IsProperPlan question plan
   pub realised : AreRealised question (declarer plan.den plan.rows) (layout_counts question index)
   pub held : Contains (allowing question history) index
-  pub left : more ≡ 52 - length history
+  pub left : more ≡ MOST_MOVES - length history
 
 -- the defence there, replying to the plan
 abbrev pub reply_at : Question → Plan → ℕ → Reply

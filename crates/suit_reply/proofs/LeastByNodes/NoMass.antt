@@ -7,11 +7,11 @@ use Rattle.suit_plans.specs.BestReplies.{Reply, worth_within}
 use Rattle.suit_plans.specs.Masses.{plan_mass}
 use Rattle.suit_plans.specs.declared.plan.Plan.{Plan}
 use Rattle.suit_reply.specs.NodeReplies.{nothing}
-use Rattle.suit_reply.proofs.TurnReplies.GatheredWorths.{same_found}
-use Rattle.suit_reply.proofs.ReachedChoices.Walks.{walked, walked_none}
+use Rattle.suit_reply.proofs.WorthAtATurn.SumOrBest.{same_found}
+use Rattle.suit_reply.proofs.ChoicesAlongAReply.WalkOfAReply.{walked, walked_none}
 use Rattle.suit_reply.proofs.LeastByNodes.Cases.{LeastCase, case_allows, reply_at}
-use Rattle.suit_reply.proofs.TurnReplies.{found_from}
-use Rattle.suit_reply.proofs.HeldMoves.{layout_counts}
+use Rattle.suit_reply.proofs.WorthAtATurn.{found_from}
+use Rattle.suit_reply.proofs.OwnMovesGoOn.{layout_counts}
 use Rattle.suit_plans.proofs.PlanWorths.{no_mass_no_worth}
 
 module _ (question : Question) (plan : Plan) (index : ℕ) where

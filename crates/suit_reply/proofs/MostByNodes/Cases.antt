@@ -27,16 +27,17 @@ use Rattle.suit_tree.specs.Trees.{allowing, counts_at, layout_indices, moves_on}
 use Rattle.suit_tree.proofs.CountedNodes.{kept_layouts, some_of}
 use Rattle.suit_tree.proofs.MovesOn.{Contains-moves_on, moves_on-parts}
 use Rattle.suit_reply.specs.NodeReplies.{nothing}
-use Rattle.suit_reply.proofs.MostByNodes.AllowingLayouts.{allowing_at, live_at, mass_at, reply_goes_on, some_allows_at}
-use Rattle.suit_reply.proofs.TurnReplies.GatheredWorths.{same_found}
+use Rattle.suit_reply.proofs.MostByNodes.WhichLayoutsAllow.{allowing_at, live_at, mass_at, reply_goes_on, some_allows_at}
+use Rattle.suit_reply.proofs.WorthAtATurn.SumOrBest.{same_found}
 use Rattle.suit_tree.proofs.HeldMoves.{index_goes_on}
-use Rattle.suit_reply.proofs.HeldMoves.{IsDecided, IsGoing, layout_counts, layout_moves, layouts_of}
+use Rattle.suit_reply.proofs.OwnMovesGoOn.{IsDecided, IsGoing, layout_counts, layout_moves, layouts_of}
 use Rattle.suit_reply.proofs.MostByNodes.LiveMasses.{any_live, live_masses, none_live, not_above}
-use Rattle.suit_reply.proofs.TurnReplies.{found_from, walked_on, worth_on}
-use Rattle.suit_reply.proofs.ReachedChoices.Walks.{walked, walked_none}
+use Rattle.suit_reply.proofs.WorthAtATurn.{found_from, walked_on, worth_on}
+use Rattle.suit_reply.proofs.ChoicesAlongAReply.WalkOfAReply.{walked, walked_none}
 use Rattle.suit_reply.specs.AgainstDefence.{LayoutMasses}
 use Rattle.suit_plans.proofs.DefenceWorths.{no_masses_no_worth}
 use Rattle.suit_reply.specs.LayoutsReplies.{layout_at}
+use Rattle.suit_game.specs.declared.limits.TheConstants.{MOST_MOVES}
 
 -- what a node is asked for: the reply to a defence from a class history on, which some class layout allows
 pub record MostCase (more : ℕ) (question : Question) (defence : Defence) (history : ClassHistory) : Type 0 where
@@ -46,7 +47,7 @@ pub record MostCase (more : ℕ) (question : Question) (defence : Defence) (hist
       → AreRealised question (defenders question defence.den defence.rows (layout_counts question index))
       (layout_counts question index)
   pub some : 0 < length (allowing question history)
-  pub left : more ≡ 52 - length history
+  pub left : more ≡ MOST_MOVES - length history
 
 -- the masses that the defence lets through to a class history, in the class layouts that allow it
 abbrev pub masses_at : Question → Defence → ClassHistory → LayoutMasses

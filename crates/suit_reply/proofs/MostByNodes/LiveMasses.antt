@@ -8,7 +8,7 @@ use Rattle.suit_cards.specs.Cards.{Indices}
 use Rattle.suit_game.proofs.EachElement.{Contains-cons_cases, Contains-first, Contains-later, Contains-nil, map_same}
 use Rattle.suit_plans.specs.Properness.{sum_of}
 use Rattle.suit_reply.specs.AgainstDefence.{LayoutMasses, is_live}
-use Rattle.suit_reply.proofs.MostByNodes.AllowingLayouts.{any_kept, any_of_map}
+use Rattle.suit_reply.proofs.MostByNodes.WhichLayoutsAllow.{any_kept, any_of_map}
 
 -- an index with the mass there
 abbrev pub held_at : (ℕ → ℤ) → ℕ → ℕ × ℤ

@@ -5,6 +5,7 @@ use Rattle.std.proofs.lemmas.Int.{to_z-of_z}
 use Rattle.suit_plans.proofs.BoundedReplies.{leasts_bounded, mosts_bounded}
 use Rattle.suit_plans.specs.BestReplies.{least, most}
 use Rattle.suit_plans.specs.Properness.{IsProperDefence, IsProperPlan}
+use Rattle.suit_plans.specs.declared.plan.TheConstants.{MOST_DEN, WORTH_BOUND}
 use Rattle.suit_check.specs.Verdicts.{Least, Most, parts_of, same_parts, value_of}
 use Rattle.suit_check.proofs.ToldFindings.{denied, earned, given_up, granted, told_defence, told_least, told_most}
 use Rattle.suit_check.proofs.ToldFindings.{told_plan, told_valid}
@@ -33,7 +34,7 @@ value_over-found-requires-clause-number g c =
     to_z-of_z w128 c.in_ok-earned.earned earned_fits
     ∙ c.in_ok-earned.ensures.number
     (record { question = question; valid = c.requires; grown = c.in_ok-tree.ensures.tree; proper = proper }) in
-    subst (λ (z : ℤ). (pos 0 ≤ℤ z) × (z <ℤ pos (2 ^ 118))) (sym earns)
+    subst (λ (z : ℤ). (pos 0 ≤ℤ z) × (z <ℤ WORTH_BOUND)) (sym earns)
     (leasts_bounded question answer.plan c.requires proper)
 
 pub value_over-found-requires-clause-den : goal.value_over-found-requires-clause-den
@@ -44,7 +45,7 @@ value_over-found-requires-clause-den g c =
     let plan_den_fits : FitsSigned w128 answer.plan.den = search rules in
     let plan_den : to_z w128 (of_z w128 answer.plan.den) ≡ answer.plan.den =
     to_z-of_z w128 answer.plan.den plan_den_fits in
-    subst (λ (z : ℤ). (pos 1 ≤ℤ z) × (z ≤ℤ pos (2 ^ 90))) (sym plan_den) (plan_bounds question answer proper)
+    subst (λ (z : ℤ). (pos 1 ≤ℤ z) × (z ≤ℤ MOST_DEN)) (sym plan_den) (plan_bounds question answer proper)
 
 pub returns-then-ne-clause-verdict : goal.returns-then-ne-clause-verdict
 returns-then-ne-clause-verdict g c =
@@ -82,7 +83,7 @@ value_over-found-requires-2-clause-number g c =
     to_z-of_z w128 c.in_ok-given_up.given_up given_fits
     ∙ c.in_ok-given_up.ensures.number
     (record { question = question; valid = c.requires; grown = c.in_ok-tree.ensures.tree; proper = held }) in
-    subst (λ (z : ℤ). (pos 0 ≤ℤ z) × (z <ℤ pos (2 ^ 118))) (sym gives)
+    subst (λ (z : ℤ). (pos 0 ≤ℤ z) × (z <ℤ WORTH_BOUND)) (sym gives)
     (mosts_bounded question answer.defence c.requires held)
 
 pub value_over-found-requires-2-clause-den : goal.value_over-found-requires-2-clause-den
@@ -94,7 +95,7 @@ value_over-found-requires-2-clause-den g c =
     let defence_den_fits : FitsSigned w128 answer.defence.den = search rules in
     let defence_den : to_z w128 (of_z w128 answer.defence.den) ≡ answer.defence.den =
     to_z-of_z w128 answer.defence.den defence_den_fits in
-    subst (λ (z : ℤ). (pos 1 ≤ℤ z) × (z ≤ℤ pos (2 ^ 90))) (sym defence_den) (defence_bounds question answer held)
+    subst (λ (z : ℤ). (pos 1 ≤ℤ z) × (z ≤ℤ MOST_DEN)) (sym defence_den) (defence_bounds question answer held)
 
 pub returns-then-ne-2-clause-verdict : goal.returns-then-ne-2-clause-verdict
 returns-then-ne-2-clause-verdict g c =

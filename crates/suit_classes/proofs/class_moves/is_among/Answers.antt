@@ -1,5 +1,5 @@
 use Rattle.std.proofs.Common.{◌∙◌}
-use Rattle.suit_classes.proofs.DerivedOrders.{any_among}
+use Rattle.suit_classes.proofs.OrderIsAsDefined.{any_among}
 use Rattle.suit_classes.proofs.class_moves.is_among.Goals as goal
 
 pub returns : goal.returns

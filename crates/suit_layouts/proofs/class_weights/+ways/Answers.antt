@@ -1,7 +1,7 @@
 use Rattle.std.proofs.Common.{◌^◌, ◌*◌, ◌≤◌, length, sym, ◌∙◌, arith}
 use Rattle.std.proofs.lemmas.Bool.{eqb-false, eqb-true}
 use Rattle.std.specs.List.{sum}
-use Rattle.suit_layouts.proofs.WeightSteps.{first_ways, small_fits, ways-none, ways_apart, ways_small}
+use Rattle.suit_layouts.proofs.WeightsAreSmall.{first_ways, small_fits, ways-none, ways_apart, ways_small}
 use Rattle.suit_layouts.proofs.class_weights.+ways.Goals as goal
 
 pub returns-then-is_empty-clause-value : goal.returns-then-is_empty-clause-value

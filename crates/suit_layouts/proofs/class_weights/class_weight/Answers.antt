@@ -1,5 +1,5 @@
 use Rattle.std.proofs.Common.{arith}
-use Rattle.suit_layouts.proofs.WeightSteps.{counts_few, deals_fit, none_weighs, weighs}
+use Rattle.suit_layouts.proofs.WeightsAreSmall.{counts_few, deals_fit, none_weighs, weighs}
 use Rattle.suit_layouts.proofs.class_weights.class_weight.Goals as goal
 
 pub returns-then-ways-eq0 : goal.returns-then-ways-eq0

@@ -1,4 +1,4 @@
-use Rattle.suit_layouts.proofs.HeldCounts.{class_layouts_held}
+use Rattle.suit_layouts.proofs.CountsOfALayout.{class_layouts_held}
 use Rattle.suit_layouts.proofs.laws.class_layouts_held.Goals as goal
 
 pub returns : goal.returns

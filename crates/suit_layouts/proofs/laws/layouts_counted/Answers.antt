@@ -1,4 +1,4 @@
-use Rattle.suit_layouts.proofs.HeldCounts.{layouts_counted}
+use Rattle.suit_layouts.proofs.CountsOfALayout.{layouts_counted}
 use Rattle.suit_layouts.proofs.laws.layouts_counted.Goals as goal
 
 pub returns : goal.returns

@@ -1,5 +1,5 @@
 use Rattle.std.proofs.Common.{refl, arith}
-use Rattle.suit_layouts.proofs.PlacedCounts.{counted_all, counted_more, left_some, size_small}
+use Rattle.suit_layouts.proofs.CountsAtAnIndex.{counted_all, counted_more, left_some, size_small}
 use Rattle.suit_layouts.proofs.walks.counts_at.Goals as goal
 
 pub overflow_add-left : goal.overflow_add-left

@@ -1,4 +1,4 @@
-use Rattle.suit_layouts.proofs.PlacedCounts.{CountedOff}
+use Rattle.suit_layouts.proofs.CountsAtAnIndex.{CountedOff}
 use Rattle.suit_layouts.proofs.walks.counts_at.Given as goal
 
 abbrev pub invariant-loop-size : goal.invariant-loop-size

@@ -1,5 +1,5 @@
 use Rattle.std.proofs.Common.{arith}
-use Rattle.suit_layouts.proofs.PlacedCounts.{block_small, factor_small, product_all, product_more, up_to-some}
+use Rattle.suit_layouts.proofs.CountsAtAnIndex.{block_small, factor_small, product_all, product_more, up_to-some}
 use Rattle.suit_layouts.proofs.walks.number_of_counts.Goals as goal
 
 pub overflow_add-all : goal.overflow_add-all

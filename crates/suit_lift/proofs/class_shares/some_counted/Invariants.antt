@@ -1,5 +1,5 @@
 use Rattle.std.proofs.Common.{◌≡◌, drop}
-use Rattle.suit_lift.proofs.NoneCounted.{none_counted}
+use Rattle.suit_lift.proofs.NoMoveHasACount.{none_counted}
 use Rattle.suit_lift.proofs.class_shares.some_counted.Given as goal
 
 abbrev pub invariant-loop-mv : goal.invariant-loop-mv

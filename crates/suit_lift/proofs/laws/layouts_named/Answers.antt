@@ -1,4 +1,4 @@
-use Rattle.suit_lift.proofs.NamedLayouts.{layouts_named}
+use Rattle.suit_lift.proofs.DefenceNamesLayouts.{layouts_named}
 use Rattle.suit_lift.proofs.laws.layouts_named.Goals as goal
 
 pub returns : goal.returns

@@ -1,4 +1,4 @@
-use Rattle.suit_lift.proofs.LinkedWeights.{plan_weights_are_shares}
+use Rattle.suit_lift.proofs.WeightsAreShares.{plan_weights_are_shares}
 use Rattle.suit_lift.proofs.laws.plan_weights_are_shares.Goals as goal
 
 pub returns : goal.returns

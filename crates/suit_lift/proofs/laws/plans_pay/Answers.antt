@@ -1,4 +1,4 @@
-use Rattle.suit_lift.proofs.PlanPays.{plans_pay}
+use Rattle.suit_lift.proofs.LiftPaysItsWorth.{plans_pay}
 use Rattle.suit_lift.proofs.laws.plans_pay.Goals as goal
 
 pub returns : goal.returns

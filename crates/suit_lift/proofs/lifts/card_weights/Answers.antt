@@ -4,7 +4,7 @@ use Rattle.suit_game.proofs.LongestPlay.{histories_are_short}
 use Rattle.suit_plans.specs.declared.plan.Row.{Row}
 use Rattle.suit_plans.specs.Orders.{InOrder, plan_row_before}
 use Rattle.suit_plans.proofs.ProperOrders.{plan_in_order}
-use Rattle.suit_lift.proofs.CallShares.{plan_shares}
+use Rattle.suit_lift.proofs.SharesOfARow.{plan_shares}
 use Rattle.suit_lift.proofs.lifts.card_weights.Goals as goal
 
 pub merged-line-requires : goal.merged-line-requires

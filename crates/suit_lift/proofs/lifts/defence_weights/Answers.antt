@@ -4,7 +4,7 @@ use Rattle.suit_game.proofs.LongestPlay.{histories_are_short}
 use Rattle.suit_plans.specs.declared.defence.DefenceRow.{DefenceRow}
 use Rattle.suit_plans.specs.Orders.{InOrder, defence_row_before}
 use Rattle.suit_plans.proofs.ProperOrders.{defence_in_order}
-use Rattle.suit_lift.proofs.CallShares.{defence_shares}
+use Rattle.suit_lift.proofs.SharesOfARow.{defence_shares}
 use Rattle.suit_lift.proofs.lifts.defence_weights.Goals as goal
 
 pub merged-line-requires : goal.merged-line-requires

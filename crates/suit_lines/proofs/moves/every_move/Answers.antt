@@ -5,6 +5,7 @@ use Rattle.suit_classes.specs.declared.class_moves.ClassMove.{ClassMove}
 use Rattle.suit_classes.specs.declared.class_moves.ClassMove.TheVariants.{Lead, Follow, ShowOut}
 use Rattle.suit_classes.specs.AllowedHistories.{every_move}
 use Rattle.suit_classes.specs.ClassPlaces.{class_numbers}
+use Rattle.suit_classes.specs.declared.classes.TheConstants.{MOST_CLASSES}
 use Rattle.suit_lines.proofs.ListedMoves.{class_more, class_none}
 use Rattle.suit_lines.proofs.moves.every_move.Goals as goal
 
@@ -20,9 +21,9 @@ loop-north-preserved c = record {
 pub loop-south-init : goal.loop-south-init
 unfolding class_numbers
 loop-south-init c =
-    let thirteen : c.loop-north.north ≡ 13 = omega arith in
+    let all : c.loop-north.north ≡ MOST_CLASSES = omega arith in
     record {
-      so_far = rw thirteen at c.loop-north.invariant.so_far ∙ class_none (map (Lead N) class_numbers) (Lead S);
+      so_far = rw all at c.loop-north.invariant.so_far ∙ class_none (map (Lead N) class_numbers) (Lead S);
       long = omega (arith, c.loop-north.invariant.long);
     }
 
@@ -41,9 +42,9 @@ loop-south-preserved c = record {
 pub loop-follow-init : goal.loop-follow-init
 unfolding class_numbers
 loop-follow-init c =
-    let thirteen : c.loop-south.south ≡ 13 = omega arith in
+    let all : c.loop-south.south ≡ MOST_CLASSES = omega arith in
     record {
-      so_far = rw thirteen at c.loop-south.invariant.so_far
+      so_far = rw all at c.loop-south.invariant.so_far
           ∙ class_none (map (Lead N) class_numbers ++ map (Lead S) class_numbers) Follow;
       long = omega (arith, c.loop-south.invariant.long);
     }
@@ -63,6 +64,6 @@ loop-follow-preserved c = record {
 pub returns : goal.returns
 unfolding every_move class_numbers
 returns c =
-    let thirteen : c.loop-follow.follow ≡ 13 = omega arith in
+    let all : c.loop-follow.follow ≡ MOST_CLASSES = omega arith in
     c.push-2.ensures.items ∙ ap (λ (l : List ClassMove). l ++ ShowOut ∷ [])
-    (rw thirteen at c.loop-follow.invariant.so_far)
+    (rw all at c.loop-follow.invariant.so_far)

@@ -7,6 +7,7 @@ use Rattle.suit_classes.specs.declared.class_moves.ClassMove.{ClassMove}
 use Rattle.suit_classes.specs.declared.class_moves.ClassMove.TheVariants.{Lead}
 use Rattle.suit_classes.specs.declared.class_turn.ClassTurn.{ClassTurn}
 use Rattle.suit_classes.specs.ClassPlaces.{class_after, class_start}
+use Rattle.suit_game.specs.declared.limits.TheConstants.{MOST_MOVES}
 use Rattle.suit_lines.specs.Sentences.{joined, move_words, words_from}
 use Rattle.suit_lines.proofs.JoinedTexts.{moves_more, opening_some, then_written}
 use Rattle.suit_lines.proofs.sentences.write_opening.Goals as goal
@@ -22,7 +23,7 @@ pub loop-index-preserved : goal.loop-index-preserved
 loop-index-preserved c =
     let index = c.loop-index.index in
     let history = c.args.history.now in
-    let short : length (take index history) ≤ 52 =
+    let short : length (take index history) ≤ MOST_MOVES =
     omega (arith, length-take index history, c.loop-index-test.true, c.requires.short) in
     record {
       so_far = moves_more (codes ", ") c.args.letters.now c.args.question.now history index (Lead N 0)

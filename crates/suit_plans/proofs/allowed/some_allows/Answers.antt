@@ -5,7 +5,7 @@ use Rattle.suit_classes.specs.declared.class_view.ClassView.{ClassView}
 use Rattle.suit_classes.specs.Classes.{defence_sizes}
 use Rattle.suit_layouts.specs.ClassLayouts.{class_layouts}
 use Rattle.suit_plans.specs.Masses.{weight_of}
-use Rattle.suit_plans.proofs.LayoutWalks.{StillToCome, all_to_come, found_to_come, next_to_come, none_to_come}
+use Rattle.suit_plans.proofs.SomeLayoutAllows.{StillToCome, all_to_come, found_to_come, next_to_come, none_to_come}
 use Rattle.suit_plans.proofs.allowed.some_allows.Goals as goal
 
 pub loop-layout-init : goal.loop-layout-init

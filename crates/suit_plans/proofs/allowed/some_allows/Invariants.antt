@@ -1,4 +1,4 @@
-use Rattle.suit_plans.proofs.LayoutWalks.{StillToCome}
+use Rattle.suit_plans.proofs.SomeLayoutAllows.{StillToCome}
 use Rattle.suit_plans.proofs.allowed.some_allows.Given as goal
 
 abbrev pub invariant-loop-layout : goal.invariant-loop-layout

@@ -4,6 +4,7 @@ use Rattle.suit_classes.specs.declared.class_moves.ClassMove.TheVariants.{Lead}
 use Rattle.suit_plans.specs.Properness.{goes_undecided}
 use Rattle.suit_plans.proofs.AllowedWalks.{undecided_last, undecided_next, undecided_on}
 use Rattle.suit_plans.proofs.allowed.undecided_place.Goals as goal
+use Rattle.suit_game.specs.declared.limits.TheConstants.{MOST_MOVES}
 
 pub loop-index-init : goal.loop-index-init
 loop-index-init c = record {
@@ -19,7 +20,7 @@ returns-then-decided c =
 pub loop-index-preserved : goal.loop-index-preserved
 loop-index-preserved c =
     let index = c.loop-index.index in
-    let short : length (take index c.args.history.now) ≤ 52 =
+    let short : length (take index c.args.history.now) ≤ MOST_MOVES =
     omega (arith, length-take index c.args.history.now, c.loop-index-test.true, c.requires) in
     undecided_next c.args.question.now c.args.history.now index (Lead N 0) c.loop-index.place c.step-place.result
     c.loop-index-test.true c.loop-index.invariant c.if-decided.ensures.value

@@ -1,4 +1,4 @@
-use Rattle.suit_plans.proofs.ReplyBeginnings.{least_reached}
+use Rattle.suit_plans.proofs.EachBeginningIsReached.{least_reached}
 use Rattle.suit_plans.proofs.laws.least_replies_are_reached.Goals as goal
 
 pub returns : goal.returns

@@ -1,4 +1,4 @@
-use Rattle.suit_plans.proofs.ReplyBeginnings.{most_followed}
+use Rattle.suit_plans.proofs.EachBeginningIsReached.{most_followed}
 use Rattle.suit_plans.proofs.laws.most_replies_are_followed.Goals as goal
 
 pub returns : goal.returns

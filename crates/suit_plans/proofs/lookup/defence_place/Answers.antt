@@ -2,7 +2,7 @@ use Rattle.std.proofs.Common.{rules, bytes_eq, ◌&&◌}
 use Rattle.std.proofs.lemmas.List.Sorted.{IsPartitionPoint-from_clause}
 use Rattle.suit_plans.specs.declared.defence.DefenceRow.{DefenceRow}
 use Rattle.suit_plans.specs.Orders.{defence_row_before, key_before, same_class_history}
-use Rattle.suit_plans.proofs.FoundRows.{parted_by}
+use Rattle.suit_plans.proofs.RowOfAKey.{parted_by}
 use Rattle.suit_plans.proofs.KeyOrder.{Keyed-defences}
 use Rattle.suit_plans.proofs.lookup.defence_place.Goals as goal
 

@@ -4,17 +4,18 @@ use Rattle.suit_classes.specs.declared.class_moves.ClassMove.{ClassMove}
 use Rattle.suit_plans.specs.declared.defence.DefenceRow.{DefenceRow}
 use Rattle.suit_plans.specs.Masses.{Shares, defence_shares_at}
 use Rattle.suit_plans.specs.Orders.{defence_row_before, key_before, same_class_history}
-use Rattle.suit_plans.proofs.FoundRows.{found_none, found_row}
+use Rattle.suit_plans.proofs.RowOfAKey.{found_none, found_row}
 use Rattle.suit_plans.proofs.KeyOrder.{Keyed-defences}
 use Rattle.suit_plans.proofs.lookup.defence_shares_at.Goals as goal
+use Rattle.suit_classes.specs.ClassMoves.{ClassHistory}
 
 abbrev counts_of : Option DefenceRow → Option Shares
 counts_of row = option_map (λ (row : DefenceRow). row.counts) row
 
-abbrev earlier : Counts → List ClassMove → DefenceRow → Bool
+abbrev earlier : Counts → ClassHistory → DefenceRow → Bool
 earlier counts history row = key_before row.west row.history counts history
 
-abbrev here : Counts → List ClassMove → DefenceRow → Bool
+abbrev here : Counts → ClassHistory → DefenceRow → Bool
 here counts history row = bytes_eq row.west counts && same_class_history row.history history
 
 pub returns-in_err-row : goal.returns-in_err-row

@@ -2,7 +2,7 @@ use Rattle.std.proofs.Common.{rules}
 use Rattle.std.proofs.lemmas.List.Sorted.{IsPartitionPoint-from_clause}
 use Rattle.suit_plans.specs.declared.plan.Row.{Row}
 use Rattle.suit_plans.specs.Orders.{history_before, plan_row_before, same_class_history}
-use Rattle.suit_plans.proofs.FoundRows.{parted_by}
+use Rattle.suit_plans.proofs.RowOfAKey.{parted_by}
 use Rattle.suit_plans.proofs.KeyOrder.{Keyed-histories}
 use Rattle.suit_plans.proofs.lookup.plan_place.Goals as goal
 

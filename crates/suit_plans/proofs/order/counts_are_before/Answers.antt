@@ -1,7 +1,7 @@
 use Rattle.std.proofs.Common.{ℕ, nat_lt, Some, ◌∙◌, refl}
 use Rattle.std.specs.Prelude.{◌==◌}
 use Rattle.std.specs.Ordering.{nat_cmp}
-use Rattle.suit_plans.proofs.EarlierLists.{cmp_earlier}
+use Rattle.suit_plans.proofs.LibraryOrder.{cmp_earlier}
 use Rattle.suit_plans.proofs.order.counts_are_before.Goals as goal
 
 pub returns : goal.returns

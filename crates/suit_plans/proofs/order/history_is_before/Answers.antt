@@ -2,8 +2,8 @@ use Rattle.std.proofs.Common.{◌∙◌}
 use Rattle.suit_classes.specs.contracts.class_moves.ClassMovePartialOrd.TheImpl as order
 use Rattle.suit_classes.specs.ClassMoves.{same_class_move}
 use Rattle.suit_classes.specs.MoveOrder.{stands_before}
-use Rattle.suit_classes.proofs.DerivedOrders.{cmp_stands}
-use Rattle.suit_plans.proofs.EarlierLists.{cmp_earlier}
+use Rattle.suit_classes.proofs.OrderIsAsDefined.{cmp_stands}
+use Rattle.suit_plans.proofs.LibraryOrder.{cmp_earlier}
 use Rattle.suit_plans.proofs.order.history_is_before.Goals as goal
 
 pub returns : goal.returns

@@ -1,5 +1,5 @@
 use Rattle.std.proofs.Common.{◌∙◌}
-use Rattle.suit_plans.proofs.EarlierLists.{eq_same_class_history}
+use Rattle.suit_plans.proofs.LibraryOrder.{eq_same_class_history}
 use Rattle.suit_plans.proofs.order.is_same_history.Goals as goal
 
 pub returns : goal.returns

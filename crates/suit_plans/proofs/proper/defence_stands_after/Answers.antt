@@ -2,7 +2,7 @@ use Rattle.std.proofs.Common.{◌∙◌, sym, ap}
 use Rattle.suit_cards.specs.Cards.{Counts}
 use Rattle.suit_plans.specs.declared.defence.DefenceRow.{DefenceRow}
 use Rattle.suit_plans.specs.Orders.{defence_row_before, key_before}
-use Rattle.suit_plans.proofs.RowOrder.{last_asked}
+use Rattle.suit_plans.proofs.RowsBeforeTell.{last_asked}
 use Rattle.suit_plans.proofs.proper.defence_stands_after.Goals as goal
 
 pub returns-in-len1-up : goal.returns-in-len1-up

@@ -5,13 +5,14 @@ use Rattle.std.specs.Int.{w128}
 use Rattle.suit_plans.specs.Orders.{defence_row_before}
 use Rattle.suit_plans.specs.Properness.{first_fault, defence_row_fault, defence_verdict}
 use Rattle.suit_plans.proofs.ProperDefences.{told_order}
-use Rattle.suit_plans.proofs.RowOrder.{IsRowOrder-defences, faultless_in_order}
+use Rattle.suit_plans.proofs.RowsBeforeTell.{IsRowOrder-defences, faultless_in_order}
 use Rattle.suit_num.proofs.IntegerLaws.{int_le-true}
-use Rattle.suit_plans.proofs.VerdictSteps.{den_first, none_first, none_last, none_next, rows_tell, seen_row}
+use Rattle.suit_plans.proofs.FirstFaultOfRows.{den_first, none_first, none_last, none_next, rows_tell, seen_row}
 use Rattle.suit_plans.proofs.proper.proper_defence.Goals as goal
+use Rattle.suit_plans.specs.declared.plan.TheConstants.{MOST_DEN}
 
 abbrev is_within : ℤ → Bool
-is_within den = int_le (pos 1) den && int_le den (pos (2 ^ 90))
+is_within den = int_le (pos 1) den && int_le den (MOST_DEN)
 
 pub returns-then-not-is_den : goal.returns-then-not-is_den
 unfolding defence_verdict
@@ -49,8 +50,8 @@ returns-in-Some c =
 pub defence_row_fault-fault-requires-clause-den : goal.defence_row_fault-fault-requires-clause-den
 defence_row_fault-fault-requires-clause-den c =
     let den = to_z w128 (of_z w128 c.args.defence.now.den) in
-    let parts = and_parts (int_le (pos 1) den) (int_le den (pos (2 ^ 90))) (sym c.if-not-is_den.ensures) in
-    (int_le-true (pos 1) den parts.0, int_le-true den (pos (2 ^ 90)) parts.1)
+    let parts = and_parts (int_le (pos 1) den) (int_le den (MOST_DEN)) (sym c.if-not-is_den.ensures) in
+    (int_le-true (pos 1) den parts.0, int_le-true den (MOST_DEN) parts.1)
 
 pub loop-index-preserved : goal.loop-index-preserved
 loop-index-preserved c =

@@ -4,12 +4,13 @@ use Rattle.std.specs.Int.{w128}
 use Rattle.suit_plans.specs.Orders.{plan_row_before}
 use Rattle.suit_plans.specs.Properness.{first_fault, plan_row_fault, plan_verdict}
 use Rattle.suit_plans.proofs.ProperPlans.{told_order}
-use Rattle.suit_plans.proofs.RowOrder.{IsRowOrder-histories, faultless_in_order}
-use Rattle.suit_plans.proofs.VerdictSteps.{den_first, none_first, none_last, none_next, rows_tell, seen_row}
+use Rattle.suit_plans.proofs.RowsBeforeTell.{IsRowOrder-histories, faultless_in_order}
+use Rattle.suit_plans.proofs.FirstFaultOfRows.{den_first, none_first, none_last, none_next, rows_tell, seen_row}
 use Rattle.suit_plans.proofs.proper.proper_plan.Goals as goal
+use Rattle.suit_plans.specs.declared.plan.TheConstants.{MOST_DEN}
 
 abbrev is_within : ℤ → Bool
-is_within den = int_le (pos 1) den && int_le den (pos (2 ^ 90))
+is_within den = int_le (pos 1) den && int_le den (MOST_DEN)
 
 pub returns-then-not-is_den : goal.returns-then-not-is_den
 unfolding plan_verdict

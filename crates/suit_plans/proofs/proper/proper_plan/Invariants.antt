@@ -1,5 +1,5 @@
 use Rattle.suit_plans.specs.Properness.{plan_row_fault}
-use Rattle.suit_plans.proofs.VerdictSteps.{NoneYet}
+use Rattle.suit_plans.proofs.FirstFaultOfRows.{NoneYet}
 use Rattle.suit_plans.proofs.proper.proper_plan.Given as goal
 
 abbrev pub invariant-loop-index : goal.invariant-loop-index

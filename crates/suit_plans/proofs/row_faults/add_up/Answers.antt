@@ -4,7 +4,7 @@ use Rattle.std.specs.Int.{w128}
 use Rattle.suit_cards.specs.declared.seats.Seat.TheVariants.{N}
 use Rattle.suit_classes.specs.declared.class_moves.ClassMove.TheVariants.{Lead}
 use Rattle.suit_num.proofs.IntegerLaws.{int_lt-false, int_lt-true}
-use Rattle.suit_plans.proofs.AddedCounts.{added, left_count, left_first, left_last, left_next, left_too_little}
+use Rattle.suit_plans.proofs.CountsAddUp.{added, left_count, left_first, left_last, left_next, left_too_little}
 use Rattle.suit_plans.proofs.row_faults.add_up.Goals as goal
 
 pub loop-count-init : goal.loop-count-init

@@ -1,4 +1,4 @@
-use Rattle.suit_plans.proofs.AddedCounts.{IsLeft}
+use Rattle.suit_plans.proofs.CountsAddUp.{IsLeft}
 use Rattle.suit_plans.proofs.row_faults.add_up.Given as goal
 
 abbrev pub invariant-loop-count : goal.invariant-loop-count

@@ -6,7 +6,7 @@ use Rattle.suit_classes.specs.declared.class_moves.ClassMove.TheVariants.{Lead}
 use Rattle.suit_classes.specs.declared.class_moves.ClassMove.{ClassMove}
 use Rattle.suit_classes.specs.MoveOrder.{stands_before}
 use Rattle.suit_plans.specs.Properness.{moves_of}
-use Rattle.suit_plans.proofs.LookedThrough.{risen_first, risen_last, risen_next, risen_on}
+use Rattle.suit_plans.proofs.StillToLookAt.{risen_first, risen_last, risen_next, risen_on}
 use Rattle.suit_plans.specs.Masses.{Shares}
 use Rattle.suit_plans.proofs.row_faults.are_rising.Goals as goal
 

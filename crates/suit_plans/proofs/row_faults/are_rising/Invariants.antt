@@ -1,5 +1,5 @@
 use Rattle.suit_plans.specs.Properness.{moves_of}
-use Rattle.suit_plans.proofs.LookedThrough.{HasRisen}
+use Rattle.suit_plans.proofs.StillToLookAt.{HasRisen}
 use Rattle.suit_plans.proofs.row_faults.are_rising.Given as goal
 
 abbrev pub invariant-loop-index : goal.invariant-loop-index

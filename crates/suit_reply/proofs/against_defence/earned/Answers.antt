@@ -4,10 +4,10 @@ use Rattle.std.specs.Int.{w128}
 use Rattle.std.proofs.lemmas.Int.{to_z-of_z}
 use Rattle.std.proofs.lemmas.List.{take_all}
 use Rattle.suit_plans.specs.Properness.{sum_of}
-use Rattle.suit_reply.proofs.MostWalks.EarnedSums.{bounded_fits, first_earned, one_mass}
+use Rattle.suit_reply.proofs.MostChildByChild.SumsStayBounded.{bounded_fits, first_earned, one_mass}
 use Rattle.suit_reply.proofs.against_defence.earned.Goals as goal
 use Rattle.suit_reply.specs.AgainstDefence.{LayoutMasses}
-use Rattle.suit_reply.proofs.Totals.{one_added}
+use Rattle.suit_reply.proofs.OneMoreAdded.{one_added}
 
 pub loop-held-init : goal.loop-held-init
 unfolding sum_of

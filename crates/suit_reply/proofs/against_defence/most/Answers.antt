@@ -7,12 +7,14 @@ use Rattle.suit_plans.specs.BestReplies.{most, reply_to_defence}
 use Rattle.suit_plans.specs.declared.moves.DeclarerMove.{DeclarerMove}
 use Rattle.suit_reply.specs.declared.chosen_move.ChosenMove.{ChosenMove}
 use Rattle.suit_reply.specs.AgainstDefence.{IsDefenceFor}
-use Rattle.suit_reply.proofs.TurnReplies.{found_from}
+use Rattle.suit_reply.proofs.WorthAtATurn.{found_from}
 use Rattle.suit_reply.specs.NodeReplies.{NodeReplyView}
-use Rattle.suit_reply.proofs.MostByNodes.AllowingLayouts.{layouts_few}
-use Rattle.suit_reply.proofs.MostRoots.{den_within, layouts_weigh, root_asked, root_told, weighed_masses}
-use Rattle.suit_reply.proofs.ReachedChoices.DefenceReplies.{most_reply_walked}
+use Rattle.suit_reply.proofs.MostByNodes.WhichLayoutsAllow.{layouts_few}
+use Rattle.suit_reply.proofs.MostAtTheRoot.{den_within, layouts_weigh, root_asked, root_told, weighed_masses}
+use Rattle.suit_reply.proofs.ChoicesAlongAReply.ReplyToADefence.{most_reply_walked}
 use Rattle.suit_reply.proofs.against_defence.most.Goals as goal
+use Rattle.suit_game.specs.declared.limits.TheConstants.{MOST_MOVES}
+use Rattle.suit_plans.specs.declared.plan.TheConstants.{MOST_DEN}
 
 pub whole_masses-requires : goal.whole_masses-requires
 whole_masses-requires c =
@@ -24,7 +26,7 @@ whole_masses-requires c =
       weights =
           subst (λ (l : List (Counts × ℕ)). All (λ layout. layout.1 ≤ 10400600) l) (sym listed)
           (layouts_weigh is.question is.valid);
-      den = subst (λ (z : ℤ). (pos 1 ≤ℤ z) × (z ≤ℤ pos (2 ^ 90))) (sym (to_z-of_z w128 c.args.defence.now.den den))
+      den = subst (λ (z : ℤ). (pos 1 ≤ℤ z) × (z ≤ℤ MOST_DEN)) (sym (to_z-of_z w128 c.args.defence.now.den den))
           (den_within is.question c.args.defence.now is.proper);
     }
 
@@ -47,7 +49,7 @@ returns c =
     c.deref.ensures.value ∙ c.in_ok-masses.ensures
     ∙ ap (weighed_masses c.layouts.result.now) (to_z-of_z w128 defence.den den) in
     let told : (case : IsDefenceFor tree defence)
-    → c.in_ok-reply.reply ≡ found_from 52 (reply_to_defence case.question defence) [] =
+    → c.in_ok-reply.reply ≡ found_from MOST_MOVES (reply_to_defence case.question defence) [] =
     λ case. c.in_ok-reply.ensures.reply
     ∙ root_told tree defence c.layouts.result.now c.items.result.now c.new.result.items c.deref.result.now
     c.root.result.now case c.layouts.ensures c.items.ensures.value c.new.ensures.items weighed c.root.ensures in

@@ -1,7 +1,7 @@
 use Rattle.std.proofs.Common.{length, rules, SFits, ap, ◌∙◌}
 use Rattle.std.specs.Int.{w128}
 use Rattle.std.proofs.lemmas.Int.{to_z-of_z}
-use Rattle.suit_reply.proofs.LeastTotals.{all_moves, all_numbers}
+use Rattle.suit_reply.proofs.LeastLayoutByLayout.{all_moves, all_numbers}
 use Rattle.suit_reply.proofs.against_plan.least.Goals as goal
 
 pub returns-clause-number : goal.returns-clause-number

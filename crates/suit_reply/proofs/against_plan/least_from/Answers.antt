@@ -5,11 +5,12 @@ use Rattle.std.proofs.lemmas.Int.{to_z-of_z, to_z_pos}
 use Rattle.suit_reply.specs.LayoutsReplies.{IsReplyIn}
 use Rattle.suit_reply.specs.NodeReplies.{NodeReplyView}
 use Rattle.suit_reply.specs.AgainstPlan.{IsPlanFor, node_least}
-use Rattle.suit_reply.proofs.MostByNodes.AllowingLayouts.{layouts_few}
-use Rattle.suit_reply.proofs.LeastTotals.{asked_at_root, next_fits, none_so_far, one_more, part_fits, told_at_root}
-use Rattle.suit_reply.proofs.LeastTotals.{weighs_at}
+use Rattle.suit_reply.proofs.MostByNodes.WhichLayoutsAllow.{layouts_few}
+use Rattle.suit_reply.proofs.LeastLayoutByLayout.{asked_at_root, next_fits, none_so_far, one_more, part_fits, told_at_root}
+use Rattle.suit_reply.proofs.LeastLayoutByLayout.{weighs_at}
 use Rattle.suit_reply.proofs.against_plan.least_from.Goals as goal
-use Rattle.suit_reply.proofs.HeldMoves.{layouts_of}
+use Rattle.suit_reply.proofs.OwnMovesGoOn.{layouts_of}
+use Rattle.suit_game.specs.declared.limits.TheConstants.{MOST_MOVES}
 
 pub loop-index-init : goal.loop-index-init
 loop-index-init c = λ case.
@@ -64,7 +65,7 @@ overflow_mul-number c =
     let within : index < length c.layouts-layouts.result.now =
     omega (arith, c.loop-index-test.true, c.requires.within, ap (λ l. length l) c.layouts-layouts.ensures) in
     let below : index < length (layouts_of case.question) = omega (arith, within, ap (λ l. length l) listed) in
-    let told : reply ≡ node_least 52 plan.rows index [] plan.den tree.root =
+    let told : reply ≡ node_least MOST_MOVES plan.rows index [] plan.den tree.root =
     told_at_root tree plan index c.items.result.now c.new.result.items (to_z w128 (of_z w128 plan.den))
     c.root.result.now reply
     c.items.ensures.value c.new.ensures.items (to_z-of_z w128 plan.den den) c.root.ensures
@@ -97,7 +98,7 @@ overflow_add-number c =
     let within : index < length c.layouts-layouts.result.now =
     omega (arith, c.loop-index-test.true, c.requires.within, ap (λ l. length l) c.layouts-layouts.ensures) in
     let below : index < length (layouts_of case.question) = omega (arith, within, ap (λ l. length l) listed) in
-    let told : reply ≡ node_least 52 plan.rows index [] plan.den tree.root =
+    let told : reply ≡ node_least MOST_MOVES plan.rows index [] plan.den tree.root =
     told_at_root tree plan index c.items.result.now c.new.result.items (to_z w128 (of_z w128 plan.den))
     c.root.result.now reply
     c.items.ensures.value c.new.ensures.items (to_z-of_z w128 plan.den den) c.root.ensures
@@ -150,7 +151,7 @@ loop-index-preserved c = λ asked.
     let within : index < length c.layouts-layouts.result.now =
     omega (arith, c.loop-index-test.true, c.requires.within, ap (λ l. length l) c.layouts-layouts.ensures) in
     let below : index < length (layouts_of case.question) = omega (arith, within, ap (λ l. length l) listed) in
-    let told : reply ≡ node_least 52 plan.rows index [] plan.den tree.root =
+    let told : reply ≡ node_least MOST_MOVES plan.rows index [] plan.den tree.root =
     told_at_root tree plan index c.items.result.now c.new.result.items (to_z w128 (of_z w128 plan.den))
     c.root.result.now reply
     c.items.ensures.value c.new.ensures.items (to_z-of_z w128 plan.den den) c.root.ensures

@@ -4,7 +4,7 @@ use Rattle.suit_reply.specs.NodeMoves.{is_first_of}
 use Rattle.suit_tree.specs.Nodes.{holds_index, move_of}
 use Rattle.suit_classes.specs.ClassMoves.{same_class_move}
 use Rattle.suit_reply.proofs.NodesAt.{at_itself, no_node, node_at}
-use Rattle.suit_reply.proofs.ListWalks.{kept_end, kept_on, kept_past}
+use Rattle.suit_reply.proofs.WhatIsStillToCome.{kept_end, kept_on, kept_past}
 use Rattle.suit_reply.proofs.node_moves.is_first_for.Goals as goal
 
 pub returns-then-holds : goal.returns-then-holds

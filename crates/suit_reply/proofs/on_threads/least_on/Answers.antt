@@ -6,9 +6,9 @@ use Rattle.std.proofs.lemmas.List.{length-append, nil_from_length}
 use Rattle.suit_plans.specs.declared.moves.DefenceMove.{DefenceMove}
 use Rattle.suit_reply.specs.AgainstPlan.{IsPlanFor}
 use Rattle.suit_reply.specs.LayoutsReplies.{IsReplyIn}
-use Rattle.suit_reply.proofs.ChunkReplies.{all_chunks, chunk_fits, chunk_more, next_inside, next_told}
-use Rattle.suit_reply.proofs.HeldMoves.{layouts_of}
-use Rattle.suit_reply.proofs.LeastTotals.{all_moves, all_numbers, none_so_far}
+use Rattle.suit_reply.proofs.LeastChunkByChunk.{all_chunks, chunk_fits, chunk_more, next_inside, next_told}
+use Rattle.suit_reply.proofs.OwnMovesGoOn.{layouts_of}
+use Rattle.suit_reply.proofs.LeastLayoutByLayout.{all_moves, all_numbers, none_so_far}
 use Rattle.suit_reply.proofs.on_threads.least_on.Goals as goal
 
 pub loop-reply-init : goal.loop-reply-init

@@ -1,5 +1,5 @@
 use Rattle.std.proofs.Common.{◌≡◌, ◌∙◌, length, sym, ap, arith}
-use Rattle.suit_tree.proofs.KeptIndices.{kept_all, kept_left, kept_none, kept_taken}
+use Rattle.suit_tree.proofs.WhichIndicesStay.{kept_all, kept_left, kept_none, kept_taken}
 use Rattle.suit_tree.proofs.branch.kept.Goals as goal
 use Rattle.suit_tree.proofs.branch.kept.Goals.{then-has+in_ok-push, else-has}
 

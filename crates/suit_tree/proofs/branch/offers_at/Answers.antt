@@ -2,7 +2,7 @@ use Rattle.std.proofs.Common.{subst}
 use Rattle.suit_classes.specs.ClassPlaces.{class_moves}
 use Rattle.suit_tree.specs.Growing.{Tells}
 use Rattle.suit_tree.specs.Trees.{counts_at}
-use Rattle.suit_tree.proofs.TakenOffers.{zip_more}
+use Rattle.suit_tree.proofs.OffersTell.{zip_more}
 use Rattle.suit_tree.proofs.branch.offers_at.Goals as goal
 
 pub loop-index-preserved : goal.loop-index-preserved

@@ -1,8 +1,8 @@
 use Rattle.std.proofs.Common.{◌∙◌, length, refl, sym, ap, arith}
 use Rattle.std.proofs.lemmas.List.{take_all}
 use Rattle.suit_tree.proofs.Branches.{branch_more, branch_none, is_none, is_some, their_made}
-use Rattle.suit_tree.proofs.KeptIndices.{kept_keeping}
-use Rattle.suit_tree.proofs.TakenOffers.{offered_tells, their_at, zip_length}
+use Rattle.suit_tree.proofs.WhichIndicesStay.{kept_keeping}
+use Rattle.suit_tree.proofs.OffersTell.{offered_tells, their_at, zip_length}
 use Rattle.suit_tree.proofs.branch.their_branches.Goals as goal
 use Rattle.suit_tree.proofs.branch.their_branches.Goals.{then-not-is_empty+in_ok-push, else-not-is_empty}
 

@@ -8,10 +8,11 @@ use Rattle.suit_classes.proofs.DefenceSizes.{range_below}
 use Rattle.suit_classes.specs.Classes.{sizes_of}
 use Rattle.suit_tree.proofs.GrowingSteps.{past_more}
 use Rattle.suit_tree.proofs.CountedNodes.{some_listed}
-use Rattle.suit_tree.proofs.GrownTrees.{allowing_first, grown_is_tree}
-use Rattle.suit_tree.proofs.PairCounts.{all_pairs_counted}
+use Rattle.suit_tree.proofs.GrownIsCounted.{allowing_first, grown_is_tree}
+use Rattle.suit_tree.proofs.HowManyPairs.{all_pairs_counted}
 use Rattle.suit_tree.proofs.growing.grow.Goals as goal
 use Rattle.suit_layouts.specs.ClassLayouts.{class_layouts}
+use Rattle.suit_game.specs.declared.limits.TheConstants.{MOST_MOVES}
 
 pub node-requires-clause-room : goal.node-requires-clause-room
 node-requires-clause-room c =
@@ -83,7 +84,7 @@ returns-clause-tree c =
     record {
       layouts = c.in_ok-layouts.ensures.layouts;
       top = c.in_ok-root.ensures.last;
-      nodes = grown_is_tree 52 c.args.question.now [] c.in_ok-root.root (rw (allowing_first c.args.question.now) grown);
+      nodes = grown_is_tree MOST_MOVES c.args.question.now [] c.in_ok-root.root (rw (allowing_first c.args.question.now) grown);
       pairs = omega (arith, counted);
     }
 

@@ -1,4 +1,4 @@
-use Rattle.suit_tree.proofs.ListedLayouts.{listed_tells}
+use Rattle.suit_tree.proofs.ToldIsAllowed.{listed_tells}
 use Rattle.suit_tree.proofs.laws.allows_is_allowed.Goals as goal
 
 pub returns : goal.returns

@@ -1,4 +1,4 @@
-use Rattle.suit_tree.proofs.ToldPlays.{children_rise}
+use Rattle.suit_tree.proofs.NodesTellPlay.{children_rise}
 use Rattle.suit_tree.proofs.laws.children_rise.Goals as goal
 
 pub returns : goal.returns

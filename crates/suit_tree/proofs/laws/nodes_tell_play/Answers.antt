@@ -1,4 +1,4 @@
-use Rattle.suit_tree.proofs.ToldPlays.{nodes_tell_play}
+use Rattle.suit_tree.proofs.NodesTellPlay.{nodes_tell_play}
 use Rattle.suit_tree.proofs.laws.nodes_tell_play.Goals as goal
 
 pub returns : goal.returns

@@ -1,6 +1,6 @@
 use Rattle.std.proofs.Common.{length, ap, arith}
 use Rattle.suit_layouts.proofs.FewCounts.{class_layouts_few, up_to_few}
-use Rattle.suit_layouts.proofs.WalkSteps.{weighed_all}
+use Rattle.suit_layouts.proofs.WhatAWalkYields.{weighed_all}
 use Rattle.suit_layouts.proofs.walks.ClassWalk.new.Goals as goal
 
 pub number_of_counts-requires : goal.number_of_counts-requires

@@ -1,5 +1,5 @@
 use Rattle.std.proofs.Common.{length, sym, ap, ◌∙◌, arith}
-use Rattle.suit_layouts.proofs.WalkSteps.{blocks_few, walk_on, weighed_none, weighed_skips, weighed_yields}
+use Rattle.suit_layouts.proofs.WhatAWalkYields.{blocks_few, walk_on, weighed_none, weighed_skips, weighed_yields}
 use Rattle.suit_layouts.proofs.walks.ClassWalkIterator.next.Goals as goal
 
 pub counts_at-counts-requires-clause-few : goal.counts_at-counts-requires-clause-few

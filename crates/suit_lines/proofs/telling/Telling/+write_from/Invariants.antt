@@ -1,11 +1,12 @@
 -- The lines so far; each step goes on to a longer history, and none has more than 52 moves.
 use Rattle.std.proofs.Common.{◌≡◌, ◌-◌, ◌++◌, length, take}
 use Rattle.std.specs.List.{flat_map}
+use Rattle.suit_game.specs.declared.limits.TheConstants.{MOST_MOVES}
 use Rattle.suit_lines.specs.Walks.{next_lines}
 use Rattle.suit_lines.proofs.telling.Telling.+write_from.Given as goal
 
 abbrev pub decreases-write_from : goal.decreases-write_from
-decreases-write_from l = 52 - length l.history.now.items
+decreases-write_from l = MOST_MOVES - length l.history.now.items
 
 abbrev pub invariant-loop-mv : goal.invariant-loop-mv
 invariant-loop-mv l = record {

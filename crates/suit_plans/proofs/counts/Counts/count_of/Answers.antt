@@ -3,7 +3,7 @@ use Rattle.std.proofs.lemmas.Int.{to_z-of_z}
 use Rattle.std.specs.Int.{w128}
 use Rattle.suit_cards.specs.declared.seats.Seat.TheVariants.{N}
 use Rattle.suit_classes.specs.declared.class_moves.ClassMove.TheVariants.{Lead}
-use Rattle.suit_plans.proofs.CountedMoves.{count_from, count_past}
+use Rattle.suit_plans.proofs.CountOfAMove.{count_from, count_past}
 use Rattle.suit_plans.proofs.counts.Counts.count_of.Goals as goal
 
 pub returns-then-is_same : goal.returns-then-is_same

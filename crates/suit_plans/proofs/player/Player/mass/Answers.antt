@@ -7,8 +7,9 @@ use Rattle.suit_classes.specs.ClassPlaces.{class_after}
 use Rattle.suit_classes.specs.declared.class_moves.ClassMove.TheVariants.{Lead}
 use Rattle.suit_plans.specs.Masses.{mass_from, mass_of}
 use Rattle.suit_plans.specs.Players.{side_of}
-use Rattle.suit_plans.proofs.MassWalks.{begins_with, mass_ended, mass_walked}
+use Rattle.suit_plans.proofs.MassFromTheStart.{begins_with, mass_ended, mass_walked}
 use Rattle.suit_plans.proofs.player.Player.mass.Goals as goal
+use Rattle.suit_game.specs.declared.limits.TheConstants.{MOST_MOVES}
 
 pub loop-index-init : goal.loop-index-init
 unfolding mass_of
@@ -28,7 +29,7 @@ loop-index-preserved c =
     let index = c.loop-index.index in
     let below = c.loop-index-test.true in
     let fits : SFits w128 c.let_through-mass.result = search rules in
-    let short : length (take index history) ≤ 52 = omega (arith, length-take index history, below, c.requires.short) in
+    let short : length (take index history) ≤ MOST_MOVES = omega (arith, length-take index history, below, c.requires.short) in
     record {
       place = c.step-place.ensures c.args.question.now (take index history) short so_far.place
           ∙ sym (ap (class_after c.args.question.now) (take_more history index (Lead N 0) below));

@@ -12,11 +12,11 @@ use Rattle.suit_reply.specs.NodeReplies.{NodeReplyView}
 use Rattle.suit_reply.specs.Turns.{TurnView, finished, gathered}
 use Rattle.suit_reply.specs.AgainstDefence.{most_gathers, shared_masses}
 use Rattle.suit_reply.proofs.NodesAt.{at_itself, no_node, node_at}
-use Rattle.suit_reply.proofs.MostWalks.AskedNodes.{asked_below, node_order, node_payoff, node_indices, node_positive}
-use Rattle.suit_reply.proofs.MostWalks.AskedNodes.{room_falls, step_from}
-use Rattle.suit_reply.proofs.TurnReplies.GatheredWorths.{found_with, joined_many}
-use Rattle.suit_reply.proofs.ListWalks.{one_off}
-use Rattle.suit_reply.proofs.MostWalks.{joined_is, sum_fits, tells_earned, tells_gathered, tells_none, told_at}
+use Rattle.suit_reply.proofs.MostChildByChild.ChildrenAreAsked.{asked_below, node_order, node_payoff, node_indices, node_positive}
+use Rattle.suit_reply.proofs.MostChildByChild.ChildrenAreAsked.{room_falls, step_from}
+use Rattle.suit_reply.proofs.WorthAtATurn.SumOrBest.{found_with, joined_many}
+use Rattle.suit_reply.proofs.WhatIsStillToCome.{one_off}
+use Rattle.suit_reply.proofs.MostChildByChild.{joined_is, sum_fits, tells_earned, tells_gathered, tells_none, told_at}
 use Rattle.suit_reply.proofs.against_defence.AgainstDefence.+below.Goals as goal
 
 pub returns-then-is_empty-clause-reply : goal.returns-then-is_empty-clause-reply

@@ -1,11 +1,12 @@
 use Rattle.std.proofs.Common.{◌≡◌, ◌-◌, ◌≤◌, length, map, take}
 use Rattle.suit_tree.specs.Nodes.{children_of}
 use Rattle.suit_reply.specs.Turns.{gathered}
-use Rattle.suit_reply.proofs.MostWalks.{told_at}
+use Rattle.suit_reply.proofs.MostChildByChild.{told_at}
 use Rattle.suit_reply.proofs.against_defence.AgainstDefence.+below.Given as goal
+use Rattle.suit_game.specs.declared.limits.TheConstants.{MOST_MOVES}
 
 abbrev pub decreases-below : goal.decreases-below
-decreases-below l = 52 - length l.history.now.items
+decreases-below l = MOST_MOVES - length l.history.now.items
 
 abbrev pub invariant-loop-child : goal.invariant-loop-child
 invariant-loop-child l = record {

@@ -5,7 +5,7 @@ use Rattle.std.specs.List.{range_with_len}
 use Rattle.std.proofs.lemmas.Int.{to_z-of_z}
 use Rattle.std.proofs.lemmas.List.{get_or_read}
 use Rattle.suit_cards.specs.Cards.{Counts}
-use Rattle.suit_reply.proofs.ListWalks.{one_numbered}
+use Rattle.suit_reply.proofs.WhatIsStillToCome.{one_numbered}
 use Rattle.suit_reply.proofs.against_defence.AgainstDefence.whole_masses.Goals as goal
 use Rattle.suit_reply.specs.AgainstDefence.{LayoutMasses}
 

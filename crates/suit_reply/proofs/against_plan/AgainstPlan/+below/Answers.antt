@@ -11,23 +11,24 @@ use Rattle.suit_tree.specs.Nodes.{children_of, turn_at}
 use Rattle.suit_reply.specs.Turns.{TurnView, finished, joined}
 use Rattle.suit_reply.specs.AgainstPlan.{goes_to, node_least}
 use Rattle.suit_reply.proofs.NodesAt.{at_itself, no_node, node_at}
-use Rattle.suit_reply.proofs.TurnReplies.GatheredWorths.{found_with, joined_many}
-use Rattle.suit_reply.proofs.LeastWalks.{Gathers, Goes, added_to, all_told, closed, first_gathered, gathered_first}
-use Rattle.suit_reply.proofs.LeastWalks.{gathers_own, gathers_their, goes_asked, goes_at, goes_joined, goes_shorter}
-use Rattle.suit_reply.proofs.LeastWalks.{goes_told, node_rows, over_told, passed_by, some_mass}
-use Rattle.suit_reply.proofs.LeastWalks.Sums.{earned_fits, goes_sum}
-use Rattle.suit_reply.proofs.ListWalks.{one_off}
+use Rattle.suit_reply.proofs.WorthAtATurn.SumOrBest.{found_with, joined_many}
+use Rattle.suit_reply.proofs.LeastChildByChild.{Gathers, Goes, added_to, all_told, closed, first_gathered, gathered_first}
+use Rattle.suit_reply.proofs.LeastChildByChild.{gathers_own, gathers_their, goes_asked, goes_at, goes_joined, goes_shorter}
+use Rattle.suit_reply.proofs.LeastChildByChild.{goes_told, node_rows, over_told, passed_by, some_mass}
+use Rattle.suit_reply.proofs.LeastChildByChild.SumsStayBounded.{earned_fits, goes_sum}
+use Rattle.suit_reply.proofs.WhatIsStillToCome.{one_off}
 use Rattle.suit_reply.proofs.against_plan.AgainstPlan.+below.Goals as goal
 use Rattle.suit_reply.proofs.against_plan.AgainstPlan.+below.Goals.{in-Lead, in-Defence}
 use Rattle.suit_reply.proofs.against_plan.AgainstPlan.+below.Goals.{then-goes_to+in_ok-push+in_ok-reply+in_ok-so_far}
 use Rattle.suit_reply.proofs.against_plan.AgainstPlan.+below.Goals.{else-goes_to}
+use Rattle.suit_game.specs.declared.limits.TheConstants.{MOST_MOVES}
 
 pub returns-then-mass-eq0-clause-reply : goal.returns-then-mass-eq0-clause-reply
 returns-then-mass-eq0-clause-reply t c =
     let fits : SFits w128 c.args.mass = search rules in
     let none : c.args.mass ≡ pos 0 = sym (to_z-of_z w128 c.args.mass fits) ∙ ap (to_z w128) c.if-mass-eq0.true in
     c.of.ensures
-    ∙ sym (closed (52 - length c.args.history.now.items) c.args.self.now.rows.now c.args.index c.args.history.now.items
+    ∙ sym (closed (MOST_MOVES - length c.args.history.now.items) c.args.self.now.rows.now c.args.index c.args.history.now.items
     c.args.mass c.args.node.now (ap (λ (z : ℤ). int_eq z (pos 0)) none))
 
 pub overflow_mul-payoff : goal.overflow_mul-payoff
@@ -113,7 +114,7 @@ below-requires t c =
 
 pub join-requires-clause-many : goal.join-requires-clause-many
 join-requires-clause-many t c =
-    let few = few_children (52 - length c.args.history.now.items) c.requires.question c.args.history.now.items
+    let few = few_children (MOST_MOVES - length c.args.history.now.items) c.requires.question c.args.history.now.items
     c.args.node.now c.requires.tree in
     omega (
       arith,
@@ -260,7 +261,7 @@ returns-clause-reply t c =
     c.children-child-items.ensures c.loop-child.invariant.so_far in
     let some = some_mass c.args.mass c.if-mass-eq0.false in
     IfOk-weaker c.finish.result (λ reply. reply ≡ finished c.match-turn.rule c.deref-2.result.now c.loop-child.so_far)
-    (λ reply. reply ≡ node_least (52 - length history) rows c.args.index history c.args.mass node)
+    (λ reply. reply ≡ node_least (MOST_MOVES - length history) rows c.args.index history c.args.mass node)
     (λ reply told.
     all_told rows c.args.index history c.args.mass node c.requires c.match-turn.rule c.loop-child.child-index
     c.loop-child.so_far reply c.loop-child.invariant.gathers some

@@ -1,5 +1,5 @@
 use Rattle.std.proofs.Common.{refl}
-use Rattle.suit_tree.proofs.TakenOffers.{tells_more, tells_none}
+use Rattle.suit_tree.proofs.OffersTell.{tells_more, tells_none}
 use Rattle.suit_tree.proofs.offers.Offers.of.Goals as goal
 
 pub loop-mv-init : goal.loop-mv-init
