@@ -1,12 +1,9 @@
-//! What `check` writes of answers: right ones, and ones with one thing wrong.
-use crate::gates::CountingGate;
+//! What `check` and `lines` write of answers: right ones, and ones with one thing wrong.
+use crate::runs::ran;
 use crate::solved::SOLVED;
 use std::alloc::Global;
 use std::test::Fail;
-use std::thread::Threads;
-use suit_game::{Gate, OpenGate};
-use suit_ports::{SureSink, SureSource};
-use suit_top::run;
+use suit_game::OpenGate;
 
 /// Eleven cards without the king and the queen: the ace is led, and both fall or not.
 const ELEVEN: &str = "north AJT98765432\nsouth -\nstart N\ngoal 11\nend\n";
@@ -25,66 +22,33 @@ const TEN_WITHIN_ONE: &str =
 const TEN_ANSWERED: &str =
     "answer 1\nvalue 13/25\nplan 1 0\ndefence 1 2\nwest 0 0 at S3 - A : 2 2496144\nwest 1 1 at S3 : 2 2496144\nend\n";
 
-/// The status of a run of `check` on a question and an answer, and what it wrote.
-fn checked<R: Threads + Sync, G: Gate + Sync>(
-    rt: &R,
-    gate: &G,
-    alloc: Global,
-    question: &str,
-    answer: &str,
-) -> Result<(u8, Vec<u8>), Fail> {
-    let mut input = question.as_bytes().to_vec(alloc)?;
-    input.extend_from_slice(answer.as_bytes())?;
-    let mut source = SureSource::of(input);
-    let mut sink = SureSink::with_room(alloc, 100)?;
-    let status = run(rt, gate, alloc, &["check"], &mut source, &mut sink);
-    Ok((status.code(), sink.bytes().to_vec(alloc)?))
-}
-
-/// A text, where another part stands for the first one like this.
-fn with_part(
-    alloc: Global,
-    text: &'static str,
-    part: &'static str,
-    other: &str,
-) -> Result<String, Fail> {
-    let (front, back) = text.split_once(part).ok_or(part)?;
-    Ok(format!(in alloc; "{front}{other}{back}")?)
-}
-
-#[test]
-fn right_answers_are_valid(rt: HostRuntime) -> Result<(), Fail> {
-    for (name, question, answer) in SOLVED {
-        let (status, written) = checked(&rt, &OpenGate, rt.alloc(), question, answer)?;
-        assert_eq!(rt; status, 0, "at {name}");
-        assert_eq!(rt; written.as_slice(), b"valid\n".as_slice(), "at {name}");
-    }
-    Ok(())
-}
-
-/// Questions, answers to them, the status that is due, and the text.
-const CASES: [(&str, &str, u8, &str); 9] = [
-    (ELEVEN, ELEVEN_ANSWERED, 0, "valid\n"),
+/// Commands, questions, answers to them, the status that is due, and the text.
+const CASES: [(&str, &str, &str, u8, &str); 20] = [
+    ("check", ELEVEN, ELEVEN_ANSWERED, 0, "valid\n"),
     (
+        "check",
         ELEVEN,
         "answer 1\nvalue 14/25\nplan 1 0\ndefence 1 0\nend\n",
         1,
         "not valid: least 13/25\n",
     ),
     (
+        "check",
         ELEVEN,
         "answer 1\nvalue 13/25\nplan 1 0\ndefence 1 0\n",
         1,
         "not valid: answer 6 at line 5\n",
     ),
-    (TEN, TEN_ANSWERED, 0, "valid\n"),
+    ("check", TEN, TEN_ANSWERED, 0, "valid\n"),
     (
+        "check",
         TEN,
         "answer 1\nvalue 13/25\nplan 1 0\ndefence 1 0\nend\n",
         1,
         "not valid: most 1/1\n",
     ),
     (
+        "check",
         TEN,
         "answer 1\nvalue 13/25\nplan 1 0\ndefence 1 3\n\
          west 0 0 at S3 - A : 2 2496144\nwest 1 1 at S3 : 2 2496144\nwest 1 1 at S3 : 2 2496144\nend\n",
@@ -92,6 +56,7 @@ const CASES: [(&str, &str, u8, &str); 9] = [
         "not valid: defence 3 at row 3\n",
     ),
     (
+        "check",
         TEN,
         "answer 1\nvalue 13/25\nplan 1 1\nat S3 2 : A 1 Q 1\ndefence 1 2\n\
          west 0 0 at S3 - A : 2 2496144\nwest 1 1 at S3 : 2 2496144\nend\n",
@@ -100,47 +65,108 @@ const CASES: [(&str, &str, u8, &str); 9] = [
     ),
     // Of a question with a fault the answer is not read.
     (
+        "check",
         "north A\nsouth A\ngoal 1\nend\n",
         "",
         3,
         "malformed 6 at line 4\n",
     ),
-    (ELEVEN, "", 1, "not valid: answer 6 at line 1\n"),
-];
-
-#[test]
-fn ten_and_eleven_cards(rt: HostRuntime) -> Result<(), Fail> {
-    for (question, answer, code, text) in CASES {
-        let (status, written) = checked(&rt, &OpenGate, rt.alloc(), question, answer)?;
-        assert_eq!(rt; status, code, "at {answer}");
-        assert_eq!(rt; written.as_slice(), text.as_bytes(), "at {answer}");
-    }
-    Ok(())
-}
-
-/// Answers to the ten cards with a budget of one node, the status that is due, and the text.
-/// The budget is told before what is wrong with the plan, and after what is wrong with the text.
-const PAST_BUDGET: [(&str, u8, &str); 3] = [
-    (TEN_ANSWERED, 4, "nodes 1\n"),
+    ("check", ELEVEN, "", 1, "not valid: answer 6 at line 1\n"),
+    // The budget is told before what is wrong with the plan, and after what is wrong with the text.
+    ("check", TEN_WITHIN_ONE, TEN_ANSWERED, 4, "nodes 1\n"),
     (
+        "check",
+        TEN_WITHIN_ONE,
         "answer 1\nvalue 13/25\nplan 0 0\ndefence 1 0\nend\n",
         4,
         "nodes 1\n",
     ),
-    ("answer 2\n", 1, "not valid: answer 1 at line 1\n"),
+    (
+        "check",
+        TEN_WITHIN_ONE,
+        "answer 2\n",
+        1,
+        "not valid: answer 1 at line 1\n",
+    ),
+    (
+        "lines",
+        TEN,
+        TEN_ANSWERED,
+        0,
+        "Value 13/25, 52.00 percent.\n\
+         After South leads 3, West plays K: North plays A.\n\
+         After South leads 3, West plays 2: North plays A.\n\
+         After South leads 3, West shows out: North plays A.\n",
+    ),
+    (
+        "lines",
+        ELEVEN,
+        "answer 1\nvalue 13/25\nplan 1 0\ndefence 1 0\nend\n",
+        0,
+        "Value 13/25, 52.00 percent.\nAt the start: North leads A.\n",
+    ),
+    (
+        "lines",
+        ELEVEN,
+        "answer 1\nvalue 14/25\nplan 1 0\ndefence 1 0\nend\n",
+        1,
+        "not valid: least 13/25\n",
+    ),
+    (
+        "lines",
+        ELEVEN,
+        "answer 1\nvalue 13/25\nplan 1 0\ndefence 1 0\n",
+        1,
+        "not valid: answer 6 at line 5\n",
+    ),
+    (
+        "lines",
+        TEN,
+        "answer 1\nvalue 13/25\nplan 1 0\ndefence 1 0\nend\n",
+        1,
+        "not valid: most 1/1\n",
+    ),
+    (
+        "lines",
+        TEN,
+        "answer 1\nvalue 13/25\nplan 1 1\nat S3 2 : A 1 Q 1\ndefence 1 0\nend\n",
+        1,
+        "not valid: plan 6 at row 1\n",
+    ),
+    (
+        "lines",
+        "north AQJT987654\nsouth 3\nstart S\nentries 0 0\ngoal 10\nnodes 1\nend\n",
+        TEN_ANSWERED,
+        4,
+        "nodes 1\n",
+    ),
+    (
+        "lines",
+        "north A\nsouth A\ngoal 1\nend\n",
+        "",
+        3,
+        "malformed 6 at line 4\n",
+    ),
 ];
 
 #[test]
-fn budget_of_one_node(rt: HostRuntime) -> Result<(), Fail> {
-    for (answer, code, text) in PAST_BUDGET {
-        let (status, written) = checked(&rt, &OpenGate, rt.alloc(), TEN_WITHIN_ONE, answer)?;
-        assert_eq!(rt; status, code, "at {answer}");
-        assert_eq!(rt; written.as_slice(), text.as_bytes(), "at {answer}");
+fn answers_are_judged_and_told(rt: HostRuntime) -> Result<(), Fail> {
+    for (word, question, answer, code, text) in CASES {
+        let input = format!(in rt.alloc(); "{question}{answer}")?;
+        let (status, written) = ran(&rt, &OpenGate, rt.alloc(), &[word], input.as_bytes())?;
+        assert_eq!(rt; status, code, "at {word} {answer}");
+        assert_eq!(rt; written.as_slice(), text.as_bytes(), "at {word} {answer}");
+    }
+    for (name, question, answer) in SOLVED {
+        let input = format!(in rt.alloc(); "{question}{answer}")?;
+        let (status, written) = ran(&rt, &OpenGate, rt.alloc(), &["check"], input.as_bytes())?;
+        assert_eq!(rt; status, 0, "at {name}");
+        assert_eq!(rt; written.as_slice(), b"valid\n".as_slice(), "at {name}");
     }
     Ok(())
 }
 
-/// Answers with one line altered: the line, what stands for it, and what is told.
+/// Answers to the eleven cards with one line altered: the line, what stands for it, and what is told.
 const HOSTILE: [(&str, &str, &str); 18] = [
     ("answer 1\n", "answer 2\n", "answer 1 at line 1"),
     ("value 13/25\n", "value 26/50\n", "answer 3 at line 2"),
@@ -186,34 +212,11 @@ const HOSTILE: [(&str, &str, &str); 18] = [
     ),
 ];
 
-#[test]
-fn hostile_answers_are_refused(rt: HostRuntime) -> Result<(), Fail> {
-    for (line, lines, fault) in HOSTILE {
-        let answer = with_part(rt.alloc(), ELEVEN_ANSWERED, line, lines)?;
-        let (status, written) = checked(&rt, &OpenGate, rt.alloc(), ELEVEN, answer.as_str())?;
-        let text = format!(in rt.alloc(); "not valid: {fault}\n")?;
-        assert_eq!(rt; status, 1, "at {lines}");
-        assert_eq!(rt; written.as_slice(), text.as_bytes(), "at {lines}");
-    }
-    Ok(())
-}
-
-/// Answers with one line altered that stay right: the line, and what stands for it.
+/// Answers to the eleven cards with one line altered that stay right: the line, and what stands for it.
 const STILL_RIGHT: [(&str, &str); 2] = [
     ("defence 1 0\n", "defence 1237940039285380274899124224 0\n"),
     ("plan 1 0\n", "plan 1 1\nat : NA 1\n"),
 ];
-
-#[test]
-fn harmless_changes_are_valid(rt: HostRuntime) -> Result<(), Fail> {
-    for (line, lines) in STILL_RIGHT {
-        let answer = with_part(rt.alloc(), ELEVEN_ANSWERED, line, lines)?;
-        let (status, written) = checked(&rt, &OpenGate, rt.alloc(), ELEVEN, answer.as_str())?;
-        assert_eq!(rt; status, 0, "at {lines}");
-        assert_eq!(rt; written.as_slice(), b"valid\n".as_slice(), "at {lines}");
-    }
-    Ok(())
-}
 
 /// Answers with one thing altered: the name of the pair, a part of its answer, what stands for it, and what is told.
 const ALTERED: [(&str, &str, &str, &str); 12] = [
@@ -268,17 +271,15 @@ const ALTERED: [(&str, &str, &str, &str); 12] = [
     ),
 ];
 
-#[test]
-fn altered_answers_are_refused(rt: HostRuntime) -> Result<(), Fail> {
-    for (which, part, other, fault) in ALTERED {
-        let (question, answer) = solved(which)?;
-        let altered = with_part(rt.alloc(), answer, part, other)?;
-        let (status, written) = checked(&rt, &OpenGate, rt.alloc(), question, altered.as_str())?;
-        let text = format!(in rt.alloc(); "not valid: {fault}\n")?;
-        assert_eq!(rt; status, 1, "at {fault}");
-        assert_eq!(rt; written.as_slice(), text.as_bytes(), "at {fault}");
-    }
-    Ok(())
+/// A text, where another part stands for the first one like this.
+fn with_part(
+    alloc: Global,
+    text: &'static str,
+    part: &'static str,
+    other: &str,
+) -> Result<String, Fail> {
+    let (front, back) = text.split_once(part).ok_or(part)?;
+    Ok(format!(in alloc; "{front}{other}{back}")?)
 }
 
 /// The question and the answer of a pair.
@@ -292,11 +293,30 @@ fn solved(which: &str) -> Result<(&'static str, &'static str), Fail> {
 }
 
 #[test]
-fn layouts_are_checked_side_by_side(rt: HostRuntime) -> Result<(), Fail> {
-    let gate = CountingGate::new();
-    let (status, written) = checked(&rt, &gate, rt.alloc(), TEN, TEN_ANSWERED)?;
-    assert_eq!(rt; status, 0);
-    assert_eq!(rt; written.as_slice(), b"valid\n".as_slice());
-    assert!(rt; gate.was_shared());
+fn altered_answers_are_judged(rt: HostRuntime) -> Result<(), Fail> {
+    for (line, lines, fault) in HOSTILE {
+        let answer = with_part(rt.alloc(), ELEVEN_ANSWERED, line, lines)?;
+        let input = format!(in rt.alloc(); "{ELEVEN}{answer}")?;
+        let (status, written) = ran(&rt, &OpenGate, rt.alloc(), &["check"], input.as_bytes())?;
+        let text = format!(in rt.alloc(); "not valid: {fault}\n")?;
+        assert_eq!(rt; status, 1, "at {lines}");
+        assert_eq!(rt; written.as_slice(), text.as_bytes(), "at {lines}");
+    }
+    for (line, lines) in STILL_RIGHT {
+        let answer = with_part(rt.alloc(), ELEVEN_ANSWERED, line, lines)?;
+        let input = format!(in rt.alloc(); "{ELEVEN}{answer}")?;
+        let (status, written) = ran(&rt, &OpenGate, rt.alloc(), &["check"], input.as_bytes())?;
+        assert_eq!(rt; status, 0, "at {lines}");
+        assert_eq!(rt; written.as_slice(), b"valid\n".as_slice(), "at {lines}");
+    }
+    for (which, part, other, fault) in ALTERED {
+        let (question, answer) = solved(which)?;
+        let altered = with_part(rt.alloc(), answer, part, other)?;
+        let input = format!(in rt.alloc(); "{question}{altered}")?;
+        let (status, written) = ran(&rt, &OpenGate, rt.alloc(), &["check"], input.as_bytes())?;
+        let text = format!(in rt.alloc(); "not valid: {fault}\n")?;
+        assert_eq!(rt; status, 1, "at {fault}");
+        assert_eq!(rt; written.as_slice(), text.as_bytes(), "at {fault}");
+    }
     Ok(())
 }

@@ -1,10 +1,16 @@
-//! Tests that cross crates, on questions that are made from their text.
+//! Tests of whole runs, on questions that are made from their text.
 #![tactic(auto)]
 
 #[cfg(test)]
 mod checking;
 #[cfg(test)]
+mod examples;
+#[cfg(test)]
 mod gates;
+#[cfg(test)]
+mod ports;
+#[cfg(test)]
+mod runs;
 #[cfg(test)]
 mod solved;
 #[cfg(test)]
@@ -12,6 +18,4 @@ mod solving;
 #[cfg(test)]
 mod tabling;
 #[cfg(test)]
-mod telling;
-#[cfg(test)]
-mod tests;
+mod weighing;

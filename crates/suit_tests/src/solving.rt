@@ -1,32 +1,8 @@
 //! What `solve` writes: the answers that another program found, and each refusal at its limit.
+use crate::runs::ran;
 use crate::solved::SOLVED;
-use std::alloc::Global;
 use std::test::Fail;
-use std::thread::Threads;
 use suit_game::OpenGate;
-use suit_ports::{SureSink, SureSource};
-use suit_top::run;
-
-/// The most bytes that an answer of this file has, and more.
-const ROOM: usize = 100_000;
-
-/// The code of a run of `solve`, and what it wrote.
-fn solved<R: Threads + Sync>(rt: &R, alloc: Global, question: &str) -> Result<(u8, Vec<u8>), Fail> {
-    let mut source = SureSource::of(question.as_bytes().to_vec(alloc)?);
-    let mut sink = SureSink::with_room(alloc, ROOM)?;
-    let status = run(rt, &OpenGate, alloc, &["solve"], &mut source, &mut sink);
-    Ok((status.code(), sink.bytes().to_vec(alloc)?))
-}
-
-#[test]
-fn solve_writes_the_answers_of_another_program(rt: HostRuntime) -> Result<(), Fail> {
-    for (name, question, answer) in SOLVED {
-        let (status, written) = solved(&rt, rt.alloc(), question)?;
-        assert_eq!(rt; status, 0, "at {name}");
-        assert_eq!(rt; written.as_slice(), answer.as_bytes(), "at {name}");
-    }
-    Ok(())
-}
 
 /// The answer where each number is sure and no row is needed.
 const SURE: &str = "answer 1\nvalue 1/1\nplan 1 0\ndefence 1 0\nend\n";
@@ -88,9 +64,19 @@ const LIMITS: [(&str, u8, &str); 12] = [
 ];
 
 #[test]
+fn solve_writes_the_answers_of_another_program(rt: HostRuntime) -> Result<(), Fail> {
+    for (name, question, answer) in SOLVED {
+        let (status, written) = ran(&rt, &OpenGate, rt.alloc(), &["solve"], question.as_bytes())?;
+        assert_eq!(rt; status, 0, "at {name}");
+        assert_eq!(rt; written.as_slice(), answer.as_bytes(), "at {name}");
+    }
+    Ok(())
+}
+
+#[test]
 fn limits_are_met_where_they_stand(rt: HostRuntime) -> Result<(), Fail> {
     for (question, code, text) in LIMITS {
-        let (status, written) = solved(&rt, rt.alloc(), question)?;
+        let (status, written) = ran(&rt, &OpenGate, rt.alloc(), &["solve"], question.as_bytes())?;
         assert_eq!(rt; status, code, "at {question}");
         assert_eq!(rt; written.as_slice(), text.as_bytes(), "at {question}");
     }
@@ -124,9 +110,9 @@ const VALUES: [(&str, &str); 5] = [
 #[test]
 fn values_are_as_computed_by_hand(rt: HostRuntime) -> Result<(), Fail> {
     for (question, value) in VALUES {
-        let (status, written) = solved(&rt, rt.alloc(), question)?;
-        assert_eq!(rt; status, 0, "at {question}");
+        let (status, written) = ran(&rt, &OpenGate, rt.alloc(), &["solve"], question.as_bytes())?;
         let first = format!(in rt.alloc(); "answer 1\nvalue {value}\n")?;
+        assert_eq!(rt; status, 0, "at {question}");
         assert!(rt; written.starts_with(first.as_bytes()), "at {question}");
     }
     Ok(())

@@ -1,25 +1,7 @@
 //! What `table`, `make` and `trial` write. The outcomes were found by another program.
-use crate::gates::CountingGate;
-use std::alloc::Global;
+use crate::runs::ran;
 use std::test::Fail;
-use std::thread::Threads;
-use suit_game::{Gate, OpenGate};
-use suit_ports::{SureSink, SureSource};
-use suit_top::run;
-
-/// The code of a run, and what it wrote.
-fn ran<R: Threads + Sync, G: Gate + Sync>(
-    rt: &R,
-    gate: &G,
-    alloc: Global,
-    words: &[&str],
-    input: &str,
-) -> Result<(u8, Vec<u8>), Fail> {
-    let mut source = SureSource::of(input.as_bytes().to_vec(alloc)?);
-    let mut sink = SureSink::with_room(alloc, 1000)?;
-    let status = run(rt, gate, alloc, words, &mut source, &mut sink);
-    Ok((status.code(), sink.bytes().to_vec(alloc)?))
-}
+use suit_game::OpenGate;
 
 /// Sixteen records: questions with a value or without, fields with blanks, and a mistake of each sort.
 const RECORDS: &str = "AQ,32,S,,0,0,,,,,2,,\n\
@@ -39,13 +21,14 @@ const RECORDS: &str = "AQ,32,S,,0,0,,,,,2,,\n\
     AKT9876,54,,,0,1,,,,,7,,\n\
     10,2,,,,,,,,,1,,\n";
 
+/// What is written of them.
 const LINES: &str = "1,value,1/2\n2,value,10/23\n3,value,19/25\n4,value,1649/3220\n5,malformed,5\n\
     6,value,3/2\n7,value,13/25\n8,nodes,52\n9,value,95/288\n10,pivots,10\n11,malformed,4\n\
     12,malformed,9\n13,malformed,1\n14,support,4000\n15,value,533/1150\n16,value,0/1\n";
 
 #[test]
 fn records_have_the_outcomes_of_another_program(rt: HostRuntime) -> Result<(), Fail> {
-    let (status, written) = ran(&rt, &OpenGate, rt.alloc(), &["table"], RECORDS)?;
+    let (status, written) = ran(&rt, &OpenGate, rt.alloc(), &["table"], RECORDS.as_bytes())?;
     assert_eq!(rt; status, 0);
     assert_eq!(rt; written.as_slice(), LINES.as_bytes());
     Ok(())
@@ -88,32 +71,11 @@ const CASES: [(&[&str], &str, u8, &str); 12] = [
 ];
 
 #[test]
-fn tables_are_refused_and_made(rt: HostRuntime) -> Result<(), Fail> {
+fn tables_are_made_and_refused(rt: HostRuntime) -> Result<(), Fail> {
     for (words, input, code, text) in CASES {
-        let (status, written) = ran(&rt, &OpenGate, rt.alloc(), words, input)?;
+        let (status, written) = ran(&rt, &OpenGate, rt.alloc(), words, input.as_bytes())?;
         assert_eq!(rt; status, code, "at {words:?}");
         assert_eq!(rt; written.as_slice(), text.as_bytes(), "at {words:?}");
     }
-    Ok(())
-}
-
-#[test]
-fn records_are_judged_side_by_side(rt: HostRuntime) -> Result<(), Fail> {
-    let gate = CountingGate::new();
-    let twice = "AQ,32,S,,0,0,,,,,2,,\nAQ,32,S,,0,0,,,,,2,,\n";
-    let (status, written) = ran(&rt, &gate, rt.alloc(), &["table"], twice)?;
-    assert_eq!(rt; status, 0);
-    assert_eq!(rt;
-        written.as_slice(),
-        b"1,value,1/2\n2,value,1/2\n".as_slice()
-    );
-    assert!(rt; gate.was_shared());
-
-    let gate = CountingGate::new();
-    let (status, written) = ran(&rt, &gate, rt.alloc(), &["trial", "1", "2"], "")?;
-    let text = b"records 2 values 0 nodes 2 support 0 pivots 0 wide 0\n";
-    assert_eq!(rt; status, 0);
-    assert_eq!(rt; written.as_slice(), text.as_slice());
-    assert!(rt; gate.was_shared());
     Ok(())
 }
