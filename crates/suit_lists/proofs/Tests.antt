@@ -133,7 +133,7 @@ pub any_of_map : {X Y : Type 0} (p : Y → Bool) (f : X → Y) (xs : List X)
 any_of_map p f [] = refl
 any_of_map p f (x ∷ xs) = ap (λ (b : Bool). p (f x) || b) (any_of_map p f xs)
 
-or_apart : (a b c : Bool) → ((a || b) || c) ≡ (a || (b || c))
+pub or_apart : (a b c : Bool) → ((a || b) || c) ≡ (a || (b || c))
 or_apart true b c = refl
 or_apart false b c = refl
 
