@@ -21,6 +21,6 @@ pub use defence::{Defence, DefenceRow, DefenceRows};
 pub use faults::{PlanFault, PlanKind};
 pub use lookup::{defence_shares_at, plan_shares_at};
 pub use moves::{DeclarerMove, DeclarerMoves, DefenceMove, DefenceMoves};
-pub use plan::{MOST_DEN, Plan, Row, Rows, WORTH_BOUND};
+pub use plan::{MOST_DEN, MOST_MASS, Plan, Row, Rows, WORTH_BOUND};
 pub use proper::{proper_defence, proper_plan};
 pub use turns::{is_declarers, is_defences, is_first};

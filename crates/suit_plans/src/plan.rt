@@ -8,6 +8,10 @@ use suit_classes::History;
 /// The largest denominator of a plan or a defence: 2^90.
 pub const MOST_DEN: i128 = 1 << 90;
 
+/// What the masses of a defence in all class layouts come to at most: 2^114, which is above the most deals times the
+/// largest denominator.
+pub const MOST_MASS: u128 = 1 << 114;
+
 /// What the least of a proper plan and the most of a proper defence stay below: 2^118, which is above thirteen times
 /// the most deals times the largest denominator.
 pub const WORTH_BOUND: i128 = 1 << 118;
