@@ -23,7 +23,7 @@ use Rattle.suit_answer.specs.Writing.{defence_lines, end_line}
 use Rattle.suit_answer.specs.declared.faults.AnswerFault.{AnswerFault}
 use Rattle.suit_answer.specs.declared.parts.TheConstants.{MOST_ROWS}
 use Rattle.suit_answer.proofs.RowWords.{plan_row_taken, defence_row_taken}
-use Rattle.suit_answer.proofs.SpacedWords.{end_spelled}
+use Rattle.suit_answer.proofs.WordsInARow.{end_spelled}
 use Rattle.suit_answer.proofs.Steps.{bind_ok, ok_is}
 use Rattle.suit_answer.proofs.TextBack.{plan_part_back, defence_part_back, end_back}
 use Rattle.suit_answer.proofs.TextTaken.{joined, joined_pieces, part_taken, end_taken, plan_is, defence_is}

@@ -6,11 +6,11 @@ pub mod MoveBack
 pub mod MoveWords
 pub mod NumberBack
 pub mod NumberWords
-pub mod ReducedFractions
+pub mod OneFractionInLowestTerms
 pub mod RowLoops
 pub mod RowBack
 pub mod RowWords
-pub mod SpacedWords
+pub mod WordsInARow
 pub mod Steps
 pub mod TextBack
 pub mod TextTaken

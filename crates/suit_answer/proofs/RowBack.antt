@@ -6,7 +6,7 @@ use Rattle.std.specs.Str.{bytes_eq}
 use Rattle.std.proofs.lemmas.Bool.Decides.{nat_tests}
 use Rattle.std.proofs.lemmas.List.Concat.{flat_map-cons}
 use Rattle.std.proofs.lemmas.List.Elements.{recursion_from_All}
-use Rattle.suit_cards.specs.Cards.{Text, Counts}
+use Rattle.suit_cards.specs.Cards.{Text, ClassLayout}
 use Rattle.suit_game.specs.declared.limits.TheConstants.{HAND_SIZE}
 use Rattle.suit_classes.specs.ClassMoves.{ClassHistory}
 use Rattle.suit_plans.specs.Masses.{Shares}
@@ -108,7 +108,7 @@ module _ (names : Text) (line : ℕ) (good : AreLetters names) where
   pub plan_row_plain : (row : Row) → IsWritableRow (length names) row → ArePlain (plan_row_words names row)
   plan_row_plain row h = ((lit< tt, (lit< tt, tt)), turn_plain row.history row.counts h)
 
-  counts_plain : (counts : Counts) → AllByRecursion (λ count. count ≤ HAND_SIZE) counts
+  counts_plain : (counts : ClassLayout) → AllByRecursion (λ count. count ≤ HAND_SIZE) counts
       → ArePlain (map decimal counts)
   counts_plain [] h = tt
   counts_plain (count ∷ counts) h =
@@ -135,7 +135,7 @@ module _ (names : Text) (line : ℕ) (good : AreLetters names) where
         shares_back row.counts shares,
       ) refl
 
-  counts_back : (counts : Counts) (rest : List Text) → AllByRecursion (λ count. count ≤ HAND_SIZE) counts
+  counts_back : (counts : ClassLayout) (rest : List Text) → AllByRecursion (λ count. count ≤ HAND_SIZE) counts
       → counts_due line (map decimal counts ++ codes "at" ∷ rest) ≡ Ok (counts, rest)
   unfolding counts_due
   counts_back [] rest h = refl
@@ -147,7 +147,7 @@ module _ (names : Text) (line : ℕ) (good : AreLetters names) where
         counts_back counts rest h.1,
       ) refl
 
-  layout_form : (counts : Counts) (rest : List Text) → AllByRecursion (λ count. count ≤ HAND_SIZE) counts
+  layout_form : (counts : ClassLayout) (rest : List Text) → AllByRecursion (λ count. count ≤ HAND_SIZE) counts
       → is_turn rest ≡ true → is_layout_turn (map decimal counts ++ codes "at" ∷ rest) ≡ true
   unfolding is_layout_turn
   layout_form [] rest h form = form

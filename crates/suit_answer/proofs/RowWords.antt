@@ -6,7 +6,7 @@ use Rattle.std.specs.Str.{bytes_eq}
 use Rattle.std.proofs.lemmas.Bool.Decides.{nat_tests}
 use Rattle.std.proofs.lemmas.List.Concat.{flat_map-cons}
 use Rattle.std.proofs.lemmas.List.Elements.{All-from_recursion}
-use Rattle.suit_cards.specs.Cards.{Text, Counts}
+use Rattle.suit_cards.specs.Cards.{Text, ClassLayout}
 use Rattle.suit_game.specs.declared.limits.TheConstants.{HAND_SIZE}
 use Rattle.suit_classes.specs.ClassMoves.{ClassHistory}
 use Rattle.suit_classes.specs.declared.class_moves.ClassMove.{ClassMove}
@@ -135,21 +135,21 @@ module _ (letters : Text) (line : ℕ) where
       (ok_is made row shares.2) ((λ i. same_text word (codes "at") tests.0 i ∷ turn.0 i), turn.1)
 
   -- the words that counts were read from
-  record CountsTaken (words : List Text) (found : Counts × List Text) : Type 0 where
+  record CountsTaken (words : List Text) (found : ClassLayout × List Text) : Type 0 where
     spelled : words ≡ map decimal found.0 ++ codes "at" ∷ found.1
     small : AllByRecursion (λ count. count ≤ HAND_SIZE) found.0
     then_turn : is_layout_turn words ≡ true → is_turn found.1 ≡ true
 
-  counts_by : (b : Bool) (word : Text) (words : List Text) (found : Counts × List Text)
+  counts_by : (b : Bool) (word : Text) (words : List Text) (found : ClassLayout × List Text)
       → bytes_eq word (codes "at") ≡ b
       → cond b (Ok ([], words)) (small_due HAND_SIZE line word >>= λ count. (counts_due line words >>= λ more.
       Ok (count ∷ more.0, more.1))) ≡ Ok found
-      → ((more : Counts × List Text) → counts_due line words ≡ Ok more → CountsTaken words more)
+      → ((more : ClassLayout × List Text) → counts_due line words ≡ Ok more → CountsTaken words more)
       → CountsTaken (word ∷ words) found
   unfolding is_layout_turn
   counts_by true word words found e h later =
       let same : ([], words) ≡ found = ok_is ([], words) found h in
-      subst (λ (f : Counts × List Text). CountsTaken (word ∷ words) f) same (record {
+      subst (λ (f : ClassLayout × List Text). CountsTaken (word ∷ words) f) same (record {
         spelled = ap (λ (w : Text). w ∷ words) (same_text word (codes "at") e);
         small = tt;
         then_turn = λ form. rw e at form;
@@ -161,7 +161,7 @@ module _ (letters : Text) (line : ℕ) where
       let same : (first.0 ∷ second.0.0, second.0.1) ≡ found = ok_is (first.0 ∷ second.0.0, second.0.1) found second.2 in
       let count = small_taken HAND_SIZE line word first.0 first.1 in
       let rest : CountsTaken words second.0 = later second.0 second.1 in
-      subst (λ (f : Counts × List Text). CountsTaken (word ∷ words) f) same (record {
+      subst (λ (f : ClassLayout × List Text). CountsTaken (word ∷ words) f) same (record {
         spelled = λ i. count.0 i ∷ rest.spelled i;
         small = (count.1, rest.small);
         then_turn =
@@ -169,7 +169,7 @@ module _ (letters : Text) (line : ℕ) where
             rest.then_turn (both_pass (is_value word) (is_layout_turn words) inner).1;
       })
 
-  counts_taken : (words : List Text) (found : Counts × List Text) → counts_due line words ≡ Ok found
+  counts_taken : (words : List Text) (found : ClassLayout × List Text) → counts_due line words ≡ Ok found
       → CountsTaken words found
   unfolding counts_due
   counts_taken [] found h = absurd cc

@@ -38,7 +38,7 @@ use Rattle.suit_answer.proofs.Lowest.{told_as, lowest_yes}
 use Rattle.suit_answer.proofs.MoveBack.{letters_good}
 use Rattle.suit_answer.proofs.NumberBack.{AreDigits, number_back, number_digits, number_word, small_back, decimal_word}
 use Rattle.suit_answer.proofs.RowBack.{ArePlain, plan_row_back, plan_row_plain, defence_row_back, defence_row_plain}
-use Rattle.suit_answer.proofs.SpacedWords.{spaced_none, spaced_next, answer_spelled}
+use Rattle.suit_answer.proofs.WordsInARow.{spaced_none, spaced_next, answer_spelled}
 use Rattle.suit_answer.proofs.TextTaken.{letters_each}
 
 -- the bytes of a text are others than one

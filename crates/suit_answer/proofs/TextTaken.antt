@@ -41,7 +41,7 @@ use Rattle.suit_answer.specs.declared.faults.AnswerFault.TheVariants.{Version, L
 use Rattle.suit_answer.specs.declared.parts.TheConstants.{MOST_ROWS}
 use Rattle.suit_answer.proofs.NumberWords.{passed, number_taken, small_taken}
 use Rattle.suit_answer.proofs.RowWords.{plan_row_taken, defence_row_taken}
-use Rattle.suit_answer.proofs.SpacedWords.{spaced_none, spaced_next, answer_spelled}
+use Rattle.suit_answer.proofs.WordsInARow.{spaced_none, spaced_next, answer_spelled}
 use Rattle.suit_answer.proofs.Steps.{bind_ok, ok_is, chosen_ok, some_ok, same_text}
 
 -- the text of pieces

@@ -8,7 +8,7 @@ pub mod LowestTerms
 pub mod Numbers
 pub mod Reading
 pub mod Reduced
-pub mod ReducedTerms
+pub mod LowestTermsAreExact
 pub mod Results
 pub mod Rows
 pub mod Writable

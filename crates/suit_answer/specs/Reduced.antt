@@ -4,7 +4,7 @@ use Rattle.suit_num.specs.Divisors.{gcd_of}
 use Rattle.suit_num.specs.declared.fraction.Frac.{Frac}
 use Rattle.suit_game.specs.declared.question.Question.{Question}
 use Rattle.suit_game.specs.Layouts.{total}
-use Rattle.suit_answer.specs.ReducedTerms.{lowest_coprime, lowest_positive, one_positive, one_coprime}
+use Rattle.suit_answer.specs.LowestTermsAreExact.{lowest_coprime, lowest_positive, one_positive, one_coprime}
 
 -- the greatest common divisor of two whole numbers
 abbrev pub divisor_of : ℤ → ℤ → ℤ

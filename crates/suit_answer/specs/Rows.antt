@@ -2,7 +2,7 @@
 -- once the line has its form.
 use Rattle.std.specs.Prelude.{ℕ, ◌==◌, ◌&&◌, List, [], ◌∷◌, length, codes, Result, Ok, Err, if◌then◌else◌}
 use Rattle.std.specs.Str.{bytes_eq}
-use Rattle.suit_cards.specs.Cards.{Text, Counts}
+use Rattle.suit_cards.specs.Cards.{Text, ClassLayout}
 use Rattle.suit_game.specs.declared.limits.TheConstants.{HAND_SIZE}
 use Rattle.suit_classes.specs.ClassMoves.{ClassHistory}
 use Rattle.suit_plans.specs.Masses.{Shares}
@@ -36,7 +36,7 @@ shares_due letters line (word ∷ number ∷ words) = do
   Ok ((move, count) ∷ more)
 
 -- the counts up to a word `at`, and the words after it
-unfoldable pub counts_due : ℕ → List Text → Result (Counts × List Text) AnswerFault
+unfoldable pub counts_due : ℕ → List Text → Result (ClassLayout × List Text) AnswerFault
 counts_due line [] = Err (Line line)
 counts_due line (word ∷ words) =
     if bytes_eq word (codes "at") then Ok ([], words)

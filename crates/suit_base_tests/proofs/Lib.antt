@@ -1,1 +1,1 @@
-mod BoundedPrograms
+mod TestProgramsAreBounded

@@ -45,7 +45,7 @@ fn is_among(moves: &[Move], mv: &Move) -> bool
 
 impl Play {
     // The play with no moves.
-    #[tactic(auto, using(suit_game::proofs::SeenPlaces::play_none))]
+    #[tactic(auto, using(suit_game::proofs::PlaceSeenAfterAMove::play_none))]
     fn start(question: &Question, west: Holding) -> Result<Play, Fail>
         ensures legal { IfOk result (λ play. IsPlay play.question play.west play.history.items) }
         ensures at { IfOk result (λ play. IsAt play.question play.history.items play.place) }

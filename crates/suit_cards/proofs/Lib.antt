@@ -1,5 +1,5 @@
-pub mod HeldRanks
-pub mod HeldSuits
+pub mod WhetherARankIsHeld
+pub mod HoldingIsWhatItHolds
 pub mod MaskMeanings
 pub mod RankLetters
 pub mod RankRuns
@@ -7,4 +7,4 @@ pub mod ReadingSteps
 pub mod ReadingWhole
 pub mod SingleRank
 pub mod SuitRuns
-pub mod WrittenCards
+pub mod HoldingTextReadsBack

@@ -1,5 +1,6 @@
 use Rattle.std.proofs.Common.{◌≡◌, ℕ, ◌+◌, ◌-◌, ◌*◌, ◌/◌, ◌%◌, ◌^◌, ◌<◌, zero, suc, min, max, true, false, not, ◌&&◌}
-use Rattle.std.proofs.Common.{◌||◌, nat_eq, [], length, refl, sym, ◌∙◌, ap, inl, inr, arith, bit_and, bit_or}
+use Rattle.std.proofs.Common.{◌||◌, nat_eq, Bool, cond, List, [], ◌∷◌, length, refl, sym, ◌∙◌, ap, inl, inr, arith}
+use Rattle.std.proofs.Common.{bit_and, bit_or}
 use Rattle.std.specs.List.{filter, list_any}
 use Rattle.std.specs.Int.RustNames.{count_ones}
 use Rattle.std.proofs.lemmas.Bool.{cases_eq, eq-eqb, ne_eqb}
@@ -12,9 +13,19 @@ use Rattle.std.proofs.lemmas.Nat.Bits.{bit_at_set_same, bit_at_set_other, bit_at
 use Rattle.std.specs.Int.{bit_at, w16}
 use Rattle.suit_cards.specs.Holdings.{holds, suit, with_rank, without_rank, others_of}
 use Rattle.suit_cards.specs.Masks.{marks, ranks_of, mask_of, suit_is, mask_of-ranks_of}
-use Rattle.suit_cards.proofs.HeldRanks.{list_any-filter}
+use Rattle.suit_cards.proofs.WhetherARankIsHeld.{list_any-filter}
 use Rattle.suit_cards.proofs.SuitRuns.{length-marked_lowest, filter_suit-agree, holds-filter_suit}
-use Rattle.suit_lists.proofs.Filters.{filter-filter}
+
+-- of ranks that pass one test, those that pass another pass both
+ranks_that_pass_both : (p q : ℕ → Bool) (ranks : List ℕ)
+    → filter q (filter p ranks) ≡ filter (λ rank. p rank && q rank) ranks
+ranks_that_pass_both p q [] = refl
+ranks_that_pass_both p q (rank ∷ ranks) =
+    elim (p rank) as (λ b. filter q (cond b (rank ∷ filter p ranks) (filter p ranks))
+    ≡ cond (b && q rank) (rank ∷ filter (λ y. p y && q y) ranks) (filter (λ y. p y && q y) ranks)) [
+      | true ↦ ap (λ (rest : List ℕ). cond (q rank) (rank ∷ rest) rest) (ranks_that_pass_both p q ranks)
+      | false ↦ ranks_that_pass_both p q ranks
+    ]
 
 -- the bit of a rank, shifted down, tells whether the rank is held
 pub holds-ranks_of : (mask index rank : ℕ) → index + 2 ≡ rank → index < 13
@@ -63,7 +74,7 @@ ranks_of-clear mask index rank at below =
           )
           (elim (marks mask other) as (λ b. b ≡ (b && true)) [ true ↦ refl | false ↦ refl ])
     ])
-    ∙ sym (filter-filter (marks mask) (λ other. not (nat_eq rank other)) suit)
+    ∙ sym (ranks_that_pass_both (marks mask) (λ other. not (nat_eq rank other)) suit)
 
 -- the lower of two bits is set where both are
 both_bits : (x y : ℕ) → x < 2 → y < 2 → nat_eq (min x y) 1 ≡ (nat_eq x 1 && nat_eq y 1)
@@ -82,7 +93,7 @@ ranks_of-both here there =
     filter_suit-agree _ (λ rank. marks here rank && holds (ranks_of there) rank) (λ rank low high.
     rw (holds-filter_suit (marks there) rank low high, bit_at_and here there (rank - 2))
     (both_bits (bit_at here (rank - 2)) (bit_at there (rank - 2)) (bit_at-lt _ _) (bit_at-lt _ _)))
-    ∙ sym (filter-filter (marks here) (holds (ranks_of there)) suit)
+    ∙ sym (ranks_that_pass_both (marks here) (holds (ranks_of there)) suit)
 
 -- what is no bit of the higher is set where neither is
 neither_bit : (x y : ℕ) → x < 2 → y < 2 → nat_eq (min (1 - max x y) 1) 1 ≡ not (nat_eq x 1 || nat_eq y 1)

@@ -12,7 +12,7 @@ use Rattle.std.proofs.lemmas.Bool.{cases_Bool, lt-ltb}
 use Rattle.std.proofs.lemmas.Bool.Decides.{nat_tests}
 use Rattle.std.proofs.lemmas.Cmp.{nat_eq_equiv}
 use Rattle.suit_cards.specs.Ranks.{IsRank, letters, letter_of, rank_named}
-use Rattle.suit_cards.proofs.HeldRanks.{holds_tells}
+use Rattle.suit_cards.proofs.WhetherARankIsHeld.{holds_tells}
 use Rattle.suit_cards.proofs.SuitRuns.{holds-filter_suit}
 
 -- a test that passes all keeps the suit

@@ -17,7 +17,7 @@ use Rattle.suit_cards.specs.Reading.{BeginsNoRank, BeginsRank}
 use Rattle.suit_cards.specs.declared.holdings.CardFault.{CardFault}
 use Rattle.suit_cards.specs.declared.holdings.CardFault.TheVariants.{NotRank, Twice}
 use Rattle.suit_cards.proofs.SuitRuns.{filter_suit-agree, holds-filter_suit}
-use Rattle.suit_cards.proofs.HeldSuits.{filter-nothing}
+use Rattle.suit_cards.proofs.HoldingIsWhatItHolds.{filter-nothing}
 use Rattle.suit_cards.proofs.RankLetters.{IsRank-named}
 
 -- what reading gives from spots on, where these ranks are held already

@@ -8,7 +8,6 @@ use Rattle.std.proofs.lemmas.Nat.{mod-pow-add, ones_cat, ones_le_self, zero_from
 use Rattle.std.proofs.lemmas.Nat.Bits.{bit_at-lt}
 use Rattle.suit_cards.specs.Holdings.{FallsBelow, IsHolding, holds, suit}
 use Rattle.suit_cards.specs.Masks.{marks, lowest, suit_is}
-pub use Rattle.suit_lists.proofs.Filters.{filter-filter}
 
 -- what a test keeps of the lowest ranks falls
 pub FallsBelow-filter_lowest : (p : ℕ → Bool) (n top : ℕ) → n + 2 ≤ top → FallsBelow top (filter p (lowest n))

@@ -7,8 +7,8 @@ abbrev pub Cards : Type 0
 Cards = List ℕ
 
 -- how many cards somebody holds of each of some groups of cards
-abbrev pub Counts : Type 0
-Counts = List ℕ
+abbrev pub ClassLayout : Type 0
+ClassLayout = List ℕ
 
 -- how many cards each of some groups of cards has
 abbrev pub Sizes : Type 0

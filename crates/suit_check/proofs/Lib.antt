@@ -1,2 +1,2 @@
-pub mod ToldFindings
+pub mod FindingByTheFirstTest
 pub mod VerdictsMet

@@ -17,11 +17,11 @@ use Rattle.suit_plans.proofs.ProperPlans.{proper_plan}
 use Rattle.suit_plans.specs.declared.plan.TheConstants.{MOST_DEN}
 use Rattle.suit_answer.specs.declared.answer.Answer.{Answer}
 use Rattle.suit_answer.specs.Reduced.{value_over}
-use Rattle.suit_answer.proofs.ReducedFractions.{fraction_exact, made_fraction, some_from_one, whole_over}
+use Rattle.suit_answer.proofs.OneFractionInLowestTerms.{fraction_exact, made_fraction, some_from_one, whole_over}
 use Rattle.suit_check.specs.Verdicts.{Defence, Least, Most, Parts, Plan, Valid, parts_of, same_parts, unless_fault}
 use Rattle.suit_check.specs.Verdicts.{unless_other, value_of, verdict_of}
 use Rattle.suit_check.specs.VerdictLaws.{ComesTo, FoundAreExact, IsExact, IsMet, IsTold, ValidIsMet}
-use Rattle.suit_check.proofs.ToldFindings.{earned, found_met, given_up, told_valid}
+use Rattle.suit_check.proofs.FindingByTheFirstTest.{earned, found_met, given_up, told_valid}
 
 -- ---- fractions
 

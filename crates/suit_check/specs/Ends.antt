@@ -1,7 +1,7 @@
 -- Why there is no verdict.
 use Rattle.std.specs.Prelude.{⊤, ◌≡◌, ◌<◌}
 use Rattle.suit_game.specs.declared.question.Question.{Question}
-use Rattle.suit_tree.specs.CountedHistories.{node_count}
+use Rattle.suit_tree.specs.WhatIsCounted.{node_count}
 use Rattle.suit_tree.specs.declared.tree_end.TreeEnd.{TreeEnd}
 use Rattle.suit_tree.specs.declared.tree_end.TreeEnd.TheVariants as grown
 use Rattle.suit_check.specs.declared.ends.CheckEnd.{CheckEnd}

@@ -1,7 +1,7 @@
 //! The check of an answer.
 ghost use Rattle.std.specs.Prelude.{◌≡◌, ◌≤◌, IfErr, IfOk, OnOk};
 ghost use Rattle.suit_game.specs.Validity.{IsValid};
-ghost use Rattle.suit_tree.specs.CountedHistories.{node_count};
+ghost use Rattle.suit_tree.specs.WhatIsCounted.{node_count};
 ghost use Rattle.suit_check.specs.Ends.{IsEnd};
 ghost use Rattle.suit_check.specs.Verdicts.{seen, verdict_of};
 

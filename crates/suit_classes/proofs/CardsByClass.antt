@@ -7,19 +7,19 @@ use Rattle.std.proofs.lemmas.Bool.{eq-eqb, ne_eqb}
 use Rattle.std.proofs.lemmas.List.Sums.{sum_by-cons}
 use Rattle.suit_cards.specs.Cards.{Cards, Indices}
 use Rattle.suit_cards.specs.Holdings.{holds}
-use Rattle.suit_cards.proofs.HeldRanks.{holds_tells}
-use Rattle.suit_cards.proofs.HeldSuits.{IsHolding-others_of, IsRank-held}
+use Rattle.suit_cards.proofs.WhetherARankIsHeld.{holds_tells}
+use Rattle.suit_cards.proofs.HoldingIsWhatItHolds.{IsHolding-others_of, IsRank-held}
 use Rattle.suit_game.specs.declared.question.Question.{Question}
 use Rattle.suit_game.specs.Positions.{without}
 use Rattle.suit_game.specs.Question.{missing}
 use Rattle.suit_game.proofs.EachElement.{Contains-cons_cases, Contains-filter, Contains-nil, Contains-range, each_at}
-use Rattle.suit_game.proofs.HeldCards.{each_held, length-left_and_gone}
+use Rattle.suit_game.proofs.WhatAHandHolds.{each_held, length-left_and_gone}
 use Rattle.suit_game.proofs.ListSums.{sum_by_none, sum_by_same}
 use Rattle.suit_classes.specs.declared.classes.Owner.TheVariants as owners
 use Rattle.suit_classes.specs.Classes.{Hands, hands_of, class_count, class_of, class_owner, defence_classes, same_owner}
 use Rattle.suit_classes.specs.ClassGame.{cards_in, counts_of}
 use Rattle.suit_classes.proofs.ClassNumbers.{class_of-below}
-use Rattle.suit_classes.proofs.DealtClasses.{cards_left_of_class, missing_holder}
+use Rattle.suit_classes.proofs.OneSideHoldsAClass.{cards_left_of_class, missing_holder}
 use Rattle.suit_classes.proofs.DefenceClasses.{class_owner-class_of}
 use Rattle.suit_classes.proofs.DistinctMoves.{once_range}
 use Rattle.suit_game.proofs.DistinctElements.{IsOnce, once_filter}

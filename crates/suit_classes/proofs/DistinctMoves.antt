@@ -5,7 +5,7 @@ use Rattle.std.specs.Prelude.{filter, nat_lt, slice_index, if◌then◌else◌}
 use Rattle.std.specs.List.{AllByRecursion, range_with_len}
 use Rattle.std.proofs.lemmas.List.Elements.{filter_passes, recursion_from_All}
 use Rattle.std.proofs.lemmas.Bool.{true≢false}
-use Rattle.suit_cards.specs.Cards.{Counts}
+use Rattle.suit_cards.specs.Cards.{ClassLayout}
 use Rattle.suit_cards.specs.declared.seats.Seat.TheVariants.{N, S}
 use Rattle.suit_game.proofs.EachElement.{each_gives}
 use Rattle.suit_game.proofs.EachElement.{each_map, each_of}
@@ -79,7 +79,8 @@ once_leads view =
     (each_map (λ other. Lead N class ≡ other → ⊥) (Lead S) (counted_classes view.south)
     (each_of (λ number. Lead N class ≡ Lead S number → ⊥) (counted_classes view.south) (lead_kinds class)))))))
 
-once_moves_in : (view : ClassView) (counts : Counts) (trick : ClassTrick) → IsOnce (class_moves_in view counts trick)
+once_moves_in : (view : ClassView) (counts : ClassLayout) (trick : ClassTrick)
+    → IsOnce (class_moves_in view counts trick)
 once_moves_in view counts Closed = once_leads view
 once_moves_in view counts (Open turn after winner highest) =
     once_or_show_out (map Follow (classes_left view counts turn))
@@ -87,7 +88,7 @@ once_moves_in view counts (Open turn after winner highest) =
     (once_numbers (λ class. nat_lt 0 (left view counts turn class))))
 
 -- no class move comes twice at a position
-pub once_class_moves : (view : ClassView) (counts : Counts) → IsOnce (class_moves view counts)
+pub once_class_moves : (view : ClassView) (counts : ClassLayout) → IsOnce (class_moves view counts)
 once_class_moves view counts = once_moves_in view counts view.trick
 
 apart_from : (move : ClassMove) (moves : List ClassMove)

@@ -18,7 +18,7 @@ use Rattle.suit_classes.specs.ClassPlaces.{class_moves, class_moves_in, class_nu
 use Rattle.suit_classes.specs.ClassPlaces.{left, may_lead, or_show_out}
 use Rattle.suit_classes.proofs.MovesOnce.{filter_of_map}
 use Rattle.suit_classes.proofs.SameMoves.{among_contained, same_move_is}
-use Rattle.suit_classes.specs.AllowedHistories.{is_among, every_move}
+use Rattle.suit_classes.specs.WhatIsAllowed.{is_among, every_move}
 
 fails_first : (may : ClassMove → Bool) (first : ClassMove) (moves : List ClassMove) (move : ClassMove)
     → may move ≡ false → is_among (filter may moves) move ≡ false

@@ -8,19 +8,19 @@ use Rattle.suit_cards.specs.Cards.{Cards}
 use Rattle.suit_cards.specs.declared.seats.Seat.{Seat}
 use Rattle.suit_cards.specs.declared.seats.Seat.TheVariants.{N, E, S, W}
 use Rattle.suit_cards.specs.Holdings.{holds}
-use Rattle.suit_cards.proofs.HeldSuits.{IsHolding-filter, IsHolding-others_of, holds-filter, same_holding}
+use Rattle.suit_cards.proofs.HoldingIsWhatItHolds.{IsHolding-filter, IsHolding-others_of, holds-filter, same_holding}
 use Rattle.suit_game.specs.declared.question.Question.{Question}
 use Rattle.suit_game.specs.Positions.{dealt, without}
 use Rattle.suit_game.specs.Question.{missing}
-use Rattle.suit_game.proofs.HeldCards.{length-left_and_gone, without-none}
+use Rattle.suit_game.proofs.WhatAHandHolds.{length-left_and_gone, without-none}
 use Rattle.suit_classes.specs.declared.classes.Owner.TheVariants as owners
 use Rattle.suit_classes.specs.Classes.{Hands, hands_of, same_owner, class_of, class_count, class_owner, class_size}
 use Rattle.suit_classes.specs.ClassGame.{cards_in, counts_of}
 use Rattle.suit_classes.specs.ClassPlaces.{class_start, dealt_to, is_defence_class, left, west_count}
 use Rattle.suit_classes.proofs.ClassNumbers.{class_size-some}
-use Rattle.suit_classes.proofs.CountedLists.{class_size-none, dealt_to-at, none_played-at}
-use Rattle.suit_classes.proofs.DealtClasses.{IsDealt, cards_in-north, cards_in-south, cards_in-missing}
-use Rattle.suit_classes.proofs.DealtClasses.{cards_left_of_class}
+use Rattle.suit_classes.proofs.CountedClassByClass.{class_size-none, dealt_to-at, none_played-at}
+use Rattle.suit_classes.proofs.OneSideHoldsAClass.{IsDealt, cards_in-north, cards_in-south, cards_in-missing}
+use Rattle.suit_classes.proofs.OneSideHoldsAClass.{cards_left_of_class}
 use Rattle.suit_classes.specs.declared.classes.TheConstants.{MOST_CLASSES}
 
 at_place_either : (f : ℕ → ℕ) (from : ℕ) (xs ys : List ℕ) (value : ℕ) (b : Bool)

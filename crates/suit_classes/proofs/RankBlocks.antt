@@ -6,8 +6,9 @@ use Rattle.std.specs.List.{range_with_len, flat_map}
 use Rattle.std.proofs.lemmas.Bool.{cases_eq, eqb-true, eq-eqb, ne_eqb}
 use Rattle.suit_cards.specs.Cards.{Cards}
 use Rattle.suit_cards.specs.Holdings.{FallsBelow, IsHolding, suit, others_of}
-use Rattle.suit_cards.proofs.HeldSuits.{IsHolding-others_of}
-use Rattle.suit_cards.proofs.SuitRuns.{filter-filter, filter_suit-agree}
+use Rattle.suit_cards.proofs.HoldingIsWhatItHolds.{IsHolding-others_of}
+use Rattle.suit_cards.proofs.SuitRuns.{filter_suit-agree}
+use Rattle.suit_lists.proofs.Filters.{filter-filter}
 use Rattle.suit_classes.specs.declared.classes.Owner.{Owner}
 use Rattle.suit_classes.specs.declared.classes.Owner.TheVariants as owners
 use Rattle.suit_classes.specs.Classes.{Hands, holder, same_owner, class_of, class_count, class_owner, class_ranks}

@@ -11,7 +11,7 @@ use Rattle.suit_game.proofs.TrickStates.{same_seat_is}
 use Rattle.suit_classes.specs.declared.class_moves.ClassMove.{ClassMove}
 use Rattle.suit_classes.specs.declared.class_moves.ClassMove.TheVariants.{Lead, Follow, ShowOut}
 use Rattle.suit_classes.specs.ClassMoves.{same_class_move}
-use Rattle.suit_classes.specs.AllowedHistories.{is_among}
+use Rattle.suit_classes.specs.WhatIsAllowed.{is_among}
 
 -- a move is the same as itself
 pub same_move-itself : (move : ClassMove) → same_class_move move move ≡ true

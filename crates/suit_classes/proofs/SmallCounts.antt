@@ -7,7 +7,7 @@ use Rattle.std.proofs.lemmas.Bool.{cases_lt, cases_eq}
 use Rattle.std.proofs.lemmas.List.{get_or-set_same, get_or-set_other, set_past}
 use Rattle.std.proofs.lemmas.List.Sums.{fold_push}
 use Rattle.suit_classes.specs.ClassMoves.{ClassHistory}
-use Rattle.suit_cards.specs.Cards.{Counts}
+use Rattle.suit_cards.specs.Cards.{ClassLayout}
 use Rattle.suit_cards.specs.declared.seats.Seat.{Seat}
 use Rattle.suit_cards.specs.declared.seats.Seat.TheVariants.{N, E, S, W}
 use Rattle.suit_game.specs.declared.question.Question.{Question}
@@ -18,7 +18,7 @@ use Rattle.suit_classes.specs.declared.class_moves.ClassMove.TheVariants.{Lead, 
 use Rattle.suit_classes.specs.declared.class_trick.ClassTrick.TheVariants.{Closed, Open}
 use Rattle.suit_classes.specs.ClassPlaces.{ClassTrick, ClassView, IsSmall, class_after, class_ended, class_led}
 use Rattle.suit_classes.specs.ClassPlaces.{class_passed, class_played, class_start, class_step, class_step_in, side}
-use Rattle.suit_classes.proofs.CountedLists.{none_played-at}
+use Rattle.suit_classes.proofs.CountedClassByClass.{none_played-at}
 use Rattle.suit_game.specs.declared.limits.TheConstants.{MOST_MOVES}
 
 -- so many cards of a class have gone at most, and so many tricks been won
@@ -27,7 +27,7 @@ record Bounded (view : ClassView) (gone won : ℕ) : Type 0 where
   gone_e : (class : ℕ) → get_or view.gone_e class 0 ≤ gone
   won_most : view.won ≤ won
 
-more_at : (counts : Counts) (class k most : ℕ) → ((k : ℕ) → get_or counts k 0 ≤ most)
+more_at : (counts : ClassLayout) (class k most : ℕ) → ((k : ℕ) → get_or counts k 0 ≤ most)
     → get_or (set counts class (get_or counts class 0 + 1)) k 0 ≤ suc most
 more_at counts class k most small = elim (cases_lt class (length counts)) [
   | inl within ↦ elim (cases_eq k class) [

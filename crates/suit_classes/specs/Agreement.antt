@@ -1,6 +1,6 @@
 -- The class game and the play of single cards agree.
 use Rattle.std.specs.Prelude.{◌≡◌, ℕ, ◌≤◌, ◌↔◌, true, [], ◌∷◌, ◌++◌, length, map, filter, fold, Contains}
-use Rattle.suit_cards.specs.Cards.{Cards, Counts}
+use Rattle.suit_cards.specs.Cards.{Cards, ClassLayout}
 use Rattle.suit_cards.specs.Holdings.{IsHolding, holds}
 use Rattle.suit_cards.specs.Ranks.{IsRank}
 use Rattle.suit_game.specs.declared.question.Question.{Question}
@@ -38,7 +38,7 @@ ClassGameAgrees = (question : Question) (west : Cards) (history : History) → I
 -- in other words, a class place tells of its class history what the cards say: how the place is counted need not be
 -- read
 abbrev pub ClassPlacesTellCards : Type 0
-ClassPlacesTellCards = (question : Question) (counts : Counts) (history : ClassHistory)
+ClassPlacesTellCards = (question : Question) (counts : ClassLayout) (history : ClassHistory)
     → TellsCards question counts history (class_decided (class_after question history))
     (class_turn (class_after question history))
     (class_moves (class_after question history) counts) (class_payoff (class_after question history))
@@ -64,7 +64,7 @@ DecidedStays =
 -- no class history that is allowed has more than MOST_MOVES moves
 abbrev pub ClassHistoriesAreShort : Type 0
 ClassHistoriesAreShort =
-    (question : Question) (counts : Counts)
+    (question : Question) (counts : ClassLayout)
     (history : ClassHistory) → Allows question counts history → length history ≤ MOST_MOVES
 
 -- the counts of each layout allow the empty history
@@ -74,7 +74,7 @@ LayoutsAllowNone = (question : Question) (west : Cards) → IsValid question →
 
 -- and a history with one more move where they allow the history, and the move is one of the class moves for them
 abbrev pub AllowedMoves : Type 0
-AllowedMoves = (question : Question) (counts : Counts) (history : ClassHistory) (move : ClassMove)
+AllowedMoves = (question : Question) (counts : ClassLayout) (history : ClassHistory) (move : ClassMove)
     → Allows question counts (history ++ move ∷ []) ↔
     (Allows question counts history × Contains (class_moves (class_after question history) counts) move)
 

@@ -2,7 +2,7 @@
 use Rattle.std.specs.Prelude.{◌≡◌, ℕ, ◌+◌, ◌||◌, ◌==◌, not, nat_lt, nat_le, max, Bool, false, List, [], ◌∷◌, length}
 use Rattle.std.specs.Prelude.{map, filter, if◌then◌else◌}
 use Rattle.suit_cards.specs.declared.seats.Seat.TheVariants.{N, S}
-use Rattle.suit_cards.specs.Cards.{Cards, Counts}
+use Rattle.suit_cards.specs.Cards.{Cards, ClassLayout}
 use Rattle.suit_game.specs.declared.question.Question.{Question}
 use Rattle.suit_game.specs.declared.question.Goal.{Goal}
 use Rattle.suit_game.specs.declared.question.Goal.TheVariants.{AtLeast, Tricks}
@@ -23,11 +23,11 @@ abbrev pub cards_in : Hands → Cards → ℕ → ℕ
 cards_in hands cards class = length (filter (λ card. class_of hands card == class) cards)
 
 -- the class layout of a layout: West's count in each of the defenders' classes
-abbrev pub counts_of : Hands → Cards → Counts
+abbrev pub counts_of : Hands → Cards → ClassLayout
 counts_of hands west = map (cards_in hands west) (defence_classes hands)
 
 -- a class layout allows a class history where some layout with its counts has a legal history that merges to it
-pub record Allows (question : Question) (counts : Counts) (history : ClassHistory) : Type 0 where
+pub record Allows (question : Question) (counts : ClassLayout) (history : ClassHistory) : Type 0 where
   pub west : Cards
   pub cards : History
   pub play : IsPlay question west cards
@@ -72,8 +72,8 @@ abbrev pub merged_moves : Question → Cards → History → List ClassMove
 merged_moves question west history = each_once (map (merge (hands_of question)) (legal question west history))
 
 -- a legal history of single cards, under a layout in which West has these counts, that merges to a class history
-pub record MergesTo (question : Question) (counts : Counts) (history : ClassHistory) (west : Cards) (cards : History) :
-    Type 0 where
+pub record MergesTo (question : Question) (counts : ClassLayout) (history : ClassHistory) (west : Cards)
+    (cards : History) : Type 0 where
   pub play : IsPlay question west cards
   pub counted : counts_of (hands_of question) west ≡ counts
   pub merges : merged (hands_of question) cards ≡ history
@@ -82,7 +82,7 @@ pub record MergesTo (question : Question) (counts : Counts) (history : ClassHist
 -- under
 -- whichever layout with these counts: whether it is decided, who is on turn, what may be played, and what the tricks
 -- are worth
-pub record TellsCards (question : Question) (counts : Counts) (history : ClassHistory)
+pub record TellsCards (question : Question) (counts : ClassLayout) (history : ClassHistory)
     (decided : Bool) (turn : ClassTurn) (moves : List ClassMove) (worth : ℕ) : Type 0 where
   pub decided_is : (west : Cards) (cards : History) → MergesTo question counts history west cards
       → decided ≡ is_decided question (after question cards)

@@ -2,7 +2,7 @@
 use Rattle.std.specs.Prelude.{ℕ, zero, suc, ◌+◌, ◌-◌, ◌*◌, ◌<◌, ◌||◌, ◌&&◌, not, nat_lt, max, Bool, false, List, []}
 use Rattle.std.specs.Prelude.{◌∷◌, ◌++◌, length, map, filter, fold, slice_index, slice_set, ◌≡◌, if◌then◌else◌}
 use Rattle.std.specs.List.{range_with_len}
-use Rattle.suit_cards.specs.Cards.{Counts, Indices}
+use Rattle.suit_cards.specs.Cards.{ClassLayout, Indices}
 use Rattle.suit_cards.specs.declared.seats.Seat.{Seat}
 use Rattle.suit_cards.specs.declared.seats.Seat.TheVariants.{N, E, S, W}
 use Rattle.suit_cards.specs.Seats.{clockwise}
@@ -37,7 +37,7 @@ abbrev pub ClassTrick : Type 0
 ClassTrick = PlaceTrick
 
 -- no class is North's and South's
-abbrev pub AreApart : Counts → Counts → Type 0
+abbrev pub AreApart : ClassLayout → ClassLayout → Type 0
 AreApart north south = (class : ℕ) → slice_index north class * slice_index south class ≡ 0
 
 -- the numbers that a class may have
@@ -45,7 +45,7 @@ unfoldable pub class_numbers : Indices
 class_numbers = range_with_len 0 MOST_CLASSES
 
 -- the classes of which a list of counts has a card
-abbrev pub counted_classes : Counts → Indices
+abbrev pub counted_classes : ClassLayout → Indices
 counted_classes counts = filter (λ class. nat_lt 0 (slice_index counts class)) class_numbers
 
 -- the cards of a class, where this side held it, and else none
@@ -53,11 +53,11 @@ abbrev pub held_by : Hands → Owner → ℕ → ℕ
 held_by hands owner class = if same_owner (class_owner hands class) owner then class_size hands class else 0
 
 -- how many cards of each class a side was dealt
-unfoldable pub dealt_to : Hands → Owner → Counts
+unfoldable pub dealt_to : Hands → Owner → ClassLayout
 dealt_to hands owner = map (held_by hands owner) class_numbers
 
 -- no card of any class
-unfoldable pub none_played : Counts
+unfoldable pub none_played : ClassLayout
 none_played = map (λ class. 0) class_numbers
 
 -- the position before any move
@@ -88,11 +88,11 @@ abbrev pub defence_index : ClassView → ℕ → ℕ
 defence_index view class = length (filter (is_defence_class view) (range_with_len 0 class))
 
 -- how many cards of one of the defenders' classes West was dealt, where his counts in their classes are given
-abbrev pub west_count : ClassView → Counts → ℕ → ℕ
+abbrev pub west_count : ClassView → ClassLayout → ℕ → ℕ
 west_count view counts class = slice_index counts (defence_index view class)
 
 -- how many cards of a class a seat has left
-abbrev pub left : ClassView → Counts → Seat → ℕ → ℕ
+abbrev pub left : ClassView → ClassLayout → Seat → ℕ → ℕ
 left view counts N class = slice_index view.north class
 left view counts S class = slice_index view.south class
 left view counts W class =
@@ -102,7 +102,7 @@ left view counts E class =
     then slice_index view.defence class - west_count view counts class - slice_index view.gone_e class else 0
 
 -- the classes of which a seat has a card left
-abbrev pub classes_left : ClassView → Counts → Seat → Indices
+abbrev pub classes_left : ClassView → ClassLayout → Seat → Indices
 classes_left view counts seat = filter (λ class. nat_lt 0 (left view counts seat class)) class_numbers
 
 -- whether declarer may lead from a hand
@@ -120,11 +120,11 @@ class_leads view =
     ++ (if may_lead view.lead view.entries_s S then map (Lead S) (counted_classes view.south) else [])
 
 -- the moves at a position in their order, where West's counts are given
-abbrev pub class_moves_in : ClassView → Counts → ClassTrick → List ClassMove
+abbrev pub class_moves_in : ClassView → ClassLayout → ClassTrick → List ClassMove
 class_moves_in view counts Closed = class_leads view
 class_moves_in view counts (Open turn after winner highest) = or_show_out (map Follow (classes_left view counts turn))
 
-abbrev pub class_moves : ClassView → Counts → List ClassMove
+abbrev pub class_moves : ClassView → ClassLayout → List ClassMove
 class_moves view counts = class_moves_in view counts view.trick
 
 -- whether declarer has a lead

@@ -1,4 +1,4 @@
-pub mod AllowedHistories
+pub mod WhatIsAllowed
 pub mod Agreement
 pub mod ClassGame
 pub mod ClassMoves

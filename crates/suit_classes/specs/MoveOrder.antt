@@ -1,10 +1,10 @@
 -- The order of class moves, in which all lists of them stand.
 use Rattle.std.specs.Prelude.{◌≡◌, ℕ, ◌==◌, ◌&&◌, ◌||◌, nat_lt, Bool, true, List, AllPairs}
-use Rattle.suit_cards.specs.Cards.{Counts}
+use Rattle.suit_cards.specs.Cards.{ClassLayout}
 use Rattle.suit_cards.specs.declared.seats.Seat.TheVariants.{N, E, S, W}
 use Rattle.suit_classes.specs.declared.class_moves.ClassMove.{ClassMove}
 use Rattle.suit_classes.specs.declared.class_moves.ClassMove.TheVariants.{Lead, Follow, ShowOut}
-use Rattle.suit_classes.specs.AllowedHistories.{every_move}
+use Rattle.suit_classes.specs.WhatIsAllowed.{every_move}
 use Rattle.suit_classes.specs.ClassPlaces.{ClassView, class_moves}
 
 -- leads of North, leads of South, follows and showing out, in this order; leads of a defender, which never come, stand
@@ -35,7 +35,7 @@ AreRising moves = AllPairs (λ here there. stands_before here there ≡ true) mo
 
 -- the moves at a class place, whatever West's counts are
 abbrev pub ClassMovesRise : Type 0
-ClassMovesRise = (view : ClassView) (counts : Counts) → AreRising (class_moves view counts)
+ClassMovesRise = (view : ClassView) (counts : ClassLayout) → AreRising (class_moves view counts)
 
 -- and all class moves
 abbrev pub EveryMoveRises : Type 0

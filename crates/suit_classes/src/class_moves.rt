@@ -1,6 +1,6 @@
 //! The moves of the class game.
 ghost use Rattle.std.specs.Prelude.{◌≡◌};
-ghost use Rattle.suit_classes.specs.AllowedHistories.{is_among};
+ghost use Rattle.suit_classes.specs.WhatIsAllowed.{is_among};
 ghost use Rattle.suit_classes.specs.ClassMoves.{same_class_move};
 
 use suit_cards::Seat;

@@ -6,7 +6,7 @@ use Rattle.suit_cards.specs.Cards.{Cards}
 use Rattle.suit_cards.specs.declared.seats.Seat.{Seat}
 use Rattle.suit_cards.specs.declared.seats.Seat.TheVariants.{N, S}
 use Rattle.suit_cards.specs.Holdings.{FallsBelow, IsHolding, holds}
-use Rattle.suit_cards.proofs.HeldSuits.{IsHolding-filter}
+use Rattle.suit_cards.proofs.HoldingIsWhatItHolds.{IsHolding-filter}
 use Rattle.suit_game.specs.declared.question.Question.{Question}
 use Rattle.suit_game.specs.declared.moves.Move.{Move}
 use Rattle.suit_game.specs.declared.moves.Move.TheVariants.{Lead, Follow}

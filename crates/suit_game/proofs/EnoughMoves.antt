@@ -14,7 +14,7 @@ use Rattle.suit_game.specs.Lengths.{cards_left, seats_left, room}
 use Rattle.suit_game.specs.Positions.{Position, Trick, Closed, Open, is_empty, after, legal, ended_in, has_ended}
 use Rattle.suit_game.specs.Positions.{payoff, IsLegal, declarer_hand}
 use Rattle.suit_game.specs.Strategies.{Way, DefenceWay, Weighed}
-use Rattle.suit_game.proofs.ChosenMoves.{chosen_from}
+use Rattle.suit_game.proofs.ChosenIsLegal.{chosen_from}
 use Rattle.suit_game.proofs.LegalPlays.{leads_at-none, after_move}
 use Rattle.suit_game.proofs.LongestPlay.{holdings_fit, histories_use_room}
 use Rattle.suit_game.proofs.Room.{room_falls}

@@ -11,7 +11,7 @@ use Rattle.suit_game.specs.Question.{missing}
 use Rattle.suit_game.specs.Positions.{payoff}
 use Rattle.suit_game.specs.Strategies.{Way, DefenceWay}
 use Rattle.suit_game.specs.Gains.{pay, gain}
-use Rattle.suit_game.proofs.WeightedMeans.{mean-least, mean-most}
+use Rattle.suit_game.proofs.MeansLieBetween.{mean-least, mean-most}
 use Rattle.suit_game.proofs.LayoutCards.{IsPart, layouts-parts}
 use Rattle.suit_lists.proofs.Elements.{each_gives}
 use Rattle.suit_lists.proofs.Maps.{each_map}

@@ -7,13 +7,14 @@ use Rattle.std.specs.List.{AllByRecursion, list_any}
 use Rattle.suit_cards.specs.declared.seats.Seat.{Seat}
 use Rattle.suit_cards.specs.declared.seats.Seat.TheVariants.{N, E, S, W}
 use Rattle.suit_cards.specs.Holdings.{FallsBelow, IsHolding, holds, suit}
-use Rattle.suit_cards.proofs.HeldSuits.{FallsBelow-later, IsHolding-filter, IsHolding-others_of, holds-others_of}
+use Rattle.suit_cards.proofs.HoldingIsWhatItHolds.{FallsBelow-later, IsHolding-filter, IsHolding-others_of}
+use Rattle.suit_cards.proofs.HoldingIsWhatItHolds.{holds-others_of}
 use Rattle.suit_game.specs.declared.question.Question.{Question}
 use Rattle.suit_game.specs.Deals.{IsDeal}
 use Rattle.suit_game.specs.Question.{missing}
 use Rattle.suit_game.specs.Layouts.{choices_of, layouts, is_west_length}
 use Rattle.suit_game.specs.Positions.{without, dealt}
-use Rattle.suit_game.proofs.HeldCards.{holds-from_filter, holds-from_without}
+use Rattle.suit_game.proofs.WhatAHandHolds.{holds-from_filter, holds-from_without}
 use Rattle.suit_lists.proofs.Elements.{each_append, each_at, each_gives}
 use Rattle.suit_lists.proofs.Filters.{each_filter}
 use Rattle.suit_lists.proofs.Maps.{each_map}

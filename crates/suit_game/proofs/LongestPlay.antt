@@ -4,13 +4,13 @@ use Rattle.std.proofs.Common.{subst, arith, IsTrue}
 use Rattle.std.specs.Prelude.{not, filter, fold}
 use Rattle.std.specs.List.{list_any}
 use Rattle.suit_cards.specs.Holdings.{IsHolding, holds, suit}
-use Rattle.suit_cards.proofs.HeldRanks.{holds_tells, shares_tells}
-use Rattle.suit_cards.proofs.HeldSuits.{filter_suit-holds}
+use Rattle.suit_cards.proofs.WhetherARankIsHeld.{holds_tells, shares_tells}
+use Rattle.suit_cards.proofs.HoldingIsWhatItHolds.{filter_suit-holds}
 use Rattle.suit_game.specs.declared.question.Question.{Question}
 use Rattle.suit_game.specs.declared.moves.Move.{Move}
 use Rattle.suit_game.specs.Positions.{Position, start_place, step, after, LegalFrom, IsLegal}
 use Rattle.suit_game.specs.Lengths.{room}
-use Rattle.suit_game.proofs.HeldCards.{without-none}
+use Rattle.suit_game.proofs.WhatAHandHolds.{without-none}
 use Rattle.suit_game.proofs.Room.{room_falls}
 
 -- play on from a position uses up room, a move each

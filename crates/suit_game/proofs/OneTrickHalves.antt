@@ -6,7 +6,7 @@ use Rattle.std.proofs.lemmas.Bool.{true≢false, cases_Bool, or_cases, or_parts,
 use Rattle.suit_cards.specs.declared.seats.Seat.{Seat}
 use Rattle.suit_cards.specs.declared.seats.Seat.TheVariants.{N, E, S, W}
 use Rattle.suit_cards.specs.Holdings.{IsHolding, holds}
-use Rattle.suit_cards.proofs.HeldSuits.{IsHolding-filter}
+use Rattle.suit_cards.proofs.HoldingIsWhatItHolds.{IsHolding-filter}
 use Rattle.suit_game.specs.declared.question.Question.{Question}
 use Rattle.suit_game.specs.Fractions.{IsAtLeast, IsAtMost}
 use Rattle.suit_game.specs.Layouts.{total}
@@ -16,11 +16,11 @@ use Rattle.suit_game.specs.Question.{missing}
 use Rattle.suit_game.specs.Settled.{Settles}
 use Rattle.suit_game.specs.Strategies.{Way, DefenceWay, same_seat, by_rows, by_defence_rows}
 use Rattle.suit_game.specs.Gains.{is_declarer, pay}
-use Rattle.suit_game.proofs.WeightedMeans.{mean-least, mean-most}
+use Rattle.suit_game.proofs.MeansLieBetween.{mean-least, mean-most}
 use Rattle.suit_game.proofs.PayDenominators.{gain-den}
-use Rattle.suit_game.proofs.BoundedPays.{PlaysFirst, Carries, pay_within_holds}
-use Rattle.suit_game.proofs.HeldCards.{holds-from_without, holds-without, one_card, holds-below, highest_first}
-use Rattle.suit_game.proofs.AllowedMoves.{IsPlayable}
+use Rattle.suit_game.proofs.WaysPayAsLinesEnd.{PlaysFirst, Carries, pay_within_holds}
+use Rattle.suit_game.proofs.WhatAHandHolds.{holds-from_without, holds-without, one_card, holds-below, highest_first}
+use Rattle.suit_game.proofs.MovesByTheHand.{IsPlayable}
 use Rattle.suit_game.proofs.TrickStates.{tally, comes, Stand, Free, Taken, Waiting, not_gone, not_the_ace}
 use Rattle.suit_game.proofs.OneTrickPlay.{AreSmall, one_trick_ends}
 use Rattle.suit_game.proofs.LayoutCards.{IsPart, missing-apart, holds-missing, dealt-falls, east-missing}

@@ -13,9 +13,9 @@ use Rattle.suit_game.specs.Positions.{Position, Trick, Closed, Open, start_place
 use Rattle.suit_game.specs.Positions.{legal_in, ended_trick, turn_passed, after_lead, step_in, step, has_ended}
 use Rattle.suit_game.specs.Gains.{is_declarer}
 use Rattle.suit_game.proofs.LegalPlays.{leads_at-none}
-use Rattle.suit_game.proofs.HeldCards.{holds-from_without, without-played}
-use Rattle.suit_game.proofs.BoundedPays.{allowed_each, IsOver, Ends}
-use Rattle.suit_game.proofs.AllowedMoves.{IsPlayable, each_follow, each_lead}
+use Rattle.suit_game.proofs.WhatAHandHolds.{holds-from_without, without-played}
+use Rattle.suit_game.proofs.WaysPayAsLinesEnd.{allowed_each, IsOver, Ends}
+use Rattle.suit_game.proofs.MovesByTheHand.{IsPlayable, each_follow, each_lead}
 use Rattle.suit_game.proofs.TrickStates.{tally, Stand, Stand-last, Stand-out, Stand-higher, Stand-lower, IsSpent}
 use Rattle.suit_game.proofs.TrickStates.{IsSpent-last, IsSpent-out, IsSpent-played}
 

@@ -5,12 +5,12 @@ use Rattle.std.proofs.lemmas.Bool.{false_from_ne_true}
 use Rattle.suit_cards.specs.declared.seats.Seat.{Seat}
 use Rattle.suit_cards.specs.declared.seats.Seat.TheVariants.{N, E, S, W}
 use Rattle.suit_cards.specs.Holdings.{IsHolding, holds}
-use Rattle.suit_cards.proofs.HeldRanks.{holds_tells}
+use Rattle.suit_cards.proofs.WhetherARankIsHeld.{holds_tells}
 use Rattle.suit_game.specs.declared.question.Question.{Question}
 use Rattle.suit_game.specs.Deals.{IsDeal}
 use Rattle.suit_game.specs.Positions.{without, dealt}
 use Rattle.suit_game.specs.Question.{missing}
-use Rattle.suit_game.proofs.HeldCards.{holds-from_without, without_away, length-without_one}
+use Rattle.suit_game.proofs.WhatAHandHolds.{holds-from_without, without_away, length-without_one}
 use Rattle.suit_game.proofs.LayoutCards.{missing-apart, east-missing}
 use Rattle.suit_game.proofs.LongestPlay.{none_shared}
 

@@ -13,8 +13,8 @@ use Rattle.suit_game.specs.Positions.{Position, Trick, Closed, Open, after, lega
 use Rattle.suit_game.specs.Positions.{follows_of, hand, is_empty, ended_in, has_ended}
 use Rattle.suit_game.specs.Strategies.{Way, DefenceWay, Weighed, chosen}
 use Rattle.suit_game.specs.Gains.{is_declarer_turn, played, pay_within, pay, gain}
-use Rattle.suit_game.proofs.WeightedMeans.{mean-den}
-use Rattle.suit_game.proofs.ChosenMoves.{chosen-weight}
+use Rattle.suit_game.proofs.MeansLieBetween.{mean-den}
+use Rattle.suit_game.proofs.ChosenIsLegal.{chosen-weight}
 use Rattle.suit_lists.proofs.Elements.{each_of}
 use Rattle.suit_lists.proofs.Maps.{each_map}
 

@@ -10,7 +10,7 @@ use Rattle.suit_game.specs.Positions.{Position, Trick, Closed, Open, legal_in, l
 use Rattle.suit_game.specs.Positions.{turn_passed, declarer_hand}
 use Rattle.suit_game.specs.Lengths.{cards_left, seats_left, room}
 use Rattle.suit_game.proofs.LegalPlays.{lead_cases, follow_or_show}
-use Rattle.suit_game.proofs.HeldCards.{length-without_more, length-without_less}
+use Rattle.suit_game.proofs.WhatAHandHolds.{length-without_more, length-without_less}
 
 -- passing a trick on takes one seat from those left
 room_passed : (question : Question) (place : Position) (turn : Seat) (after : ℕ) (winner : Seat) (highest : ℕ)

@@ -11,8 +11,8 @@ use Rattle.suit_game.specs.Positions.{without, dealt}
 use Rattle.suit_game.specs.Strategies.{same_seat}
 use Rattle.suit_game.specs.Gains.{is_declarer}
 use Rattle.suit_game.specs.Reached.{is_to_play}
-use Rattle.suit_game.proofs.HeldCards.{holds-from_without, holds-without, without-more, without-played}
-use Rattle.suit_game.proofs.AllowedMoves.{IsPlayable}
+use Rattle.suit_game.proofs.WhatAHandHolds.{holds-from_without, holds-without, without-more, without-played}
+use Rattle.suit_game.proofs.MovesByTheHand.{IsPlayable}
 
 pub same_seat_is : (seat other : Seat) → same_seat seat other ≡ true → seat ≡ other
 same_seat_is N N same = refl

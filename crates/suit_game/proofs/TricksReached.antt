@@ -9,7 +9,7 @@ use Rattle.suit_cards.specs.declared.seats.Seat.{Seat}
 use Rattle.suit_cards.specs.declared.seats.Seat.TheVariants.{N, E, S, W}
 use Rattle.suit_cards.specs.Seats.{clockwise}
 use Rattle.suit_cards.specs.Holdings.{holds}
-use Rattle.suit_cards.proofs.HeldRanks.{holds_tells}
+use Rattle.suit_cards.proofs.WhetherARankIsHeld.{holds_tells}
 use Rattle.suit_game.specs.declared.question.Question.{Question}
 use Rattle.suit_game.specs.declared.moves.Move.{Move}
 use Rattle.suit_game.specs.Gains.{is_declarer}
@@ -17,7 +17,7 @@ use Rattle.suit_game.specs.Positions.{Position, Trick, Closed, Open, without, de
 use Rattle.suit_game.specs.Positions.{step, turn_passed, ended_trick}
 use Rattle.suit_game.specs.Reached.{is_to_play, IsOpen, IsTrickAt}
 use Rattle.suit_game.specs.Strategies.{same_seat}
-use Rattle.suit_game.proofs.HeldCards.{holds-from_without}
+use Rattle.suit_game.proofs.WhatAHandHolds.{holds-from_without}
 use Rattle.suit_game.proofs.OwnCards.{PlaysOwn}
 use Rattle.suit_game.proofs.LegalPlays.{lead_cases, follow_or_show}
 use Rattle.suit_game.proofs.TrickStates.{comes}

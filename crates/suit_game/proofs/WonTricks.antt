@@ -8,7 +8,7 @@ use Rattle.suit_game.specs.Deals.{IsDeal}
 use Rattle.suit_game.specs.Positions.{Position, Trick, Closed, Open, after, legal_at, step, LegalFrom, IsLegal}
 use Rattle.suit_game.specs.Reached.{held_at_trick, IsTrickAt, IsWithin}
 use Rattle.suit_game.proofs.MovesCounted.{tricks_later, held_later}
-use Rattle.suit_game.proofs.ReachedPlaces.{trick_after}
+use Rattle.suit_game.proofs.EachPlaceIsReached.{trick_after}
 use Rattle.suit_game.proofs.TricksReached.{trick_later}
 use Rattle.suit_game.proofs.TurnsTaken.{follow_passes, last_ends, lead_opens}
 

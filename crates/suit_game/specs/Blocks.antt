@@ -1,7 +1,7 @@
 -- The missing cards in blocks, and how many cards of each West holds.
 use Rattle.std.specs.Prelude.{◌≡◌, ◌+◌, ◌≤◌, List, [], ◌∷◌, length, map, take, drop, sum, count_by, All}
 use Rattle.suit_cards.specs.Holdings.{holds}
-use Rattle.suit_cards.specs.Cards.{Cards, Counts, Sizes}
+use Rattle.suit_cards.specs.Cards.{Cards, ClassLayout, Sizes}
 use Rattle.suit_game.specs.declared.question.Question.{Question}
 use Rattle.suit_game.specs.Question.{missing}
 
@@ -11,11 +11,11 @@ blocks_of cards [] = []
 blocks_of cards (size ∷ sizes) = take size cards ∷ blocks_of (drop size cards) sizes
 
 -- how many of West's cards stand in each block
-abbrev pub counts_in : List Cards → Cards → Counts
+abbrev pub counts_in : List Cards → Cards → ClassLayout
 counts_in blocks west = map (λ block. count_by (λ card. holds block card) west) blocks
 
 -- how many cards of each block of missing cards West has in a layout
-abbrev pub counts_of : Question → Sizes → Cards → Counts
+abbrev pub counts_of : Question → Sizes → Cards → ClassLayout
 counts_of question sizes west = counts_in (blocks_of (missing question) sizes) west
 
 -- blocks of these sizes have a card each and take up the missing cards, and a card of declarer's lies between any two:

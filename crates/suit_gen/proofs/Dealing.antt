@@ -8,7 +8,8 @@ use Rattle.std.proofs.lemmas.Bool.Decides.{nat_tests}
 use Rattle.suit_cards.specs.Cards.{Cards}
 use Rattle.suit_cards.specs.Holdings.{suit, others_of, without_rank}
 use Rattle.suit_cards.specs.Masks.{lowest, suit_is}
-use Rattle.suit_cards.proofs.SuitRuns.{filter-filter, filter_suit-agree}
+use Rattle.suit_cards.proofs.SuitRuns.{filter_suit-agree}
+use Rattle.suit_lists.proofs.Filters.{filter-filter}
 use Rattle.suit_gen.specs.Deals.{place_of, dealt_to, deal_at}
 use Rattle.suit_gen.specs.Draws.{next, state_after, drawn}
 

@@ -5,8 +5,8 @@ use Rattle.std.specs.Prelude.{bytes_eq, ◌==◌, if◌then◌else◌}
 use Rattle.std.specs.List.{filter, sum, sum_by, range_with_len}
 use Rattle.std.proofs.lemmas.Bool.{cases_Bool, cases_eq, cases_lt, eq-eqb, lt-ltb, ne_eqb}
 use Rattle.std.proofs.lemmas.List.Sums.{sum_by-cons}
-use Rattle.suit_cards.specs.Cards.{Counts, Sizes}
-use Rattle.suit_cards.proofs.HeldSuits.{IsHolding-others_of}
+use Rattle.suit_cards.specs.Cards.{ClassLayout, Sizes}
+use Rattle.suit_cards.proofs.HoldingIsWhatItHolds.{IsHolding-others_of}
 use Rattle.suit_num.specs.Binomials.{binomial}
 use Rattle.suit_num.proofs.BinomialLaws.{binomial_past}
 use Rattle.suit_game.specs.declared.question.Question.{Question}
@@ -83,7 +83,7 @@ term_elsewhere : (here test : Bool) (ways value : ℕ) → here ≡ false → wa
 term_elsewhere here test ways value is = rw is (omega arith)
 
 -- among all counts, those asked for alone
-pub selected : (g : List ℕ → ℕ) (sizes : Sizes) (counts : Counts)
+pub selected : (g : List ℕ → ℕ) (sizes : Sizes) (counts : ClassLayout)
     → sum_by (λ other. ways_of sizes other * (if same_counts other counts then g other else 0)) (counts_up_to sizes)
     ≡ ways_of sizes counts * g counts
 unfolding counts_up_to ways_of
@@ -138,7 +138,7 @@ both_tests false true deals = refl
 both_tests false false deals = refl
 
 -- a class layout weighs as much as one of its layouts, times the ways to choose West's cards of each block
-pub class_weight_counted : (question : Question) (sizes : Sizes) (counts : Counts)
+pub class_weight_counted : (question : Question) (sizes : Sizes) (counts : ClassLayout)
     → sum sizes ≡ length (missing question)
     → class_weight question sizes counts ≡ ways_of sizes counts * weight_in_range question (sum counts)
 unfolding class_weight layouts

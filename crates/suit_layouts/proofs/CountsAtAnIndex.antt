@@ -7,7 +7,7 @@ use Rattle.std.proofs.lemmas.List.{get_or-append-add, get_or-map, length-map}
 use Rattle.std.proofs.lemmas.Nat.{div-add-mod'}
 use Rattle.std.proofs.Math.ListN.{drop_of_length-le}
 use Rattle.std.proofs.Math.Nat.{div-lt_iff_lt-mul, mod-lt, mul-div_cancel_left, mul-le-mul_left}
-use Rattle.suit_cards.specs.Cards.{Counts, Sizes}
+use Rattle.suit_cards.specs.Cards.{ClassLayout, Sizes}
 use Rattle.suit_layouts.specs.ClassLayouts.{counts_up_to}
 use Rattle.suit_layouts.proofs.FewCounts.{length-up_to}
 
@@ -57,7 +57,7 @@ up_to-at size sizes index left is below =
     ∙ rw start at (pieces_at (counts_up_to sizes) 0 (size + 1) (index / left) (index % left) first rest)
 
 -- one block more is counted off: how many counts there are of the others, and where among them the index lies
-pub record CountedOff (sizes : Sizes) (counts : Counts) (block index all wanted : ℕ) : Type 0 where
+pub record CountedOff (sizes : Sizes) (counts : ClassLayout) (block index all wanted : ℕ) : Type 0 where
   pub many : length counts ≡ block
   pub left : all ≡ length (counts_up_to (drop block sizes))
   pub within : index < all
@@ -73,7 +73,7 @@ left_at sizes block all within is =
     rw product (mul-div_cancel_left (length (counts_up_to (drop (block + 1) sizes))) (omega arith))
 
 -- one block more
-pub counted_more : (sizes : Sizes) (counts : Counts) (block index all wanted left : ℕ) → block < length sizes
+pub counted_more : (sizes : Sizes) (counts : ClassLayout) (block index all wanted left : ℕ) → block < length sizes
     → CountedOff sizes counts block index all wanted
     → left ≡ all / (get_or sizes block 0 + 1)
     → CountedOff sizes (counts ++ (index / left) ∷ []) (block + 1) (index % left) left wanted
@@ -96,7 +96,7 @@ counted_more sizes counts block index all wanted left within so_far is =
     }
 
 -- with no block left, the counts are those at the index
-pub counted_all : (sizes : Sizes) (counts : Counts) (block index all wanted : ℕ) → length sizes ≤ block
+pub counted_all : (sizes : Sizes) (counts : ClassLayout) (block index all wanted : ℕ) → length sizes ≤ block
     → CountedOff sizes counts block index all wanted
     → counts ≡ get_or (counts_up_to sizes) wanted []
 unfolding counts_up_to

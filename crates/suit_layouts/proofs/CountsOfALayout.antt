@@ -7,8 +7,8 @@ use Rattle.std.proofs.lemmas.Bool.{cases_eq, eq-eqb, ne_eqb}
 use Rattle.std.proofs.lemmas.List.Elements.{All-contains, All-contains_itself, All-filter, filter_passes}
 use Rattle.std.proofs.lemmas.List.Sums.{length-filter}
 use Rattle.std.proofs.lemmas.Slice.Eq.{bytes_eq-Decides}
-use Rattle.suit_cards.specs.Cards.{Cards, Counts, Sizes}
-use Rattle.suit_cards.proofs.HeldSuits.{IsHolding-others_of}
+use Rattle.suit_cards.specs.Cards.{Cards, ClassLayout, Sizes}
+use Rattle.suit_cards.proofs.HoldingIsWhatItHolds.{IsHolding-others_of}
 use Rattle.suit_game.specs.declared.question.Question.{Question}
 use Rattle.suit_game.specs.Layouts.{choices_of, is_west_length, layouts, weight}
 use Rattle.suit_game.specs.Question.{missing}
@@ -20,7 +20,8 @@ use Rattle.suit_layouts.proofs.ClassWeights.{both_tests, selected}
 use Rattle.suit_layouts.proofs.SumsByBlocks.{grouped}
 
 -- as many layouts have given counts as the ways of the blocks
-pub layouts_counted : (question : Question) (sizes : Sizes) (counts : Counts) → sum sizes ≡ length (missing question)
+pub layouts_counted : (question : Question) (sizes : Sizes) (counts : ClassLayout)
+    → sum sizes ≡ length (missing question)
     → IsTrue (is_west_length question (sum counts))
     → length (filter (λ west. same_counts (counts_of question sizes west) counts) (layouts question))
     ≡ ways_of sizes counts
@@ -85,7 +86,7 @@ layouts_listed question sizes west found some =
     )
 
 -- a class layout that has a weight is the counts of some layout that has one
-pub class_layouts_held : (question : Question) (sizes : Sizes) (counts : Counts)
+pub class_layouts_held : (question : Question) (sizes : Sizes) (counts : ClassLayout)
     → 0 < class_weight question sizes counts
     → (west : Cards) × Contains (layouts question) west × (counts_of question sizes west ≡ counts)
     × (0 < weight question (length west))

@@ -6,7 +6,7 @@ use Rattle.std.proofs.lemmas.Bool.{cases_Bool, eqb-true, or_cases, or_right, or_
 use Rattle.std.proofs.lemmas.List.{take-append-drop}
 use Rattle.std.proofs.lemmas.List.Sums.{sum_by-append}
 use Rattle.suit_cards.specs.Holdings.{FallsBelow, holds}
-use Rattle.suit_cards.proofs.HeldSuits.{holds-above}
+use Rattle.suit_cards.proofs.HoldingIsWhatItHolds.{holds-above}
 use Rattle.suit_game.proofs.EachElement.{each_gives}
 use Rattle.suit_game.specs.Blocks.{blocks_of, counts_in}
 use Rattle.suit_layouts.proofs.ChoicesOfTwoLists.{AreHeld, count_all, count_none}

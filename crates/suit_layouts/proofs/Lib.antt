@@ -4,8 +4,8 @@ pub mod FewCounts
 pub mod SumsByBlocks
 pub mod CountsOfALayout
 pub mod ChoicesOfTwoLists
-pub mod ListedCounts
+pub mod WhatHasWeightIsListed
 pub mod CountsAtAnIndex
-pub mod RisingCounts
+pub mod ClassLayoutsRise
 pub mod WhatAWalkYields
 pub mod WeightsAreSmall

@@ -3,7 +3,7 @@ use Rattle.std.proofs.Common.{◌≡◌, ℕ, ◌+◌, ◌*◌, List, [], ◌∷
 use Rattle.std.specs.List.{sum, sum_by, range_with_len}
 use Rattle.std.proofs.lemmas.List.{take-append-drop, length-append, length-take-le, length-drop}
 use Rattle.std.proofs.lemmas.List.Sums.{sum_by-cons}
-use Rattle.suit_cards.specs.Cards.{Counts, Sizes}
+use Rattle.suit_cards.specs.Cards.{ClassLayout, Sizes}
 use Rattle.suit_cards.specs.Holdings.{FallsBelow}
 use Rattle.suit_num.specs.Binomials.{binomial}
 use Rattle.suit_game.specs.Layouts.{choices_of}
@@ -42,7 +42,7 @@ joined_term f top size sizes cards taken more falls first later =
     cc
 
 -- one list of counts, by its first count
-counts_term : (f : List ℕ → ℕ → ℕ) (size : ℕ) (sizes : Sizes) (count : ℕ) (counts : Counts)
+counts_term : (f : List ℕ → ℕ → ℕ) (size : ℕ) (sizes : Sizes) (count : ℕ) (counts : ClassLayout)
     → binomial size count * (ways_of sizes counts * f (count ∷ counts) (count + sum counts))
     ≡ ways_of (size ∷ sizes) (count ∷ counts) * f (count ∷ counts) (sum (count ∷ counts))
 unfolding ways_of

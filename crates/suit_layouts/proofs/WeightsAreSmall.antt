@@ -5,21 +5,21 @@ use Rattle.std.proofs.lemmas.List.{take_all}
 use Rattle.std.specs.List.{sum}
 use Rattle.std.proofs.lemmas.Nat.{pow-add}
 use Rattle.std.proofs.Math.Nat.{mul-le-mul, pow-le-pow_right}
-use Rattle.suit_cards.specs.Cards.{Counts, Sizes}
-use Rattle.suit_cards.proofs.HeldRanks.{length-IsHolding}
-use Rattle.suit_cards.proofs.HeldSuits.{IsHolding-others_of}
+use Rattle.suit_cards.specs.Cards.{ClassLayout, Sizes}
+use Rattle.suit_cards.proofs.WhetherARankIsHeld.{length-IsHolding}
+use Rattle.suit_cards.proofs.HoldingIsWhatItHolds.{IsHolding-others_of}
 use Rattle.suit_num.specs.Binomials.{binomial}
 use Rattle.suit_num.proofs.BinomialLaws.{binomial-le}
 use Rattle.suit_game.specs.declared.question.Question.{Question}
 use Rattle.suit_game.specs.Question.{missing}
 use Rattle.suit_game.specs.Validity.{IsValid}
 use Rattle.suit_game.specs.Weights.{weight_in_range}
-use Rattle.suit_game.proofs.FilledPlaces.{weight-small}
+use Rattle.suit_game.proofs.WhatAllLayoutsWeigh.{weight-small}
 use Rattle.suit_game.specs.Blocks.{AreSizes}
 use Rattle.suit_layouts.specs.ClassLayouts.{class_weight, ways_of}
 use Rattle.suit_layouts.proofs.ClassWeights.{class_weight_counted}
 use Rattle.suit_layouts.proofs.SumsByBlocks.{sum-cons}
-use Rattle.suit_layouts.proofs.ListedCounts.{Contains-up_to}
+use Rattle.suit_layouts.proofs.WhatHasWeightIsListed.{Contains-up_to}
 
 -- one block's ways with those of the others
 pub ways_small : (size count : ℕ) (sum_of here others : ℕ) → here ≡ binomial size count → others ≤ 2 ^ sum_of
@@ -43,7 +43,7 @@ sizes_few question sizes are =
     omega (arith, are.filled)
 
 -- where no way is left, the class layout weighs nothing
-pub none_weighs : (question : Question) (sizes : Sizes) (counts : Counts) (ways : ℕ) → AreSizes question sizes
+pub none_weighs : (question : Question) (sizes : Sizes) (counts : ClassLayout) (ways : ℕ) → AreSizes question sizes
     → ways ≡ ways_of sizes counts → ways ≡ 0
     → 0 ≡ class_weight question sizes counts
 none_weighs question sizes counts ways are is none =
@@ -52,7 +52,7 @@ none_weighs question sizes counts ways are is none =
     sym (counted ∙ rw no_way (omega arith))
 
 -- where West can hold so many of each block, these are few
-pub counts_few : (question : Question) (sizes : Sizes) (counts : Counts) (ways : ℕ) → AreSizes question sizes
+pub counts_few : (question : Question) (sizes : Sizes) (counts : ClassLayout) (ways : ℕ) → AreSizes question sizes
     → ways ≡ ways_of sizes counts → (ways ≡ 0 → ⊥)
     → sum counts ≤ 13
 counts_few question sizes counts ways are is some =
@@ -73,7 +73,8 @@ deals_fit question sizes count ways deals valid are small is =
     omega arith
 
 -- and is the weight of the class layout
-pub weighs : (question : Question) (sizes : Sizes) (counts : Counts) (ways count deals : ℕ) → AreSizes question sizes
+pub weighs : (question : Question) (sizes : Sizes) (counts : ClassLayout) (ways count deals : ℕ)
+    → AreSizes question sizes
     → ways ≡ ways_of sizes counts → count ≡ sum counts → deals ≡ weight_in_range question count
     → ways * deals ≡ class_weight question sizes counts
 weighs question sizes counts ways count deals are is_ways is_count is_deals =
@@ -86,14 +87,14 @@ rest_of first others = let long : length (first ∷ others) - 1 ≡ length other
     rw long (take_all (length others) others (omega arith))
 
 -- with no block and no count there is one way
-pub ways-none : (sizes : Sizes) (counts : Counts) → length sizes ≡ 0 → length counts ≡ 0 → 1 ≡ ways_of sizes counts
+pub ways-none : (sizes : Sizes) (counts : ClassLayout) → length sizes ≡ 0 → length counts ≡ 0 → 1 ≡ ways_of sizes counts
 unfolding ways_of
 ways-none [] [] no_size no_count = refl
 ways-none (size ∷ sizes) counts no_size no_count = absurd (omega arith)
 ways-none [] (count ∷ counts) no_size no_count = absurd (omega arith)
 
 -- as many counts as blocks, or else no way
-pub ways_apart : (sizes : Sizes) (counts : Counts) → (length sizes ≡ length counts → ⊥) → 0 ≡ ways_of sizes counts
+pub ways_apart : (sizes : Sizes) (counts : ClassLayout) → (length sizes ≡ length counts → ⊥) → 0 ≡ ways_of sizes counts
 unfolding ways_of
 ways_apart [] [] apart = absurd (apart refl)
 ways_apart [] (count ∷ counts) apart = refl
@@ -108,7 +109,7 @@ pub record FirstWays (sizes counts others_sizes others_counts : List ℕ) (size 
   pub sum_of : sum sizes ≡ size + sum others_sizes
 
 -- a slice that has a first element, by it and the others
-pub first_ways : (sizes : Sizes) (counts : Counts) → 1 ≤ length sizes → 1 ≤ length counts
+pub first_ways : (sizes : Sizes) (counts : ClassLayout) → 1 ≤ length sizes → 1 ≤ length counts
     → FirstWays sizes counts (take (length sizes - 1) (drop 1 sizes)) (take (length counts - 1) (drop 1 counts))
     (get_or sizes 0 0) (get_or counts 0 0)
 unfolding ways_of

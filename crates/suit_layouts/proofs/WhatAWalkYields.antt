@@ -6,7 +6,7 @@ use Rattle.std.proofs.lemmas.Bool.{le-ltb, lt-ltb}
 use Rattle.std.proofs.lemmas.List.{drop_more}
 use Rattle.std.proofs.lemmas.List.Elements.{recursion_from_All}
 use Rattle.std.proofs.Math.ListN.{drop_of_length-le}
-use Rattle.suit_cards.specs.Cards.{Counts, Sizes}
+use Rattle.suit_cards.specs.Cards.{ClassLayout, Sizes}
 use Rattle.suit_game.specs.declared.question.Question.{Question}
 use Rattle.suit_game.specs.Blocks.{AreSizes}
 use Rattle.suit_layouts.specs.ClassLayouts.{class_layouts, class_weight, counts_up_to, weighed}
@@ -14,7 +14,7 @@ use Rattle.suit_layouts.specs.Walks.{IsWalk, weighed_from}
 use Rattle.suit_layouts.proofs.SumsByBlocks.{sum-cons}
 
 -- the class layouts from an index on: the one there if it has a weight, and those after it
-pub weighed_more : (question : Question) (sizes : Sizes) (counts : Counts) (index deals : ℕ)
+pub weighed_more : (question : Question) (sizes : Sizes) (counts : ClassLayout) (index deals : ℕ)
     → index < length (counts_up_to sizes)
     → counts ≡ get_or (counts_up_to sizes) index [] → deals ≡ class_weight question sizes counts
     → weighed_from question sizes index
@@ -50,8 +50,8 @@ blocks_few question sizes are =
     omega (arith, each_some sizes (recursion_from_All (λ size. 1 ≤ size) sizes are.some), are.filled, are.few)
 
 -- where a walk stands, and what it found there
-pub record StandsAt (question : Question) (sizes : Sizes) (index all : ℕ) (left : List (Counts
-    × ℕ)) (counts : Counts) (deals : ℕ) : Type 0 where
+pub record StandsAt (question : Question) (sizes : Sizes) (index all : ℕ) (left : List (ClassLayout
+    × ℕ)) (counts : ClassLayout) (deals : ℕ) : Type 0 where
   pub walk : IsWalk question sizes index all
   pub further : index < all
   pub left_is : weighed_from question sizes index ≡ left
@@ -59,8 +59,8 @@ pub record StandsAt (question : Question) (sizes : Sizes) (index all : ℕ) (lef
   pub deals_are : deals ≡ class_weight question sizes counts
 
 -- what is left there, by what it weighs
-stands_more : (question : Question) (sizes : Sizes) (index all : ℕ) (left : List (Counts
-    × ℕ)) (counts : Counts) (deals : ℕ)
+stands_more : (question : Question) (sizes : Sizes) (index all : ℕ) (left : List (ClassLayout
+    × ℕ)) (counts : ClassLayout) (deals : ℕ)
     → StandsAt question sizes index all left counts deals
     → left ≡ cond (nat_lt 0 deals) ((counts, deals)
     ∷ weighed_from question sizes (index + 1)) (weighed_from question sizes (index + 1))
@@ -72,8 +72,8 @@ stands_more question sizes index all left counts deals stands =
     )) stands.counts_are stands.deals_are
 
 -- it yields what has a weight
-pub weighed_yields : (question : Question) (sizes : Sizes) (index all : ℕ) (left : List (Counts
-    × ℕ)) (counts : Counts) (deals : ℕ)
+pub weighed_yields : (question : Question) (sizes : Sizes) (index all : ℕ) (left : List (ClassLayout
+    × ℕ)) (counts : ClassLayout) (deals : ℕ)
     → StandsAt question sizes index all left counts deals → 0 < deals
     → left ≡ (counts, deals) ∷ weighed_from question sizes (index + 1)
 weighed_yields question sizes index all left counts deals stands some =
@@ -81,8 +81,8 @@ weighed_yields question sizes index all left counts deals stands some =
     rw passes at (stands_more question sizes index all left counts deals stands)
 
 -- and passes over what has none
-pub weighed_skips : (question : Question) (sizes : Sizes) (index all : ℕ) (left : List (Counts
-    × ℕ)) (counts : Counts) (deals : ℕ)
+pub weighed_skips : (question : Question) (sizes : Sizes) (index all : ℕ) (left : List (ClassLayout
+    × ℕ)) (counts : ClassLayout) (deals : ℕ)
     → StandsAt question sizes index all left counts deals → deals ≤ 0 → weighed_from question sizes (index + 1) ≡ left
 weighed_skips question sizes index all left counts deals stands none =
     let fails : nat_lt 0 deals ≡ false = le-ltb 0 deals none in

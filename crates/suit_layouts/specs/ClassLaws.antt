@@ -3,7 +3,7 @@ use Rattle.std.specs.Prelude.{◌≡◌, ℕ, ◌*◌, ◌<◌, ◌≤◌, ◌�
 use Rattle.std.specs.Ordering.{nat_cmp}
 use Rattle.std.specs.Cmp.Lexicographic.{slice_cmp}
 use Rattle.std.specs.declared.cmp.Ordering.TheVariants.{Less}
-use Rattle.suit_cards.specs.Cards.{Cards, Counts, Sizes}
+use Rattle.suit_cards.specs.Cards.{Cards, ClassLayout, Sizes}
 use Rattle.suit_game.specs.declared.question.Question.{Question}
 use Rattle.suit_game.specs.Layouts.{is_west_length, layouts, weight, total}
 use Rattle.suit_game.specs.Question.{missing}
@@ -15,7 +15,7 @@ use Rattle.suit_layouts.specs.ClassLayouts.{class_weight, class_layouts, same_co
 -- a class layout weighs as much as one of its layouts, times the ways to choose West's cards of each block
 abbrev pub ClassWeightsCounted : Type 0
 ClassWeightsCounted =
-    (question : Question) (sizes : Sizes) (counts : Counts) → sum sizes ≡ length (missing question)
+    (question : Question) (sizes : Sizes) (counts : ClassLayout) → sum sizes ≡ length (missing question)
     → class_weight question sizes counts ≡ ways_of sizes counts * weight_in_range question (sum counts)
 
 -- the counts stand in strictly rising lexicographic order
@@ -27,7 +27,7 @@ ClassLayoutsRise =
 -- exactly the counts that have a weight are there, each with its weight
 abbrev pub ClassLayoutsExact : Type 0
 ClassLayoutsExact =
-    (question : Question) (sizes : Sizes) (counts : Counts) (deals : ℕ) → sum sizes ≡ length (missing question)
+    (question : Question) (sizes : Sizes) (counts : ClassLayout) (deals : ℕ) → sum sizes ≡ length (missing question)
     → Contains (class_layouts question sizes) (counts, deals)
     ↔ ((deals ≡ class_weight question sizes counts) × (0 < deals))
 
@@ -39,14 +39,14 @@ ClassLayoutsFew = (question : Question) (sizes : Sizes) → AreSizes question si
 -- what depends on West's counts alone is summed over the layouts, each with its weight, by class layouts
 abbrev pub LayoutsGrouped : Type 0
 LayoutsGrouped =
-    (worth : Counts → ℕ) (question : Question) (sizes : Sizes) → sum sizes ≡ length (missing question)
+    (worth : ClassLayout → ℕ) (question : Question) (sizes : Sizes) → sum sizes ≡ length (missing question)
     → sum_by (λ west. weight question (length west) * worth (counts_of question sizes west)) (layouts question)
     ≡ sum_by (λ layout. layout.1 * worth layout.0) (class_layouts question sizes)
 
 -- as many layouts have given counts as the ways of the blocks, where West may have so many cards
 abbrev pub LayoutsCounted : Type 0
 LayoutsCounted =
-    (question : Question) (sizes : Sizes) (counts : Counts) → sum sizes ≡ length (missing question)
+    (question : Question) (sizes : Sizes) (counts : ClassLayout) → sum sizes ≡ length (missing question)
     → IsTrue (is_west_length question (sum counts))
     → length (filter (λ west. same_counts (counts_of question sizes west) counts) (layouts question))
     ≡ ways_of sizes counts
@@ -68,7 +68,7 @@ LayoutsListed =
 -- a class layout that has a weight is the counts of some layout that has one
 abbrev pub ClassLayoutsHeld : Type 0
 ClassLayoutsHeld =
-    (question : Question) (sizes : Sizes) (counts : Counts) → 0 < class_weight question sizes counts
+    (question : Question) (sizes : Sizes) (counts : ClassLayout) → 0 < class_weight question sizes counts
     → (west : Cards) × Contains (layouts question) west × (counts_of question sizes west ≡ counts)
     × (0 < weight question (length west))
 

@@ -12,9 +12,9 @@ pub struct ClassLayout {
 }
 
 impl Model for ClassLayout {
-    ghost use Rattle.suit_cards.specs.Cards.{Counts};
+    ghost use Rattle.suit_cards.specs.Cards as lists;
 
-    ghost Value = { Counts };
+    ghost Value = { lists.ClassLayout };
 
     ghost view = { λ layout. layout.counts.items };
 

@@ -23,10 +23,10 @@ pub struct ClassWalk<'a> {
 
 impl<'a> Model for ClassWalk<'a> {
     ghost use Rattle.std.specs.Prelude.{List, ℕ};
-    ghost use Rattle.suit_cards.specs.Cards.{Counts};
+    ghost use Rattle.suit_cards.specs.Cards as lists;
     ghost use Rattle.suit_layouts.specs.Walks.{IsWalk, weighed_from};
 
-    ghost Value = { List (Counts × ℕ) };
+    ghost Value = { List (lists.ClassLayout × ℕ) };
 
     ghost view = { λ walk. weighed_from walk.question.now walk.sizes.now walk.index };
 

@@ -20,8 +20,8 @@ use Rattle.suit_classes.specs.declared.class_moves.ClassMove.{ClassMove}
 use Rattle.suit_classes.specs.Classes.{Hands, hands_of, class_of}
 use Rattle.suit_classes.specs.ClassGame.{cards_in, counts_of}
 use Rattle.suit_classes.specs.ClassMoves.{merge, merged}
-use Rattle.suit_classes.proofs.AllowedHistories.{each_once-Contains, merged-push}
-use Rattle.suit_classes.proofs.MergedPlaces.{play_dealt}
+use Rattle.suit_classes.proofs.AllowedMoveByMove.{each_once-Contains, merged-push}
+use Rattle.suit_classes.proofs.ClassPlaceFollowsPlay.{play_dealt}
 use Rattle.suit_plans.specs.declared.defence.Defence.{Defence}
 use Rattle.suit_plans.specs.Masses.{defence_shares_at, defence_mass, defenders}
 use Rattle.suit_plans.specs.PlanLaws.{AreRealised}

@@ -9,24 +9,24 @@ use Rattle.std.proofs.lemmas.Bool.{cases_Bool, true≢false}
 use Rattle.std.proofs.lemmas.List.Sums.{sum_by-cons}
 use Rattle.suit_cards.specs.Cards.{Cards}
 use Rattle.suit_cards.specs.Holdings.{IsHolding, holds, suit}
-use Rattle.suit_cards.proofs.HeldRanks.{length-IsHolding}
-use Rattle.suit_cards.proofs.HeldSuits.{IsHolding-others_of, filter_suit-holds}
+use Rattle.suit_cards.proofs.WhetherARankIsHeld.{length-IsHolding}
+use Rattle.suit_cards.proofs.HoldingIsWhatItHolds.{IsHolding-others_of, filter_suit-holds}
 use Rattle.suit_game.specs.declared.question.Question.{Question}
 use Rattle.suit_game.specs.declared.moves.Move.{Move}
 use Rattle.suit_game.specs.declared.moves.Move.TheVariants as cards
 use Rattle.suit_game.specs.Positions.{without}
 use Rattle.suit_game.specs.Question.{missing}
 use Rattle.suit_game.proofs.EachElement.{each_map, each_of}
-use Rattle.suit_game.proofs.HeldCards.{holds-from_without}
+use Rattle.suit_game.proofs.WhatAHandHolds.{holds-from_without}
 use Rattle.suit_game.proofs.ListSums.{sum_by-mul, sum_by_filter, sum_by_map, sum_by_none}
 use Rattle.suit_classes.specs.declared.class_moves.ClassMove.{ClassMove}
 use Rattle.suit_classes.specs.declared.class_moves.ClassMove.TheVariants.{Follow, ShowOut}
-use Rattle.suit_classes.specs.AllowedHistories.{is_among}
+use Rattle.suit_classes.specs.WhatIsAllowed.{is_among}
 use Rattle.suit_classes.specs.Classes.{Hands, hands_of, class_of, defence_classes}
 use Rattle.suit_classes.specs.ClassGame.{cards_in}
 use Rattle.suit_classes.specs.ClassMoves.{same_class_move}
 use Rattle.suit_classes.specs.MoveOrder.{class_named}
-use Rattle.suit_classes.proofs.DealtClasses.{IsHolding-without}
+use Rattle.suit_classes.proofs.OneSideHoldsAClass.{IsHolding-without}
 use Rattle.suit_game.proofs.DistinctElements.{IsOnce, once_map}
 use Rattle.suit_classes.proofs.SameMoves.{same_move_is}
 use Rattle.suit_lift.specs.Lifts.{common}

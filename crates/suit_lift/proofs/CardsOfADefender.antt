@@ -10,7 +10,7 @@ use Rattle.suit_cards.specs.Cards.{Cards}
 use Rattle.suit_cards.specs.declared.seats.Seat.{Seat}
 use Rattle.suit_cards.specs.declared.seats.Seat.TheVariants.{N, E, S, W}
 use Rattle.suit_cards.specs.Holdings.{IsHolding, holds, suit}
-use Rattle.suit_cards.proofs.HeldSuits.{filter_suit-holds}
+use Rattle.suit_cards.proofs.HoldingIsWhatItHolds.{filter_suit-holds}
 use Rattle.suit_game.specs.declared.question.Question.{Question}
 use Rattle.suit_game.specs.declared.moves.Move.{Move}
 use Rattle.suit_game.specs.declared.moves.Move.TheVariants.{Lead, Follow, ShowOut}
@@ -20,11 +20,11 @@ use Rattle.suit_game.specs.PlaceViews.{IsPlay}
 use Rattle.suit_game.specs.Positions.{Position, Trick, Closed, Open, after, dealt, follows_of, hand, legal, legal_in}
 use Rattle.suit_game.specs.Positions.{without}
 use Rattle.suit_game.specs.Question.{missing}
-use Rattle.suit_game.proofs.HeldCards.{holds-from_without, holds-without}
+use Rattle.suit_game.proofs.WhatAHandHolds.{holds-from_without, holds-without}
 use Rattle.suit_classes.specs.Classes.{hands_of, class_of}
 use Rattle.suit_classes.specs.ClassMoves.{merge}
-use Rattle.suit_classes.proofs.DealtClasses.{IsDealt, IsHolding-dealt, IsHolding-without}
-use Rattle.suit_classes.proofs.MergedPlaces.{play_dealt}
+use Rattle.suit_classes.proofs.OneSideHoldsAClass.{IsDealt, IsHolding-dealt, IsHolding-without}
+use Rattle.suit_classes.proofs.ClassPlaceFollowsPlay.{play_dealt}
 use Rattle.suit_classes.proofs.MovesOnce.{filter_of_map}
 use Rattle.suit_lift.specs.Lifts.{fellows}
 use Rattle.suit_lift.specs.Naming.{is_one_of, unplayed}

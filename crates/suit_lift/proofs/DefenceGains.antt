@@ -7,7 +7,7 @@ use Rattle.std.proofs.Math.Nat.{mul-le-mul_left, mul-pos}
 use Rattle.std.proofs.lemmas.Bool.{lt-ltb, true≢false}
 use Rattle.std.proofs.lemmas.List.Sums.{sum_by-cons}
 use Rattle.std.proofs.lemmas.Slice.Eq.{bytes_eq-Decides}
-use Rattle.suit_cards.specs.Cards.{Cards, Counts}
+use Rattle.suit_cards.specs.Cards.{Cards, ClassLayout}
 use Rattle.suit_game.specs.declared.question.Question.{Question}
 use Rattle.suit_game.specs.Blocks.{counts_of as block_counts}
 use Rattle.suit_game.specs.Fractions.{Fraction, IsAtMost, weighted_sum, whole}
@@ -21,7 +21,7 @@ use Rattle.suit_game.proofs.ListSums.{sum_by_alike}
 use Rattle.suit_game.proofs.PayDenominators.{gain-den, pay-den, total_weight-gain}
 use Rattle.suit_classes.specs.Classes.{hands_of, sizes_of}
 use Rattle.suit_classes.specs.ClassGame.{counts_of}
-use Rattle.suit_classes.proofs.AllowedLayouts.{counts_alike}
+use Rattle.suit_classes.proofs.CountsAllowAsTold.{counts_alike}
 use Rattle.suit_layouts.specs.ClassLayouts.{class_weight}
 use Rattle.suit_plans.specs.BestReplies.{most}
 use Rattle.suit_plans.specs.declared.defence.Defence.{Defence}
@@ -56,7 +56,7 @@ constant_sum f k xs same =
 
 module _ (question : Question) (west : Cards) (valid : IsValid question) (layout : Contains
     (layouts question) west) where
-  abbrev its_counts : Counts
+  abbrev its_counts : ClassLayout
   its_counts = counts_of (hands_of question) west
 
   alike_first : alike_layouts question west []
@@ -71,7 +71,7 @@ module _ (question : Question) (west : Cards) (valid : IsValid question) (layout
       ≡ true = (bytes_eq-Decides (gone_of [] other) (gone_of [] west)).1 (none_gone other ∙ sym (none_gone west)) in
       ap (λ (b : Bool). bytes_eq (counts_of (hands_of question) other) its_counts && b) none
       ∙ and_only (bytes_eq (counts_of (hands_of question) other) its_counts)
-      ∙ ap (λ (counts : Counts). bytes_eq counts its_counts) (sym (counts_alike question other holding)))
+      ∙ ap (λ (counts : ClassLayout). bytes_eq counts its_counts) (sym (counts_alike question other holding)))
     where
       and_only : (b : Bool) → (b && true) ≡ b
       and_only true = refl

@@ -7,7 +7,7 @@ use Rattle.std.proofs.Math.Nat.{eq_of_mul-eq-mul_right, mul-pos}
 use Rattle.std.proofs.lemmas.Bool.{and_parts}
 use Rattle.std.proofs.lemmas.List.{append-nil, append_assoc}
 use Rattle.std.proofs.lemmas.Slice.Eq.{bytes_eq-Decides}
-use Rattle.suit_cards.specs.Cards.{Cards, Counts}
+use Rattle.suit_cards.specs.Cards.{Cards, ClassLayout}
 use Rattle.suit_game.specs.declared.question.Question.{Question}
 use Rattle.suit_game.specs.declared.moves.Move.{Move}
 use Rattle.suit_game.specs.Fractions.{Fraction, weighted_sum}
@@ -19,8 +19,8 @@ use Rattle.suit_game.specs.Positions.{LegalFrom, after, legal, start_place}
 use Rattle.suit_game.specs.Strategies.{counted}
 use Rattle.suit_game.proofs.EachElement.{each_in, each_map, kept_parts}
 use Rattle.suit_game.proofs.LegalPlays.{after_move}
-use Rattle.suit_game.proofs.SeenPlaces.{play_more, play_none}
-use Rattle.suit_game.proofs.WeightedMeans.{weighted_sum-den}
+use Rattle.suit_game.proofs.PlaceSeenAfterAMove.{play_more, play_none}
+use Rattle.suit_game.proofs.MeansLieBetween.{weighted_sum-den}
 use Rattle.suit_classes.specs.Classes.{hands_of}
 use Rattle.suit_classes.specs.ClassGame.{counts_of}
 use Rattle.suit_classes.specs.ClassMoves.{merge, merged}
@@ -29,7 +29,7 @@ use Rattle.suit_plans.specs.Masses.{defence_mass, defenders}
 use Rattle.suit_plans.specs.Properness.{IsProperDefence}
 use Rattle.suit_plans.proofs.MassSteps.{mass_kept}
 use Rattle.suit_plans.proofs.ProperDefences.{proper_defence}
-use Rattle.suit_classes.proofs.AllowedHistories.{merged-push}
+use Rattle.suit_classes.proofs.AllowedMoveByMove.{merged-push}
 use Rattle.suit_lift.specs.Lifts.{defence_way}
 use Rattle.suit_lift.specs.Naming.{LayoutShare, LayoutsNamed, NamingLaw, StaysUndecided, held, is_legal, layouts_naming}
 use Rattle.suit_lift.specs.Naming.{product_from, shares_made, unplayed, unplayed_product}
@@ -286,7 +286,7 @@ module _ (question : Question) (defence : Defence) (west : Cards) (history : His
       → layouts_naming question other history ≡ layouts_naming question west history
   unfolding layouts_naming
   same_naming other same =
-      ap (λ (counts : Counts). filter (λ it. bytes_eq (counts_of (hands_of question) it) counts
+      ap (λ (counts : ClassLayout). filter (λ it. bytes_eq (counts_of (hands_of question) it) counts
       && is_legal question history it) (layouts question)) same
 
   naming : (0 < (weighted_sum (map (λ other. (
@@ -314,7 +314,7 @@ module _ (question : Question) (defence : Defence) (west : Cards) (history : His
       let share = (layout_share question defence other history proper named.0 stays).1 in
       ap (λ (l : List Cards). weight_at other * (value other).num * (counted defence.den
       * unplayed_product question history * length l)) (sym (same_naming other named.1))
-      ∙ share ∙ ap (λ (counts : Counts). counted (defence_mass question defence counts (merged
+      ∙ share ∙ ap (λ (counts : ClassLayout). counted (defence_mass question defence counts (merged
       (hands_of question) history)) * (value other).den) named.1 in
       let dens : AllByRecursion (λ item. 0 < item.1.den) (map (λ other. (weight_at other, value other)) those) =
       each_map (λ item. 0 < item.1.den) (λ other. (weight_at other, value other)) those

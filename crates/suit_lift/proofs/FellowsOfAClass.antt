@@ -23,7 +23,7 @@ use Rattle.suit_classes.specs.Classes.{Hands, hands_of, class_of}
 use Rattle.suit_classes.specs.ClassGame.{cards_in, each_once}
 use Rattle.suit_classes.specs.ClassMoves.{merge, merged, same_class_move}
 use Rattle.suit_classes.specs.ClassGame.{counts_of}
-use Rattle.suit_classes.proofs.AllowedHistories.{Contains-each_once, each_once-Contains}
+use Rattle.suit_classes.proofs.AllowedMoveByMove.{Contains-each_once, each_once-Contains}
 use Rattle.suit_classes.proofs.DistinctMoves.{once_each_once}
 use Rattle.suit_game.proofs.DistinctElements.{IsOnce}
 use Rattle.suit_classes.proofs.MovesOnce.{filter_of_map}

@@ -1,6 +1,6 @@
 -- plans_are_lists, defences_are_lists: the rows that name the weights of a lift at each turn are a full list with its
 -- pays.
-pub mod AgreedPays
+pub mod WaysThatAgreePayTheSame
 pub mod LegalHistories
 pub mod OnceEach
 pub mod RowNumbers
@@ -32,7 +32,7 @@ use Rattle.suit_plans.specs.declared.defence.Defence.{Defence}
 use Rattle.suit_lift.specs.FullLists.{DefencesAreLists, IsFull, IsFullDefence, IsToMove, NamesMoves, PlansAreLists}
 use Rattle.suit_lift.specs.Lifts.{defence_way, plan_way}
 use Rattle.suit_lift.proofs.LegalMoves.{declarers_legal}
-use Rattle.suit_lift.proofs.FullLists.AgreedPays.{acting, agreed_pay}
+use Rattle.suit_lift.proofs.FullLists.WaysThatAgreePayTheSame.{acting, agreed_pay}
 use Rattle.suit_lift.proofs.FullLists.LegalHistories.{all_legal, each_legal, legal_histories}
 use Rattle.suit_lift.proofs.FullLists.OnceEach.{each_first, each_first_all, each_first_has, each_first_once}
 use Rattle.suit_lift.proofs.FullLists.RowNumbers.{DefenceKey, decides_same_key, decides_same_play, defence_row_for}

@@ -7,7 +7,7 @@ use Rattle.std.proofs.lemmas.Bool.{cases_eq, eq-eqb, ne_eqb}
 use Rattle.std.proofs.lemmas.List.Sums.{sum_by-cons}
 use Rattle.suit_cards.specs.Cards.{Cards}
 use Rattle.suit_cards.specs.Holdings.{holds}
-use Rattle.suit_cards.proofs.HeldSuits.{holds-filter}
+use Rattle.suit_cards.proofs.HoldingIsWhatItHolds.{holds-filter}
 use Rattle.suit_game.specs.Positions.{without}
 use Rattle.suit_game.proofs.EachElement.{each_gives, each_in}
 use Rattle.suit_game.proofs.ListSums.{sum_by_alike, sum_by_both, sum_by_none}

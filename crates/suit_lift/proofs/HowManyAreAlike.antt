@@ -11,24 +11,24 @@ use Rattle.suit_cards.specs.Cards.{Cards}
 use Rattle.suit_cards.specs.declared.seats.Seat.{Seat}
 use Rattle.suit_cards.specs.declared.seats.Seat.TheVariants.{N, E, S, W}
 use Rattle.suit_cards.specs.Holdings.{FallsBelow, IsHolding, holds}
-use Rattle.suit_cards.proofs.HeldSuits.{IsHolding-filter, IsHolding-others_of, same_holding}
+use Rattle.suit_cards.proofs.HoldingIsWhatItHolds.{IsHolding-filter, IsHolding-others_of, same_holding}
 use Rattle.suit_game.specs.declared.question.Question.{Question}
 use Rattle.suit_game.specs.Gains.{is_declarer}
 use Rattle.suit_game.specs.Layouts.{choices_of, is_west_length, layouts}
 use Rattle.suit_game.specs.Positions.{dealt, without}
 use Rattle.suit_game.specs.Question.{missing}
 use Rattle.suit_game.proofs.EachElement.{each_at, each_in, map_same, kept_parts}
-use Rattle.suit_game.proofs.HeldCards.{each_held, holds-from_without, holds-without, without_away}
+use Rattle.suit_game.proofs.WhatAHandHolds.{each_held, holds-from_without, holds-without, without_away}
 use Rattle.suit_game.proofs.LayoutCards.{IsPart, choices_of-parts}
 use Rattle.suit_game.proofs.ListSums.{length_filter, sum_by_alike, sum_by_filter}
 use Rattle.suit_classes.specs.Classes.{Hands, hands_of, class_of, defence_classes}
 use Rattle.suit_classes.specs.ClassGame.{cards_in, counts_of}
-use Rattle.suit_classes.proofs.DealtClasses.{IsDealt, IsHolding-without, cards_in-played}
+use Rattle.suit_classes.proofs.OneSideHoldsAClass.{IsDealt, IsHolding-without, cards_in-played}
 use Rattle.suit_layouts.specs.ClassLayouts.{ways_of}
 use Rattle.suit_lift.proofs.HowManyChoices.{counted_choices, east_step, map_at, told_alike, west_step}
 use Rattle.suit_lift.proofs.ChoicesAmongTheRest.{free_choices, worth_at}
 use Rattle.suit_classes.proofs.CardsByClass.{missing_class, once_defence}
-use Rattle.suit_game.proofs.HeldCards.{holds-left}
+use Rattle.suit_game.proofs.WhatAHandHolds.{holds-left}
 use Rattle.suit_lift.proofs.GoneAndLeft.{cards_in-same, cards_in-other, gone_of, group_sum, holds-gone_of}
 use Rattle.suit_lift.proofs.GoneAndLeft.{parts_by_class}
 

@@ -7,7 +7,7 @@ use Rattle.std.proofs.lemmas.Bool.{and_from, false_from_ne_true, le-leb}
 use Rattle.std.proofs.lemmas.List.Elements.{Contains-append_left, Contains-append_right}
 use Rattle.suit_cards.specs.Cards.{Cards}
 use Rattle.suit_cards.specs.Holdings.{IsHolding, holds}
-use Rattle.suit_cards.proofs.HeldSuits.{IsHolding-filter, IsHolding-others_of, holds-filter, same_holding}
+use Rattle.suit_cards.proofs.HoldingIsWhatItHolds.{IsHolding-filter, IsHolding-others_of, holds-filter, same_holding}
 use Rattle.suit_game.specs.declared.question.Question.{Question}
 use Rattle.suit_game.specs.Layouts.{choices_of, is_west_length, layouts}
 use Rattle.suit_game.specs.Question.{missing}

@@ -8,10 +8,10 @@ use Rattle.std.proofs.lemmas.Bool.{or_left, or_right}
 use Rattle.std.proofs.lemmas.List.Elements.{Contains-append_cases, Contains-append_left, Contains-append_right}
 use Rattle.std.proofs.lemmas.List.Elements.{filter_agree}
 use Rattle.std.proofs.lemmas.Slice.Eq.{bytes_eq-Decides}
-use Rattle.suit_cards.specs.Cards.{Cards, Counts}
+use Rattle.suit_cards.specs.Cards.{Cards, ClassLayout}
 use Rattle.suit_cards.specs.declared.seats.Seat.TheVariants.{N, S}
 use Rattle.suit_cards.specs.Holdings.{holds}
-use Rattle.suit_cards.proofs.HeldRanks.{holds_tells}
+use Rattle.suit_cards.proofs.WhetherARankIsHeld.{holds_tells}
 use Rattle.suit_game.specs.declared.question.Question.{Question}
 use Rattle.suit_game.specs.declared.moves.Move.{Move}
 use Rattle.suit_game.specs.Gains.{is_declarer_turn}
@@ -27,7 +27,7 @@ use Rattle.suit_game.proofs.LayoutCards.{layouts_are_deals}
 use Rattle.suit_game.proofs.LegalPlays.{after_move}
 use Rattle.suit_classes.specs.declared.class_moves.ClassMove.{ClassMove}
 use Rattle.suit_classes.specs.declared.class_moves.ClassMove.TheVariants.{Lead, Follow, ShowOut}
-use Rattle.suit_classes.specs.AllowedHistories.{allows, every_move}
+use Rattle.suit_classes.specs.WhatIsAllowed.{allows, every_move}
 use Rattle.suit_classes.specs.Classes.{hands_of, sizes_of}
 use Rattle.suit_classes.specs.ClassGame.{counts_of}
 use Rattle.suit_classes.specs.ClassMoves.{merged}
@@ -36,12 +36,12 @@ use Rattle.suit_classes.specs.declared.class_trick.ClassTrick.{ClassTrick}
 use Rattle.suit_classes.specs.declared.class_trick.ClassTrick.TheVariants.{Closed, Open}
 use Rattle.suit_classes.specs.ClassPlaces.{class_moves_in, class_numbers, classes_left, counted_classes, left, may_lead}
 use Rattle.suit_classes.specs.ClassPlaces.{or_show_out}
-use Rattle.suit_classes.proofs.AllowedHistories.{layouts_allow_none}
-use Rattle.suit_classes.proofs.AllowedLayouts.{allows_tells, counts_alike}
+use Rattle.suit_classes.proofs.AllowedMoveByMove.{layouts_allow_none}
+use Rattle.suit_classes.proofs.CountsAllowAsTold.{allows_tells, counts_alike}
 use Rattle.suit_classes.proofs.DefenceSizes.{sum-defence_sizes}
 use Rattle.suit_layouts.specs.ClassLayouts.{class_layouts, class_weight}
 use Rattle.suit_layouts.proofs.CountsOfALayout.{layouts_listed}
-use Rattle.suit_layouts.proofs.ListedCounts.{class_layouts_exact}
+use Rattle.suit_layouts.proofs.WhatHasWeightIsListed.{class_layouts_exact}
 use Rattle.suit_plans.specs.Properness.{some_allows}
 use Rattle.suit_lift.specs.Naming.{is_legal, is_one_of}
 use Rattle.suit_lift.proofs.HowManyAreAlike.{alike_layouts, is_alike}
@@ -254,7 +254,7 @@ counts_listed question west history live =
     let holding = (layouts_are_deals question west live.play.valid.north live.play.valid.south live.play.valid.apart
     live.play.layout).1 in
     let some : 0 < class_weight question sizes (counts_of (hands_of question) west) =
-    subst (λ (counts : Counts). 0 < class_weight question sizes counts) (counts_alike question west holding)
+    subst (λ (counts : ClassLayout). 0 < class_weight question sizes counts) (counts_alike question west holding)
     (layouts_listed question sizes west live.play.layout live.weighs) in
     (class_layouts_exact question sizes (counts_of (hands_of question) west) (class_weight question sizes (counts_of
     (hands_of question) west)) (sum-defence_sizes (hands_of question))).1 (refl, some)
@@ -296,7 +296,7 @@ numbered kind test move found =
     (kept_parts test class_numbers from.0 from.1).0)
 
 -- each class move at a position is one of all
-pub every_has : (view : ClassView) (counts : Counts) (trick : ClassTrick) (move : ClassMove)
+pub every_has : (view : ClassView) (counts : ClassLayout) (trick : ClassTrick) (move : ClassMove)
     → Contains (class_moves_in view counts trick) move → Contains every_move move
 unfolding every_move
 every_has view counts Closed move found =

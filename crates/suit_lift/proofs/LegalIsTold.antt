@@ -17,8 +17,8 @@ use Rattle.suit_game.proofs.SameCardMoves.{same_card_move-itself, same_card_move
 use Rattle.suit_game.proofs.LayoutCards.{layouts_are_deals}
 use Rattle.suit_classes.specs.Classes.{hands_of}
 use Rattle.suit_classes.specs.ClassGame.{counts_of}
-use Rattle.suit_classes.proofs.DealtClasses.{IsDealt}
-use Rattle.suit_classes.proofs.MergedPlaces.{play_dealt}
+use Rattle.suit_classes.proofs.OneSideHoldsAClass.{IsDealt}
+use Rattle.suit_classes.proofs.ClassPlaceFollowsPlay.{play_dealt}
 use Rattle.suit_lift.specs.Naming.{is_legal, is_legal_from, is_one_of}
 use Rattle.suit_lift.proofs.HowManyAreAlike.{equal_lengths}
 use Rattle.suit_lift.proofs.GoneAndLeft.{gone_of}

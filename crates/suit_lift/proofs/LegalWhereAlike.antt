@@ -9,8 +9,8 @@ use Rattle.suit_cards.specs.Cards.{Cards}
 use Rattle.suit_cards.specs.declared.seats.Seat.{Seat}
 use Rattle.suit_cards.specs.declared.seats.Seat.TheVariants.{N, E, S, W}
 use Rattle.suit_cards.specs.Holdings.{IsHolding, holds}
-use Rattle.suit_cards.proofs.HeldRanks.{holds_tells}
-use Rattle.suit_cards.proofs.HeldSuits.{IsHolding-filter, IsHolding-others_of, same_holding}
+use Rattle.suit_cards.proofs.WhetherARankIsHeld.{holds_tells}
+use Rattle.suit_cards.proofs.HoldingIsWhatItHolds.{IsHolding-filter, IsHolding-others_of, same_holding}
 use Rattle.suit_game.specs.declared.question.Question.{Question}
 use Rattle.suit_game.specs.declared.moves.Move.{Move}
 use Rattle.suit_game.specs.declared.moves.Move.TheVariants.{Lead, Follow, ShowOut}
@@ -20,10 +20,10 @@ use Rattle.suit_game.specs.Positions.{start_place, step, step_in, without}
 use Rattle.suit_game.specs.Histories.{History}
 use Rattle.suit_game.specs.Question.{missing}
 use Rattle.suit_game.proofs.EachElement.{Contains-first, Contains-map}
-use Rattle.suit_game.proofs.HeldCards.{holds-first, holds-from_without, holds-without}
+use Rattle.suit_game.proofs.WhatAHandHolds.{holds-first, holds-from_without, holds-without}
 use Rattle.suit_game.proofs.LegalPlays.{follow_or_show}
-use Rattle.suit_classes.proofs.DealtClasses.{IsDealt, IsHolding-dealt}
-use Rattle.suit_game.proofs.HeldCards.{holds-left, length-left_and_gone}
+use Rattle.suit_classes.proofs.OneSideHoldsAClass.{IsDealt, IsHolding-dealt}
+use Rattle.suit_game.proofs.WhatAHandHolds.{holds-left, length-left_and_gone}
 use Rattle.suit_lift.proofs.GoneAndLeft.{gone_of, holds-gone_of}
 use Rattle.suit_lift.proofs.LegalMoves.{declarers_legal_in}
 use Rattle.suit_lift.proofs.WhatAMoveTakes.{MoveKind, OwnCard, OwnOut, TheirCard, TheirOut, move_kind}

@@ -16,21 +16,21 @@ use Rattle.suit_game.specs.Lengths.{room}
 use Rattle.suit_game.specs.PlaceViews.{IsPlay}
 use Rattle.suit_game.specs.Positions.{after, legal, payoff}
 use Rattle.suit_game.specs.Strategies.{DefenceWay, Weighed, chosen, counted}
-use Rattle.suit_game.proofs.ChosenMoves.{chosen_each}
+use Rattle.suit_game.proofs.ChosenIsLegal.{chosen_each}
 use Rattle.suit_game.proofs.EachElement.{Contains-map, each_in, each_map}
 use Rattle.suit_game.proofs.EnoughMoves.{ended_with_no_room, pay_where_on, room_after_move}
 use Rattle.suit_game.proofs.DistinctLegalMoves.{legal_once}
 use Rattle.suit_game.proofs.ListSums.{sum_by-mul, sum_by_same}
 use Rattle.suit_game.proofs.PayDenominators.{pay-den}
-use Rattle.suit_game.proofs.SeenPlaces.{play_more}
-use Rattle.suit_game.proofs.WeightedMeans.{mean-least}
+use Rattle.suit_game.proofs.PlaceSeenAfterAMove.{play_more}
+use Rattle.suit_game.proofs.MeansLieBetween.{mean-least}
 use Rattle.suit_classes.specs.declared.class_moves.ClassMove.{ClassMove}
 use Rattle.suit_classes.specs.Classes.{Hands, hands_of}
 use Rattle.suit_classes.specs.ClassGame.{counts_of, each_once, is_decided, merged_moves}
 use Rattle.suit_classes.specs.ClassMoves.{merge, merged}
 use Rattle.suit_classes.specs.ClassPlaces.{class_after, class_decided, class_moves, class_payoff, class_turn}
-use Rattle.suit_classes.proofs.AgreedPlaces.{class_game_agrees}
-use Rattle.suit_classes.proofs.AllowedHistories.{each_once-Contains, merged-push}
+use Rattle.suit_classes.proofs.ClassGameAgrees.{class_game_agrees}
+use Rattle.suit_classes.proofs.AllowedMoveByMove.{each_once-Contains, merged-push}
 use Rattle.suit_plans.specs.BestReplies.{Reply, best_of, reply_to_plan, worth}
 use Rattle.suit_plans.specs.declared.plan.Plan.{Plan}
 use Rattle.suit_plans.specs.Masses.{declarer, is_declarers, plan_shares_at, plan_mass}
@@ -38,7 +38,7 @@ use Rattle.suit_plans.specs.Properness.{IsProperPlan, sum_of}
 use Rattle.suit_plans.proofs.MassSteps.{mass_kept}
 use Rattle.suit_plans.proofs.ProperPlans.{plans_are_realised}
 use Rattle.suit_plans.proofs.TurnMoves.{declarers_moves}
-use Rattle.suit_classes.proofs.UndecidedMoves.{HasFirst}
+use Rattle.suit_classes.proofs.UndecidedHasAMove.{HasFirst}
 use Rattle.suit_lift.specs.Lifts.{RowCounts, class_share, common, is_lowest, plan_share, plan_way}
 use Rattle.suit_lift.proofs.PayOfADecidedPlay.{decided_pay}
 use Rattle.suit_lift.proofs.LegalMoves.{declarers_legal}

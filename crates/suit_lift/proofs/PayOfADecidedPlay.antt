@@ -10,11 +10,11 @@ use Rattle.suit_game.specs.Histories.{History}
 use Rattle.suit_game.specs.Positions.{LegalFrom, Position, after, legal_at, payoff, step}
 use Rattle.suit_game.specs.PlaceViews.{IsPlay}
 use Rattle.suit_game.specs.Strategies.{DefenceWay, Way}
-use Rattle.suit_game.proofs.KeptPays.{pay_within-kept}
-use Rattle.suit_game.proofs.WeightedMeans.{mean-least, mean-most}
+use Rattle.suit_game.proofs.PaysKeepWhatMovesKeep.{pay_within-kept}
+use Rattle.suit_game.proofs.MeansLieBetween.{mean-least, mean-most}
 use Rattle.std.proofs.lemmas.List.Sums.{fold_push}
 use Rattle.suit_classes.specs.ClassGame.{is_decided}
-use Rattle.suit_classes.proofs.DecidedPlays.{decided_stays}
+use Rattle.suit_classes.proofs.DecidedStaysDecided.{decided_stays}
 
 -- a position that legal play comes to from another
 record IsFrom (question : Question) (west : Cards) (start place : Position) : Type 0 where

@@ -7,7 +7,7 @@ use Rattle.std.proofs.Math.Nat.{mul-le-mul_left, mul-pos}
 use Rattle.std.proofs.lemmas.Int.{ints}
 use Rattle.std.proofs.lemmas.List.Sums.{sum_by-cons}
 use Rattle.suit_num.proofs.IntegerLaws.{mul_not_negative, int_le-true}
-use Rattle.suit_cards.specs.Cards.{Cards, Counts}
+use Rattle.suit_cards.specs.Cards.{Cards, ClassLayout}
 use Rattle.suit_game.specs.declared.question.Question.{Question}
 use Rattle.suit_game.specs.Blocks.{counts_of as block_counts}
 use Rattle.suit_game.specs.Fractions.{Fraction, IsAtLeast, weighted_sum}
@@ -19,10 +19,10 @@ use Rattle.suit_game.proofs.EachElement.{each_in, each_of}
 use Rattle.suit_game.proofs.LayoutCards.{layouts_are_deals}
 use Rattle.suit_game.proofs.ListSums.{sum_by_alike, sum_by_same}
 use Rattle.suit_game.proofs.PayDenominators.{gain-den, total_weight-gain}
-use Rattle.suit_game.proofs.SeenPlaces.{play_none}
+use Rattle.suit_game.proofs.PlaceSeenAfterAMove.{play_none}
 use Rattle.suit_classes.specs.Classes.{hands_of, sizes_of}
 use Rattle.suit_classes.specs.ClassGame.{counts_of}
-use Rattle.suit_classes.proofs.AllowedLayouts.{counts_alike}
+use Rattle.suit_classes.proofs.CountsAllowAsTold.{counts_alike}
 use Rattle.suit_classes.proofs.DefenceSizes.{sum-defence_sizes}
 use Rattle.suit_layouts.specs.ClassLayouts.{class_layouts}
 use Rattle.suit_layouts.proofs.ClassWeights.{layouts_grouped}
@@ -56,7 +56,7 @@ weighted_least {X} weight_of value bound mass (x ∷ xs) each =
     (weighted_least weight_of value bound mass xs each.1))
 
 -- what depends on West's counts alone is summed over the layouts by class layouts
-pub grouped_by_classes : (question : Question) (worth_of : Counts → ℕ) → IsValid question
+pub grouped_by_classes : (question : Question) (worth_of : ClassLayout → ℕ) → IsValid question
     → sum_by (λ west. weight question (length west) * worth_of (counts_of (hands_of question) west)) (layouts question)
     ≡ sum_by (λ layout. layout.1 * worth_of layout.0) (class_layouts question (sizes_of question))
 grouped_by_classes question worth_of valid =
@@ -65,7 +65,7 @@ grouped_by_classes question worth_of valid =
     (layouts question)
     (each_in (λ west. weight question (length west) * worth_of (counts_of (hands_of question) west)
     ≡ weight question (length west) * worth_of (block_counts question (sizes_of question) west)) (layouts question)
-    (λ west found. ap (λ (counts : Counts). weight question (length west) * worth_of counts)
+    (λ west found. ap (λ (counts : ClassLayout). weight question (length west) * worth_of counts)
     (sym (counts_alike question west (layouts_are_deals question west valid.north valid.south valid.apart found).1))))
     ∙ layouts_grouped worth_of question (sizes_of question) (sum-defence_sizes (hands_of question))
 

@@ -23,9 +23,9 @@ use Rattle.suit_classes.specs.ClassGame.{class_turn_for, counts_of, decided_in, 
 use Rattle.suit_classes.specs.ClassMoves.{merge, merged}
 use Rattle.suit_classes.specs.declared.class_view.ClassView.{ClassView}
 use Rattle.suit_classes.specs.ClassPlaces.{class_after, class_decided, class_moves, class_turn}
-use Rattle.suit_classes.proofs.AgreedPlaces.{class_game_agrees}
+use Rattle.suit_classes.proofs.ClassGameAgrees.{class_game_agrees}
 use Rattle.suit_plans.specs.Masses.{is_declarers, is_defences}
-use Rattle.suit_classes.proofs.UndecidedMoves.{HasFirst}
+use Rattle.suit_classes.proofs.UndecidedHasAMove.{HasFirst}
 
 -- the place of the class game after the class history that a history merges to
 abbrev pub view_after : Question → History → ClassView

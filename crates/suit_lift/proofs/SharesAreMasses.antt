@@ -6,7 +6,7 @@ use Rattle.std.specs.List.{AllByRecursion, list_all, sum_by, filter}
 use Rattle.std.proofs.lemmas.Bool.{and_parts, cases_eq, eq-eqb, eqb-true, false≢true, true≢false}
 use Rattle.std.proofs.lemmas.Int.{ints}
 use Rattle.std.proofs.lemmas.List.Sums.{sum_by-cons}
-use Rattle.suit_cards.specs.Cards.{Cards, Counts}
+use Rattle.suit_cards.specs.Cards.{Cards, ClassLayout}
 use Rattle.suit_game.specs.declared.question.Question.{Question}
 use Rattle.suit_game.specs.declared.moves.Move.{Move}
 use Rattle.suit_game.specs.Histories.{History}
@@ -21,7 +21,7 @@ use Rattle.suit_classes.specs.Classes.{hands_of}
 use Rattle.suit_classes.specs.ClassGame.{Allows, counts_of, each_once, merged_moves}
 use Rattle.suit_classes.specs.ClassMoves.{merge, merged, same_class_move}
 use Rattle.suit_classes.specs.ClassPlaces.{class_moves, class_turn}
-use Rattle.suit_classes.proofs.AllowedHistories.{Contains-each_once, allowed_moves, each_once-Contains}
+use Rattle.suit_classes.proofs.AllowedMoveByMove.{Contains-each_once, allowed_moves, each_once-Contains}
 use Rattle.suit_classes.proofs.DistinctMoves.{once_each_once}
 use Rattle.suit_game.proofs.DistinctElements.{IsOnce}
 use Rattle.suit_classes.proofs.SameMoves.{same_move-itself}
@@ -29,7 +29,7 @@ use Rattle.suit_plans.specs.Masses.{Side, count_of, is_first, mass_of, share}
 use Rattle.suit_plans.specs.PlanLaws.{AreRealised}
 use Rattle.suit_plans.specs.Properness.{sum_of}
 use Rattle.suit_plans.proofs.MassSteps.{mass_shared}
-use Rattle.suit_classes.proofs.UndecidedMoves.{HasFirst}
+use Rattle.suit_classes.proofs.UndecidedHasAMove.{HasFirst}
 use Rattle.suit_lift.specs.Lifts.{RowCounts, class_share, row_count}
 use Rattle.suit_lift.proofs.SumsOverMergedMoves.{other_class}
 use Rattle.suit_lift.proofs.PlayGoesOn.{IsOn, view_after}
@@ -240,7 +240,7 @@ pub side_shares : (question : Question) (side : Side) (west : Cards) (history : 
     (hands_of question) history ++ move ∷ []))
 side_shares question side west history play on realised plays same =
     let line : List ClassMove = merged (hands_of question) history in
-    let counts : Counts = counts_of (hands_of question) west in
+    let counts : ClassLayout = counts_of (hands_of question) west in
     let allowed = play_allows question west history play in
     let next : ClassMove → ℤ = λ move. mass_of question side (line ++ move ∷ []) in
     row_shares (side.shares_at line) (map (merge (hands_of question)) (legal question west history))

@@ -9,7 +9,7 @@ use Rattle.std.proofs.Math.Nat.{mul-le-mul_left, mul-pos}
 use Rattle.std.proofs.lemmas.Bool.{cases_Bool, true≢false}
 use Rattle.std.proofs.lemmas.List.Sums.{sum_by-cons}
 use Rattle.std.proofs.lemmas.Slice.Eq.{bytes_eq-Decides}
-use Rattle.suit_cards.specs.Cards.{Cards, Counts}
+use Rattle.suit_cards.specs.Cards.{Cards, ClassLayout}
 use Rattle.suit_cards.specs.Holdings.{holds}
 use Rattle.suit_game.specs.declared.question.Question.{Question}
 use Rattle.suit_game.specs.declared.moves.Move.{Move}
@@ -23,20 +23,20 @@ use Rattle.suit_game.specs.PlaceViews.{IsPlay}
 use Rattle.suit_game.specs.Positions.{after, legal, payoff}
 use Rattle.suit_game.specs.Strategies.{Way, Weighed, chosen, counted}
 use Rattle.suit_game.specs.Validity.{IsValid}
-use Rattle.suit_game.proofs.ChosenMoves.{chosen_from, chosen-weight}
+use Rattle.suit_game.proofs.ChosenIsLegal.{chosen_from, chosen-weight}
 use Rattle.suit_game.proofs.EachElement.{Contains-filter, Contains-first, Contains-map, each_in, each_of, kept_parts}
 use Rattle.suit_game.proofs.EnoughMoves.{ended_with_no_room, pay_where_on, room_after_move}
 use Rattle.suit_game.proofs.ListSums.{sum_by-mul, sum_by_same}
 use Rattle.suit_game.proofs.PayDenominators.{pay-den}
-use Rattle.suit_game.proofs.SeenPlaces.{play_more}
+use Rattle.suit_game.proofs.PlaceSeenAfterAMove.{play_more}
 use Rattle.suit_classes.specs.declared.class_moves.ClassMove.{ClassMove}
-use Rattle.suit_classes.specs.AllowedHistories.{allows, every_move, is_among}
+use Rattle.suit_classes.specs.WhatIsAllowed.{allows, every_move, is_among}
 use Rattle.suit_classes.specs.Classes.{Hands, hands_of, sizes_of}
 use Rattle.suit_classes.specs.ClassGame.{counts_of, is_decided}
 use Rattle.suit_classes.specs.ClassMoves.{merge, merged}
 use Rattle.suit_classes.specs.ClassPlaces.{class_after, class_decided, class_moves, class_payoff}
-use Rattle.suit_classes.proofs.AgreedPlaces.{class_game_agrees}
-use Rattle.suit_classes.proofs.AllowedHistories.{each_once-Contains, merged-push}
+use Rattle.suit_classes.proofs.ClassGameAgrees.{class_game_agrees}
+use Rattle.suit_classes.proofs.AllowedMoveByMove.{each_once-Contains, merged-push}
 use Rattle.suit_classes.proofs.SameMoves.{among_contained}
 use Rattle.suit_layouts.specs.ClassLayouts.{class_layouts}
 use Rattle.suit_plans.specs.BestReplies.{Reply, allowing_layouts, best_of, reply_to_defence, worth}
@@ -44,7 +44,7 @@ use Rattle.suit_plans.specs.declared.defence.Defence.{Defence}
 use Rattle.suit_plans.specs.Masses.{defence_mass, defenders}
 use Rattle.suit_plans.specs.Properness.{IsProperDefence, some_allows, sum_of as whole_sum}
 use Rattle.suit_plans.proofs.MassSteps.{mass_kept}
-use Rattle.suit_classes.proofs.UndecidedMoves.{HasFirst}
+use Rattle.suit_classes.proofs.UndecidedHasAMove.{HasFirst}
 use Rattle.suit_lift.specs.Lifts.{common, defence_way}
 use Rattle.suit_lift.specs.Naming.{is_one_of, unplayed}
 use Rattle.suit_lift.proofs.HowManyAreAlike.{alike_layouts}
@@ -149,13 +149,13 @@ module _ (question : Question) (declarer : Way) (defence : Defence) (valid : IsV
     line_at = merged (hands_of question) history
 
     -- what a class layout earns, and how many live layouts have its counts
-    abbrev earns : Counts → ℕ
+    abbrev earns : ClassLayout → ℕ
     earns counts = won * counted (defence_mass question defence counts line_at)
 
-    abbrev same_counts : Counts → Cards → Bool
+    abbrev same_counts : ClassLayout → Cards → Bool
     same_counts counts west = bytes_eq (counts_of (hands_of question) west) counts
 
-    abbrev many : Counts → ℕ
+    abbrev many : ClassLayout → ℕ
     many counts = length (filter (same_counts counts) (live_layouts question history))
 
     abbrev one_part : List ℕ × ℕ → Fraction
@@ -166,7 +166,7 @@ module _ (question : Question) (declarer : Way) (defence : Defence) (valid : IsV
         (λ layout. if same_counts layout.0 west then one_part layout else whole 0) (allowing_layouts question line_at))
     paid west found =
         let live = live_is question west history valid found in
-        let counts : Counts = counts_of (hands_of question) west in
+        let counts : ClassLayout = counts_of (hands_of question) west in
         let listed = counts_listed question west history live in
         let layout : List ℕ × ℕ = (counts, _) in
         let mass : ℕ = mass_of_layout west line_at in

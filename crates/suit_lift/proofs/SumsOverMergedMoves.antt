@@ -11,11 +11,11 @@ use Rattle.suit_game.proofs.EachElement.{each_gives}
 use Rattle.suit_game.proofs.ListSums.{sum_by_alike}
 use Rattle.suit_game.proofs.SameCardMoves.{same_card_move-itself}
 use Rattle.suit_classes.specs.declared.class_moves.ClassMove.{ClassMove}
-use Rattle.suit_classes.specs.AllowedHistories.{is_among}
+use Rattle.suit_classes.specs.WhatIsAllowed.{is_among}
 use Rattle.suit_classes.specs.Classes.{Hands}
 use Rattle.suit_classes.specs.ClassGame.{each_once}
 use Rattle.suit_classes.specs.ClassMoves.{merge, same_class_move}
-use Rattle.suit_classes.proofs.AllowedHistories.{Contains-each_once, each_once-Contains}
+use Rattle.suit_classes.proofs.AllowedMoveByMove.{Contains-each_once, each_once-Contains}
 use Rattle.suit_classes.proofs.DistinctMoves.{once_each_once}
 use Rattle.suit_classes.proofs.SameMoves.{among-Contains, among_contained, same_move_is}
 use Rattle.suit_lift.specs.Lifts.{is_lowest}

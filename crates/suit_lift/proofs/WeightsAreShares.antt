@@ -6,7 +6,7 @@ use Rattle.std.proofs.lemmas.Bool.{agree_below_at, eqb-true, true≢false}
 use Rattle.std.proofs.lemmas.List.{length-map}
 use Rattle.suit_cards.specs.Cards.{Cards}
 use Rattle.suit_cards.specs.Holdings.{IsHolding}
-use Rattle.suit_cards.proofs.HeldRanks.{length-IsHolding}
+use Rattle.suit_cards.proofs.WhetherARankIsHeld.{length-IsHolding}
 use Rattle.suit_game.specs.declared.question.Question.{Question}
 use Rattle.suit_game.specs.declared.moves.Move.{Move}
 use Rattle.suit_game.specs.declared.moves.Move.TheVariants.{Follow}
@@ -20,8 +20,8 @@ use Rattle.suit_game.proofs.ListSums.{length_filter-most}
 use Rattle.suit_classes.specs.declared.class_moves.ClassMove.{ClassMove}
 use Rattle.suit_classes.specs.Classes.{Hands, hands_of}
 use Rattle.suit_classes.specs.ClassMoves.{merge, same_class_move}
-use Rattle.suit_classes.proofs.DealtClasses.{IsDealt, IsHolding-dealt, IsHolding-without}
-use Rattle.suit_classes.proofs.MergedPlaces.{play_dealt}
+use Rattle.suit_classes.proofs.OneSideHoldsAClass.{IsDealt, IsHolding-dealt, IsHolding-without}
+use Rattle.suit_classes.proofs.ClassPlaceFollowsPlay.{play_dealt}
 use Rattle.suit_classes.proofs.SameMoves.{same_move-itself}
 use Rattle.suit_lift.specs.LiftLaws.{DefenceWeightsAreShares, PlanWeightsAreShares}
 use Rattle.suit_lift.specs.Lifts.{common, defence_share, defence_way, fellows, plan_share, plan_way}

@@ -6,7 +6,7 @@ use Rattle.suit_cards.specs.Cards.{Cards}
 use Rattle.suit_cards.specs.declared.seats.Seat.{Seat}
 use Rattle.suit_cards.specs.declared.seats.Seat.TheVariants.{N, E, S, W}
 use Rattle.suit_cards.specs.Holdings.{holds}
-use Rattle.suit_cards.proofs.HeldRanks.{holds_tells}
+use Rattle.suit_cards.proofs.WhetherARankIsHeld.{holds_tells}
 use Rattle.suit_game.specs.declared.question.Question.{Question}
 use Rattle.suit_game.specs.declared.moves.Move.{Move}
 use Rattle.suit_game.specs.declared.moves.Move.TheVariants.{Follow, ShowOut}
@@ -14,7 +14,7 @@ use Rattle.suit_game.specs.Gains.{is_declarer, is_declarer_turn}
 use Rattle.suit_game.specs.Positions.{Position, Trick, Closed, Open, dealt, follows_of, hand, legal_in, step_in}
 use Rattle.suit_game.specs.Positions.{without}
 use Rattle.suit_game.specs.Question.{missing}
-use Rattle.suit_game.proofs.HeldCards.{holds-from_without}
+use Rattle.suit_game.proofs.WhatAHandHolds.{holds-from_without}
 use Rattle.suit_game.proofs.LayoutCards.{missing-apart}
 use Rattle.suit_game.proofs.LegalPlays.{follow_or_show, lead_cases}
 use Rattle.suit_game.proofs.TurnsTaken.{gone_followed, gone_passed}

@@ -9,7 +9,7 @@ use Rattle.suit_plans.specs.Properness.{sum_of}
 use Rattle.suit_plans.proofs.PublicMoves.{HasFirst-found}
 use Rattle.suit_plans.proofs.WorthsAtTurns.{HasFirst-map, ended_worth, least_of as least_number, most_of as most_number}
 use Rattle.suit_plans.proofs.WorthsAtTurns.{worth_next}
-use Rattle.suit_classes.proofs.UndecidedMoves.{HasFirst}
+use Rattle.suit_classes.proofs.UndecidedHasAMove.{HasFirst}
 use Rattle.suit_classes.specs.ClassMoves.{ClassHistory}
 
 -- without a move it is worth what is earned

@@ -5,7 +5,7 @@ use Rattle.std.specs.Int.{int_max, int_min}
 use Rattle.std.specs.List.{AllByRecursion}
 use Rattle.std.proofs.lemmas.Int.{clamps, ints}
 use Rattle.suit_num.proofs.IntegerLaws.{mul_not_negative}
-use Rattle.suit_cards.specs.Cards.{Counts}
+use Rattle.suit_cards.specs.Cards.{ClassLayout}
 use Rattle.suit_game.specs.declared.question.Question.{Question}
 use Rattle.suit_game.proofs.EachElement.{each_map, each_of}
 use Rattle.suit_classes.specs.declared.class_moves.ClassMove.{ClassMove}
@@ -71,7 +71,7 @@ plan_mass_positive question plan history proper =
     mass_positive question (declarer plan.den plan.rows) history (plan_sound question plan proper)
 
 -- nor of a proper defence
-pub defence_mass_positive : (question : Question) (defence : Defence) (counts : Counts) (history : ClassHistory)
+pub defence_mass_positive : (question : Question) (defence : Defence) (counts : ClassLayout) (history : ClassHistory)
     → IsProperDefence question defence
     → pos 0 ≤ℤ defence_mass question defence counts history
 unfolding defence_mass
@@ -85,7 +85,7 @@ lesser a b low high = omega (arith, ints, clamps)
 greater : (a b : ℤ) → pos 0 ≤ℤ a → pos 0 ≤ℤ b → pos 0 ≤ℤ int_max a b
 greater a b low high = omega (arith, ints, clamps)
 
-pub worth_positive : (question : Question) (plan : Plan) (counts : Counts) → IsProperPlan question plan
+pub worth_positive : (question : Question) (plan : Plan) (counts : ClassLayout) → IsProperPlan question plan
     → (history : ClassHistory)
     → pos 0 ≤ℤ worth (reply_to_plan question plan counts) history
 worth_positive question plan counts proper =

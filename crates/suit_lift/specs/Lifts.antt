@@ -9,7 +9,7 @@ use Rattle.suit_game.specs.Histories.{History}
 use Rattle.suit_game.specs.Positions.{legal}
 use Rattle.suit_game.specs.Strategies.{Way, DefenceWay, counted, same_move}
 use Rattle.suit_classes.specs.declared.class_moves.ClassMove.{ClassMove}
-use Rattle.suit_classes.specs.AllowedHistories.{is_among}
+use Rattle.suit_classes.specs.WhatIsAllowed.{is_among}
 use Rattle.suit_classes.specs.Classes.{Hands, hands_of}
 use Rattle.suit_classes.specs.ClassGame.{counts_of}
 use Rattle.suit_classes.specs.ClassMoves.{merge, merged, same_class_move}

@@ -1,7 +1,7 @@
 //! Moves and West's cards told by their classes, without memory.
 ghost use Rattle.std.specs.Prelude.{◌≡◌, ◌≤◌, length};
 ghost use Rattle.suit_game.specs.Strategies.{same_move};
-ghost use Rattle.suit_classes.specs.AllowedHistories.{is_among};
+ghost use Rattle.suit_classes.specs.WhatIsAllowed.{is_among};
 ghost use Rattle.suit_classes.specs.ClassGame.{cards_in, counts_of};
 ghost use Rattle.suit_classes.specs.ClassMoves.{merge, merged};
 ghost use Rattle.suit_lift.specs.Lifts.{fellows, is_lowest};

@@ -5,7 +5,7 @@ pub mod CommonDivisors
 pub mod Contents
 pub mod Corners
 pub mod DotProducts
-pub mod EnteringColumns
+pub mod EnteringCostIsNegative
 pub mod WeakDuality
 pub mod FirstTableaus
 pub mod RatioTestByRow

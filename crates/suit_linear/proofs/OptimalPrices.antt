@@ -19,7 +19,7 @@ use Rattle.suit_linear.proofs.SoundTableaus.{IsSound, Solves}
 use Rattle.suit_linear.proofs.DotProducts.{dot_first, dot_zero, dot-agree, dot-neg, joined, joined_front, joined_back}
 use Rattle.suit_linear.proofs.DotProducts.{dot-joined, number_at-drop, unit_at, dot_unit_at}
 use Rattle.suit_linear.proofs.FirstTableaus.{IsPlaced, solves_rows}
-use Rattle.suit_linear.proofs.EnteringColumns.{number_at-drop_two, none_enters}
+use Rattle.suit_linear.proofs.EnteringCostIsNegative.{number_at-drop_two, none_enters}
 use Rattle.suit_linear.proofs.Signs.{times_zero}
 
 -- ---- what is given to the bound, to the columns and to the slack columns

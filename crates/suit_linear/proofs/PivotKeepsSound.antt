@@ -22,7 +22,7 @@ use Rattle.suit_num.proofs.IntegerLaws.{int_lt-true, int_lt-false}
 use Rattle.suit_linear.proofs.ClearingByGcd.{IsCleared, share_positive, kept_is, cleared_is, cleared_zero, cleared_here}
 use Rattle.suit_linear.proofs.ClearingByGcd.{cleared_positive, cleared_bound, cleared_solved, solved_before}
 use Rattle.suit_linear.proofs.DotProducts.{dot_first}
-use Rattle.suit_linear.proofs.EnteringColumns.{entering_is_column}
+use Rattle.suit_linear.proofs.EnteringCostIsNegative.{entering_is_column}
 use Rattle.suit_linear.proofs.SoundRows.{rows_same}
 use Rattle.suit_linear.proofs.Signs.{nothing_taken, positive_low}
 use Rattle.suit_lists.proofs.Elements.{all_from_contains}

@@ -18,7 +18,7 @@ use Rattle.suit_linear.specs.Pivots.{entering, leaving}
 use Rattle.suit_linear.proofs.SoundTableaus.{IsSound}
 use Rattle.suit_linear.proofs.SoundRows.{found_row, cases_option}
 use Rattle.suit_linear.proofs.FirstTableaus.{solved_row}
-use Rattle.suit_linear.proofs.EnteringColumns.{entering_is_column}
+use Rattle.suit_linear.proofs.EnteringCostIsNegative.{entering_is_column}
 use Rattle.suit_linear.proofs.RatioTest.{leaving_none}
 use Rattle.suit_linear.proofs.Corners.{whole, whole_positive, cofactor, cofactor_positive, rest, basic_part, part}
 use Rattle.suit_linear.proofs.Corners.{ray, corner, corner_solves, corner_costs}

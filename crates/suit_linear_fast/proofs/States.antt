@@ -18,7 +18,7 @@ use Rattle.suit_linear.specs.Points.{number_at}
 use Rattle.suit_linear.specs.Tableaus.{TableauRow, Tableau, entry, reduced_cost}
 use Rattle.suit_linear.specs.Pivots.{content, entering, leaving, pivoted, pivoted_row}
 use Rattle.suit_linear.specs.Multiples.{AreMultiples, IsSmall, IsSmallTableau}
-use Rattle.suit_linear.proofs.EnteringColumns.{number_at-drop_two}
+use Rattle.suit_linear.proofs.EnteringCostIsNegative.{number_at-drop_two}
 use Rattle.suit_linear.proofs.Multiples.{negative_same}
 use Rattle.suit_linear.proofs.PrimitiveMultiples.{small_row}
 use Rattle.suit_linear.proofs.RatioTest.{leaving_is_row}

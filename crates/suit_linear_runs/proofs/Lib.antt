@@ -1,1 +1,1 @@
-pub mod FormedRows
+pub mod WellFormedRowByRow

@@ -1,8 +1,8 @@
-pub mod FoundMoves
-pub mod JoinedTexts
-pub mod ListedMoves
+pub mod LookingForMoves
+pub mod OneMoreTextJoined
+pub mod MovesClassByClass
 pub mod LongDivision
-pub mod ToldHistories
-pub mod UnfoldedLines
-pub mod WalkedPlaces
-pub mod WrittenMoves
+pub mod WhichHistoriesAreTold
+pub mod LinesMoveByMove
+pub mod WalkWhereMassGoes
+pub mod MovesCanBeWritten

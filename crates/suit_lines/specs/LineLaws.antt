@@ -1,6 +1,6 @@
 -- Which class histories a plan is told of, and in what order.
 use Rattle.std.specs.Prelude.{◌≡◌, ◌↔◌, ◌<◌, ℕ, true, false, Contains, length, pos, ◌<ℤ◌}
-use Rattle.suit_cards.specs.Cards.{Counts}
+use Rattle.suit_cards.specs.Cards.{ClassLayout}
 use Rattle.suit_game.specs.declared.question.Question.{Question}
 use Rattle.suit_game.specs.Validity.{IsValid}
 use Rattle.suit_classes.specs.Classes.{sizes_of}
@@ -16,7 +16,7 @@ use Rattle.suit_lines.specs.Told.{told_histories}
 
 -- some class layout of positive weight allows a class history
 pub record IsAllowed (question : Question) (history : ClassHistory) : Type 0 where
-  pub layout : Counts × ℕ
+  pub layout : ClassLayout × ℕ
   pub listed : Contains (class_layouts question (sizes_of question)) layout
   pub allows : Allows question layout.0 history
 
@@ -27,7 +27,7 @@ pub record IsToBeTold (question : Question) (plan : Plan) (history : ClassHistor
   pub through : goes_undecided (class_start question) history ≡ true
   pub undecided : class_decided (class_after question history) ≡ false
   pub turn : is_declarers (class_turn (class_after question history)) ≡ true
-  pub choice : (counts : Counts) → 1 < length (class_moves (class_after question history) counts)
+  pub choice : (counts : ClassLayout) → 1 < length (class_moves (class_after question history) counts)
   pub live : pos 0 <ℤ plan_mass question plan history
 
 -- of exactly these a plan is told

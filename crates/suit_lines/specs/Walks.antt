@@ -2,12 +2,12 @@
 use Rattle.std.specs.Prelude.{◌≡◌, ℕ, ◌-◌, ◌<◌, Bool, List, [], ◌∷◌, ◌++◌, length, filter, map, All, ℤ, pos, ◌<ℤ◌}
 use Rattle.std.specs.Prelude.{if◌then◌else◌}
 use Rattle.std.specs.List.{flat_map, list_any}
-use Rattle.suit_cards.specs.Cards.{Counts, Text}
+use Rattle.suit_cards.specs.Cards.{ClassLayout, Text}
 use Rattle.suit_game.specs.declared.question.Question.{Question}
 use Rattle.suit_game.specs.declared.limits.TheConstants.{MOST_MOVES}
 use Rattle.suit_game.specs.Validity.{IsValid}
 use Rattle.suit_classes.specs.declared.class_moves.ClassMove.{ClassMove}
-use Rattle.suit_classes.specs.AllowedHistories.{every_move, is_among}
+use Rattle.suit_classes.specs.WhatIsAllowed.{every_move, is_among}
 use Rattle.suit_classes.specs.Classes.{class_count, hands_of}
 use Rattle.suit_classes.specs.ClassMoves.{ClassHistory}
 use Rattle.suit_classes.specs.ClassPlaces.{ClassView, class_after, class_decided, class_moves}
@@ -21,20 +21,20 @@ use Rattle.suit_lines.specs.Lines.{history_line}
 use Rattle.suit_lines.specs.Told.{is_told}
 
 -- whether some counts of West's have a move at a position
-abbrev pub some_have : ClassView → List Counts → ClassMove → Bool
+abbrev pub some_have : ClassView → List ClassLayout → ClassMove → Bool
 some_have view all move = list_any (λ counts. is_among (class_moves view counts) move) all
 
 -- the moves that some counts of West's have at a position, in their order, and none where it is decided
-unfoldable pub moves_for : ClassView → List Counts → List ClassMove
+unfoldable pub moves_for : ClassView → List ClassLayout → List ClassMove
 moves_for view all = if class_decided view then [] else filter (some_have view all) every_move
 
 -- those of some counts of West's that have a move
-unfoldable pub having : ClassView → List Counts → ClassMove → List Counts
+unfoldable pub having : ClassView → List ClassLayout → ClassMove → List ClassLayout
 having view all move = filter (λ counts. is_among (class_moves view counts) move) all
 
 -- West's counts in the class layouts of positive weight that allow a class history
-unfoldable pub allowing_counts : Question → ClassHistory → List Counts
-allowing_counts question history = map (λ (layout : Counts × ℕ). layout.0) (allowing_layouts question history)
+unfoldable pub allowing_counts : Question → ClassHistory → List ClassLayout
+allowing_counts question history = map (λ (layout : ClassLayout × ℕ). layout.0) (allowing_layouts question history)
 
 -- the lines of a class history and of those that go on from it
 unfoldable pub lines_from : Question → Plan → ClassHistory → Text
@@ -52,7 +52,7 @@ next_lines question plan history share = lines_from question plan (history ++ sh
 
 -- a walk stands at a class history: some counts of West's allow it, and some mass comes to it
 pub record StandsAt (question : Question) (plan : Plan) (history : ClassHistory) (view : ClassView) (mass : ℤ)
-    (counts : List Counts) : Type 0 where
+    (counts : List ClassLayout) : Type 0 where
   pub valid : IsValid question
   pub proper : IsProperPlan question plan
   pub place : view ≡ class_after question history

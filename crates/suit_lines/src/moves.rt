@@ -1,7 +1,7 @@
 //! The moves that class layouts have at a place.
 ghost use Rattle.std.specs.Prelude.{◌≡◌, IfOk, map};
 ghost use Rattle.std.specs.List.{list_any};
-ghost use Rattle.suit_classes.specs.AllowedHistories.{every_move, is_among};
+ghost use Rattle.suit_classes.specs.WhatIsAllowed.{every_move, is_among};
 ghost use Rattle.suit_classes.specs.ClassPlaces.{class_moves};
 ghost use Rattle.suit_lines.specs.Walks.{having, moves_for};
 

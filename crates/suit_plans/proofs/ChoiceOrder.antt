@@ -12,14 +12,14 @@ use Rattle.suit_cards.specs.Cards.{Indices}
 use Rattle.suit_game.specs.declared.question.Question.{Question}
 use Rattle.suit_game.proofs.EachElement.{each_at, each_gives, each_map, each_of}
 use Rattle.suit_classes.specs.declared.class_moves.ClassMove.{ClassMove}
-use Rattle.suit_classes.specs.AllowedHistories.{every_move}
+use Rattle.suit_classes.specs.WhatIsAllowed.{every_move}
 use Rattle.suit_classes.specs.ClassMoves.{ClassHistory, same_class_move}
 use Rattle.suit_classes.specs.MoveOrder.{stands_before}
 use Rattle.suit_classes.specs.Classes.{sizes_of}
 use Rattle.suit_classes.specs.ClassPlaces.{class_after, class_decided, class_moves}
 use Rattle.suit_game.proofs.DistinctElements.{each_flat_map}
-use Rattle.suit_classes.proofs.RisingMoves.{Chained, chained_append, chained_filter, chained_map, chained_pairs}
-use Rattle.suit_classes.proofs.RisingMoves.{class_moves_rise, every_move_rises}
+use Rattle.suit_classes.proofs.ClassMovesRise.{Chained, chained_append, chained_filter, chained_map, chained_pairs}
+use Rattle.suit_classes.proofs.ClassMovesRise.{class_moves_rise, every_move_rises}
 use Rattle.suit_classes.proofs.SameMoves.{same_move-itself}
 use Rattle.suit_layouts.specs.ClassLayouts.{class_layouts}
 use Rattle.suit_plans.specs.declared.plan.Plan.{Plan}

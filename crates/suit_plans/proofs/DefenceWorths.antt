@@ -3,12 +3,12 @@ use Rattle.std.proofs.Common.{◌≡◌, ℕ, zero, suc, ◌-◌, ◌<◌, Bool,
 use Rattle.std.proofs.Common.{sym, ap, ◌∙◌, subst, arith}
 use Rattle.std.specs.Prelude.{Contains, filter, if◌then◌else◌, ℤ, pos, ◌*ℤ◌, ◌≤ℤ◌}
 use Rattle.std.proofs.lemmas.List.{length-append}
-use Rattle.suit_cards.specs.Cards.{Counts}
+use Rattle.suit_cards.specs.Cards.{ClassLayout}
 use Rattle.suit_game.specs.declared.question.Question.{Question}
 use Rattle.suit_game.specs.Validity.{IsValid}
 use Rattle.suit_game.proofs.EachElement.{Contains-first, map_same}
 use Rattle.suit_classes.specs.declared.class_moves.ClassMove.{ClassMove}
-use Rattle.suit_classes.specs.AllowedHistories.{every_move, is_among}
+use Rattle.suit_classes.specs.WhatIsAllowed.{every_move, is_among}
 use Rattle.suit_classes.specs.ClassPlaces.{class_after, class_decided, class_moves, class_payoff, class_turn}
 use Rattle.suit_plans.specs.declared.defence.Defence.{Defence}
 use Rattle.suit_plans.specs.BestReplies.{Reply, allowing_layouts, public_moves, reply_to_defence, worth}
@@ -19,11 +19,11 @@ use Rattle.suit_plans.specs.ReplyLaws.{DefencesArePaid, DefencesAtDecided, Defen
 use Rattle.suit_plans.specs.ReplyLaws.{IsMostOf, IsPaid, NoMassesAreWorthNothing, masses_of, worths_with}
 use Rattle.suit_plans.proofs.MassSteps.{mass_kept}
 use Rattle.suit_plans.proofs.NumberSums.{sum_kept, sum_nothing, sum_times, sums_exchanged}
-use Rattle.suit_plans.proofs.PaidWorths.{none_paid, one_paid, paid_most, product_paid, sum_paid}
+use Rattle.suit_plans.proofs.AtMostThirteenTricks.{none_paid, one_paid, paid_most, product_paid, sum_paid}
 use Rattle.suit_plans.proofs.ProperDefences.{defences_are_realised as defences_realised}
 use Rattle.suit_plans.proofs.PublicMoves.{allowing_parts, going_with, held_moves, layout_weighs, own_allows}
 use Rattle.suit_plans.proofs.PublicMoves.{public_allowed, public_short, some_layout, some_public}
-use Rattle.suit_classes.proofs.UndecidedMoves.{HasFirst}
+use Rattle.suit_classes.proofs.UndecidedHasAMove.{HasFirst}
 use Rattle.suit_plans.proofs.WhoseTurns.{Declarers, Defences, Over, WhoseTurn, own_turn, their_turn, whose_turn}
 use Rattle.suit_plans.proofs.WorthsAtTurns.{HasFirst-map, best_turn, ended_worth, left_after, most_of, summed_turn}
 use Rattle.suit_game.specs.declared.limits.TheConstants.{MOST_MOVES}
@@ -36,7 +36,7 @@ defences_at_decided question defence history decided =
     (ap (λ (b : Bool). if b then []
     else filter (λ move. some_allows question (history ++ move ∷ [])) every_move) decided)
     ∙ sym (sum_times (pos (class_payoff (class_after question history)))
-    (λ (layout : Counts × ℕ). defence_mass question defence layout.0 history)
+    (λ (layout : ClassLayout × ℕ). defence_mass question defence layout.0 history)
     (allowing_layouts question history))
 
 module _ (question : Question) (defence : Defence) (valid : IsValid question) where
@@ -85,19 +85,19 @@ module _ (question : Question) (defence : Defence) (valid : IsValid question)
   to_defence = reply_to_defence question defence
 
   -- the mass in one class layout, and in all that allow a history
-  abbrev mass_at : ClassHistory → Counts × ℕ → ℤ
+  abbrev mass_at : ClassHistory → ClassLayout × ℕ → ℤ
   mass_at history layout = defence_mass question defence layout.0 history
 
   abbrev mass_in_all : ClassHistory → ℤ
   mass_in_all history = sum_of (masses_of question defence history)
 
-  realised : (history : ClassHistory) (layout : Counts × ℕ) → Contains (allowing_layouts question history) layout
+  realised : (history : ClassHistory) (layout : ClassLayout × ℕ) → Contains (allowing_layouts question history) layout
       → AreRealised question (defenders question defence.den defence.rows layout.0) layout.0
   realised history layout held =
       defences_realised question defence layout.0 valid proper
       (layout_weighs question valid layout (allowing_parts question valid history layout held).0)
 
-  pub mass_positive : (history : ClassHistory) (layout : Counts × ℕ)
+  pub mass_positive : (history : ClassHistory) (layout : ClassLayout × ℕ)
       → Contains (allowing_layouts question history) layout → pos 0 ≤ℤ mass_at history layout
   unfolding defence_mass
   mass_positive history layout held =
@@ -107,27 +107,27 @@ module _ (question : Question) (defence : Defence) (valid : IsValid question)
       → IsPaid (mass_in_all history) (to_defence.earned history)
   earned_paid history some =
       let payoff : ℕ = class_payoff (class_after question history) in
-      sum_paid (λ (layout : Counts × ℕ). pos payoff *ℤ mass_at history layout) (mass_at history)
+      sum_paid (λ (layout : ClassLayout × ℕ). pos payoff *ℤ mass_at history layout) (mass_at history)
       (allowing_layouts question history)
       (λ layout held. product_paid payoff (mass_at history layout)
       (paid_most question layout.0 history (allowing_parts question valid history layout held).1)
       (mass_positive history layout held))
 
   -- what goes on with a move, over all class layouts that allow the history before it
-  abbrev part : ClassHistory → ClassMove → Counts × ℕ → ℤ
+  abbrev part : ClassHistory → ClassMove → ClassLayout × ℕ → ℤ
   part history move layout = if is_among (class_moves (class_after question history) layout.0) move
       then mass_at (history ++ move ∷ []) layout else pos 0
 
   goes_on : (history : ClassHistory) (move : ClassMove)
       → mass_in_all (history ++ move ∷ []) ≡ sum_of (map (part history move) (allowing_layouts question history))
   goes_on history move =
-      ap (λ (l : List (Counts × ℕ)). sum_of (map (mass_at (history ++ move ∷ [])) l))
+      ap (λ (l : List (ClassLayout × ℕ)). sum_of (map (mass_at (history ++ move ∷ [])) l))
       (sym (going_with question valid history move))
-      ∙ sum_kept (λ (layout : Counts × ℕ). is_among (class_moves (class_after question history) layout.0) move)
+      ∙ sum_kept (λ (layout : ClassLayout × ℕ). is_among (class_moves (class_after question history) layout.0) move)
       (mass_at (history ++ move ∷ [])) (allowing_layouts question history)
 
   -- at a turn of a defender's the mass of each class layout goes on with its class moves
-  one_shared : (history : ClassHistory) (layout : Counts × ℕ) → Contains (allowing_layouts question history) layout
+  one_shared : (history : ClassHistory) (layout : ClassLayout × ℕ) → Contains (allowing_layouts question history) layout
       → class_decided (class_after question history) ≡ false
       → is_defences (class_turn (class_after question history)) ≡ true
       → sum_of (map (λ move. part history move layout) (public_moves question history)) ≡ mass_at history layout
@@ -145,7 +145,7 @@ module _ (question : Question) (defence : Defence) (valid : IsValid question)
       → sum_of (map (λ move. mass_in_all (history ++ move ∷ [])) (public_moves question history)) ≡ mass_in_all history
   masses_shared history going theirs =
       let moves : List ClassMove = public_moves question history in
-      let layouts : List (Counts × ℕ) = allowing_layouts question history in
+      let layouts : List (ClassLayout × ℕ) = allowing_layouts question history in
       ap sum_of (map_same (λ move. mass_in_all (history ++ move ∷ []))
       (λ move. sum_of (map (part history move) layouts)) moves (λ move found. goes_on history move))
       ∙ sums_exchanged (part history) moves layouts
@@ -159,7 +159,7 @@ module _ (question : Question) (defence : Defence) (valid : IsValid question)
       → mass_in_all (history ++ move ∷ []) ≡ mass_in_all history
   unfolding defence_mass
   masses_kept history move own not_theirs found =
-      ap (λ (l : List (Counts × ℕ)). sum_of (map (mass_at (history ++ move ∷ [])) l))
+      ap (λ (l : List (ClassLayout × ℕ)). sum_of (map (mass_at (history ++ move ∷ [])) l))
       (own_allows question valid history move own found)
       ∙ ap sum_of (map_same (mass_at (history ++ move ∷ [])) (mass_at history) (allowing_layouts question history)
       (λ layout held. mass_kept question (defenders question defence.den defence.rows layout.0) history move
@@ -213,5 +213,5 @@ pub no_masses_no_worth : NoMassesAreWorthNothing
 no_masses_no_worth question defence history valid proper some none =
     none_paid (sum_of (masses_of question defence history)) (worth (reply_to_defence question defence) history)
     (defences_paid question defence history valid proper some)
-    (sum_nothing (λ (layout : Counts × ℕ). defence_mass question defence layout.0 history)
+    (sum_nothing (λ (layout : ClassLayout × ℕ). defence_mass question defence layout.0 history)
     (allowing_layouts question history) none)

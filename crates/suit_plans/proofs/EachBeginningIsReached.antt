@@ -9,7 +9,7 @@ use Rattle.std.specs.Int.Signed.{≤ℤ_refl}
 use Rattle.std.proofs.lemmas.Bool.{and_from, and_parts, cases_Bool, ltb-false}
 use Rattle.std.proofs.lemmas.Int.{ints}
 use Rattle.std.proofs.lemmas.List.{length-append}
-use Rattle.suit_cards.specs.Cards.{Counts}
+use Rattle.suit_cards.specs.Cards.{ClassLayout}
 use Rattle.suit_game.specs.declared.question.Question.{Question}
 use Rattle.suit_game.proofs.EachElement.{Contains-filter, Contains-first, Contains-flat_map, Contains-later}
 use Rattle.suit_game.proofs.EachElement.{Contains-nil, Contains-cons_cases}
@@ -17,8 +17,8 @@ use Rattle.suit_classes.specs.declared.class_moves.ClassMove.{ClassMove}
 use Rattle.suit_classes.specs.ClassGame.{Allows}
 use Rattle.suit_classes.specs.ClassMoves.{ClassHistory, same_class_move}
 use Rattle.suit_classes.specs.ClassPlaces.{class_after}
-use Rattle.suit_classes.proofs.AllowedHistories.{allowed_moves}
-use Rattle.suit_classes.proofs.DecidedPlays.{class_histories_are_short}
+use Rattle.suit_classes.proofs.AllowedMoveByMove.{allowed_moves}
+use Rattle.suit_classes.proofs.DecidedStaysDecided.{class_histories_are_short}
 use Rattle.suit_classes.proofs.SameMoves.{same_move_is}
 use Rattle.suit_plans.specs.BestReplies.{Reply, allowing_layouts, choices, follows, has_choice, histories_within}
 use Rattle.suit_plans.specs.BestReplies.{is_reached, least_reply, most_reply, reply_move, reply_to_defence}
@@ -40,7 +40,7 @@ use Rattle.suit_game.specs.declared.limits.TheConstants.{MOST_MOVES}
 
 -- ---- mass
 
-module _ (question : Question) (side : Side) (counts : Counts) (realised : AreRealised question side counts) where
+module _ (question : Question) (side : Side) (counts : ClassLayout) (realised : AreRealised question side counts) where
   -- each beginning of a class history is allowed where the history is, and no less mass comes to it
   mass_before : (rest start : ClassHistory) → Allows question counts (start ++ rest)
       → Allows question counts start × (mass_of question side (start ++ rest) ≤ℤ mass_of question side start)
@@ -193,14 +193,14 @@ lt-int z some = grind (arith, ints)
 pub least_reached : LeastRepliesAreReached
 unfolding plan_mass
 least_reached question plan entry start rest valid proper found parts =
-    let counts : Counts = counts_at question entry.layout in
+    let counts : ClassLayout = counts_at question entry.layout in
     let choice = (least_choices question plan entry valid found).1 in
     (live_before question (declarer plan.den plan.rows) counts (plans_are_realised question plan counts valid proper)
     entry.history start rest parts choice.allowed choice.live).1
 
 pub least_followed : LeastRepliesAreFollowed
 least_followed question plan entry start move rest valid proper found parts theirs =
-    let counts : Counts = counts_at question entry.layout in
+    let counts : ClassLayout = counts_at question entry.layout in
     let reply : Reply = reply_to_plan question plan counts in
     let listed = least_entry question plan entry found in
     let choice = (least_choices question plan entry valid found).1 in
@@ -222,7 +222,7 @@ unfolding defence_mass
 most_reached question defence entry start rest valid proper found parts =
     let some = (most_choices question defence entry valid found).live in
     let held = allowing_parts question valid entry.history some.0 some.1 in
-    let counts : Counts = some.0.0 in
+    let counts : ClassLayout = some.0.0 in
     let before = live_before question (defenders question defence.den defence.rows counts) counts
     (defences_are_realised question defence counts valid proper (layout_weighs question valid some.0 held.0))
     entry.history start rest parts held.1 some.2 in
@@ -237,7 +237,7 @@ most_followed question defence entry start move rest valid proper found parts ow
     let live = most_reached question defence entry start (move ∷ rest) valid proper found parts in
     elim (chosen_before reply start move rest entry.history parts listed.0
     (class_histories_are_short question some.0.0 entry.history held.1)
-    (passing_some (λ (layout : Counts × ℕ). int_lt (pos 0) (defence_mass question defence layout.0 start))
+    (passing_some (λ (layout : ClassLayout × ℕ). int_lt (pos 0) (defence_mass question defence layout.0 start))
     (allowing_layouts question start) live.0 live.1
     (lt-int (defence_mass question defence live.0.0 start) live.2)) own) [
       | inl chosen ↦ inl (subst (λ (other : ClassMove). Contains (most_reply question defence)

@@ -7,7 +7,7 @@ use Rattle.std.specs.Ordering.{int_eq}
 use Rattle.std.proofs.lemmas.Bool.Decides.{Decides-int_eq}
 use Rattle.suit_game.specs.declared.question.Question.{Question}
 use Rattle.suit_classes.specs.declared.class_moves.ClassMove.{ClassMove}
-use Rattle.suit_classes.specs.AllowedHistories.{is_among}
+use Rattle.suit_classes.specs.WhatIsAllowed.{is_among}
 use Rattle.suit_classes.specs.ClassPlaces.{class_after, class_moves, class_start, class_turn}
 use Rattle.suit_plans.specs.declared.faults.PlanFault.{PlanFault}
 use Rattle.suit_plans.specs.declared.faults.PlanKind.{PlanKind}

@@ -1,6 +1,6 @@
 pub mod CountsAddUp
-pub mod AllowedWalks
-pub mod BoundedReplies
+pub mod AllowedSoFar
+pub mod RepliesAreBounded
 pub mod ChoiceOrder
 pub mod CountOfAMove
 pub mod DefenceWorths
@@ -15,7 +15,7 @@ pub mod MassBounds
 pub mod MassSteps
 pub mod MassFromTheStart
 pub mod NumberSums
-pub mod PaidWorths
+pub mod AtMostThirteenTricks
 pub mod PlanWorths
 pub mod ProperDefences
 pub mod ProperOrders
@@ -26,7 +26,7 @@ pub mod EachBeginningIsReached
 pub mod ReplyChoices
 pub mod RowLimits
 pub mod RowsBeforeTell
-pub mod SharedSums
+pub mod SharesAddUpToTheMass
 pub mod TurnMoves
 pub mod FirstFaultOfRows
 pub mod WhoseTurns

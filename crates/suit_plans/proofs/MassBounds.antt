@@ -3,19 +3,19 @@ use Rattle.std.proofs.Common.{List, [], ◌∷◌, ◌++◌, sym, subst, inl, in
 use Rattle.std.specs.Prelude.{ℤ, ◌≤ℤ◌, Contains}
 use Rattle.std.specs.Int.Signed.{≤ℤ_refl}
 use Rattle.std.proofs.lemmas.Bool.{cases_Bool}
-use Rattle.suit_cards.specs.Cards.{Counts}
+use Rattle.suit_cards.specs.Cards.{ClassLayout}
 use Rattle.suit_game.specs.declared.question.Question.{Question}
 use Rattle.suit_classes.specs.declared.class_moves.ClassMove.{ClassMove}
 use Rattle.suit_classes.specs.ClassGame.{Allows}
 use Rattle.suit_classes.specs.ClassPlaces.{class_after, class_moves, class_turn}
-use Rattle.suit_classes.proofs.AllowedHistories.{allowed_moves}
+use Rattle.suit_classes.proofs.AllowedMoveByMove.{allowed_moves}
 use Rattle.suit_plans.specs.Masses.{Side, mass_of}
 use Rattle.suit_plans.specs.PlanLaws.{AreRealised}
-use Rattle.suit_plans.proofs.SharedSums.{within_sum}
+use Rattle.suit_plans.proofs.SharesAddUpToTheMass.{within_sum}
 use Rattle.suit_classes.specs.ClassMoves.{ClassHistory}
 
 -- a legal move goes on with no more than what came to its turn
-pub mass_falls : (question : Question) (side : Side) (counts : Counts) (history : ClassHistory) (move : ClassMove)
+pub mass_falls : (question : Question) (side : Side) (counts : ClassLayout) (history : ClassHistory) (move : ClassMove)
     → AreRealised question side counts → Allows question counts history
     → Contains (class_moves (class_after question history) counts) move
     → mass_of question side (history ++ move ∷ []) ≤ℤ mass_of question side history

@@ -1,7 +1,7 @@
 -- The mass of a class history, from its first moves on.
 use Rattle.std.proofs.Common.{◌≡◌, ℕ, ◌+◌, ◌<◌, ◌≤◌, List, length, get_or, drop, take, ℤ, refl, sym, ap, ◌∙◌}
 use Rattle.std.proofs.lemmas.List.{drop_more, drop_all, take_more}
-use Rattle.suit_cards.specs.Cards.{Counts}
+use Rattle.suit_cards.specs.Cards.{ClassLayout}
 use Rattle.suit_game.specs.declared.question.Question.{Question}
 use Rattle.suit_classes.specs.declared.class_moves.ClassMove.{ClassMove}
 use Rattle.suit_plans.specs.declared.player.PlayerRows.{PlayerRows}
@@ -11,7 +11,7 @@ use Rattle.suit_plans.specs.Players.{side_with}
 use Rattle.suit_classes.specs.ClassMoves.{ClassHistory}
 
 -- a side begins with the mass that it is given
-pub begins_with : (rows : PlayerRows) (counts : Counts) (whole : ℤ) → (side_with rows counts whole).whole ≡ whole
+pub begins_with : (rows : PlayerRows) (counts : ClassLayout) (whole : ℤ) → (side_with rows counts whole).whole ≡ whole
 begins_with (Declarer rows) counts whole = refl
 begins_with (Defence rows) counts whole = refl
 

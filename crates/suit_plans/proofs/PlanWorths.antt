@@ -4,14 +4,14 @@ use Rattle.std.proofs.Common.{sym, ap, ◌∙◌, subst, arith}
 use Rattle.std.specs.Prelude.{Contains, if◌then◌else◌, ℤ}
 use Rattle.std.specs.Int.{int_min}
 use Rattle.std.proofs.lemmas.List.{length-append}
-use Rattle.suit_cards.specs.Cards.{Counts}
+use Rattle.suit_cards.specs.Cards.{ClassLayout}
 use Rattle.suit_game.specs.declared.question.Question.{Question}
 use Rattle.suit_game.proofs.EachElement.{Contains-first}
 use Rattle.suit_classes.specs.declared.class_moves.ClassMove.{ClassMove}
 use Rattle.suit_classes.specs.ClassGame.{Allows}
 use Rattle.suit_classes.specs.ClassPlaces.{class_after, class_decided, class_moves, class_payoff, class_turn}
-use Rattle.suit_classes.proofs.AllowedHistories.{allowed_moves}
-use Rattle.suit_classes.proofs.DecidedPlays.{class_histories_are_short}
+use Rattle.suit_classes.proofs.AllowedMoveByMove.{allowed_moves}
+use Rattle.suit_classes.proofs.DecidedStaysDecided.{class_histories_are_short}
 use Rattle.suit_plans.specs.declared.plan.Plan.{Plan}
 use Rattle.suit_plans.specs.BestReplies.{Reply, best_of, reply_to_plan, worth}
 use Rattle.suit_plans.specs.Masses.{declarer, is_declarers, is_defences, plan_mass}
@@ -19,15 +19,15 @@ use Rattle.suit_plans.specs.PlanLaws.{AreRealised}
 use Rattle.suit_plans.specs.Properness.{sum_of}
 use Rattle.suit_plans.specs.ReplyLaws.{IsLeastOf, IsPaid, NoMassIsWorthNothing, PlansArePaid, PlansAtDecided}
 use Rattle.suit_plans.specs.ReplyLaws.{PlansAtDeclarers, PlansAtDefences, worths_with}
-use Rattle.suit_plans.proofs.PaidWorths.{none_paid, one_paid, paid_most, product_paid, sum_paid}
+use Rattle.suit_plans.proofs.AtMostThirteenTricks.{none_paid, one_paid, paid_most, product_paid, sum_paid}
 use Rattle.suit_plans.proofs.ProperPlans.{plans_are_realised as plans_realised}
-use Rattle.suit_classes.proofs.UndecidedMoves.{HasFirst, some_move}
+use Rattle.suit_classes.proofs.UndecidedHasAMove.{HasFirst, some_move}
 use Rattle.suit_plans.proofs.WhoseTurns.{Declarers, Defences, Over, WhoseTurn, own_turn, their_turn, whose_turn}
 use Rattle.suit_plans.proofs.WorthsAtTurns.{HasFirst-map, best_turn, ended_worth, least_of, left_after, summed_turn}
 use Rattle.suit_game.specs.declared.limits.TheConstants.{MOST_MOVES}
 use Rattle.suit_classes.specs.ClassMoves.{ClassHistory}
 
-module _ (question : Question) (plan : Plan) (counts : Counts) where
+module _ (question : Question) (plan : Plan) (counts : ClassLayout) where
   abbrev reply : Reply
   reply = reply_to_plan question plan counts
 
@@ -91,7 +91,7 @@ pub plans_at_defences : PlansAtDefences
 plans_at_defences question plan counts history allows theirs =
     least question plan counts history allows (their_turn (class_after question history) theirs).0 theirs
 
-module _ (question : Question) (plan : Plan) (counts : Counts)
+module _ (question : Question) (plan : Plan) (counts : ClassLayout)
     (realised : AreRealised question (declarer plan.den plan.rows) counts) where
   abbrev to_plan : Reply
   to_plan = reply_to_plan question plan counts

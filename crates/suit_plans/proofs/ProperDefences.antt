@@ -5,11 +5,11 @@ use Rattle.std.specs.Prelude.{ℤ, pos, ◌^◌, ◌≤ℤ◌, bytes_eq, find, o
 use Rattle.std.proofs.lemmas.Bool.{and_from, and_parts, ltb-true, or_right}
 use Rattle.std.proofs.lemmas.Int.{ints}
 use Rattle.std.proofs.lemmas.Slice.Eq.{bytes_eq-Decides}
-use Rattle.suit_cards.specs.Cards.{Counts}
+use Rattle.suit_cards.specs.Cards.{ClassLayout}
 use Rattle.suit_num.proofs.IntegerLaws.{mul_not_negative, int_le-true}
 use Rattle.suit_game.specs.declared.question.Question.{Question}
 use Rattle.suit_classes.specs.declared.class_moves.ClassMove.{ClassMove}
-use Rattle.suit_classes.specs.AllowedHistories.{allows}
+use Rattle.suit_classes.specs.WhatIsAllowed.{allows}
 use Rattle.suit_classes.specs.ClassMoves.{same_class_move, ClassHistory}
 use Rattle.suit_classes.specs.MoveOrder.{stands_before}
 use Rattle.suit_plans.specs.declared.defence.DefenceRow.{DefenceRow}
@@ -35,7 +35,7 @@ abbrev pub stands_after : DefenceRow → List DefenceRow → Bool
 stands_after row before = last_passes (λ (last : DefenceRow). defence_row_before last row) before
 
 -- whether a row is that for a class layout at a history
-abbrev pub is_row_at : Counts → ClassHistory → DefenceRow → Bool
+abbrev pub is_row_at : ClassLayout → ClassHistory → DefenceRow → Bool
 is_row_at counts history row = bytes_eq row.west counts && same_class_history row.history history
 
 -- no row of a proper defence is at fault, and its denominator is within its bounds
@@ -130,7 +130,7 @@ defence_row_fits question den start row rest fine =
       },
     )
 
-row_shares_at : (question : Question) (den : ℤ) (rows : List DefenceRow) (counts : Counts) (history : ClassHistory)
+row_shares_at : (question : Question) (den : ℤ) (rows : List DefenceRow) (counts : ClassLayout) (history : ClassHistory)
     (row : DefenceRow) → IsFaultless (defence_row_fault question den) [] rows
     → FoundRow (is_row_at counts history) rows row
     → SharesMass question (defenders question den rows row.west) row.history row.counts
@@ -142,7 +142,7 @@ row_shares_at question den rows counts history row fine found =
     (record { legal = fits.legal; rising = fits.rising; positive = fits.positive; adds = fits.adds })
 
 -- the counts of a proper defence at a history share out its mass in the class layout
-pub defence_shares : (question : Question) (defence : Defence) (counts : Counts) (history : ClassHistory)
+pub defence_shares : (question : Question) (defence : Defence) (counts : ClassLayout) (history : ClassHistory)
     (shares : Shares) → IsProperDefence question defence
     → defence_shares_at defence.rows counts history ≡ Some shares
     → SharesMass question (defenders question defence.den defence.rows counts) history shares
@@ -156,7 +156,7 @@ defence_shares question defence counts history shares proper is =
     subst (SharesMass question (defenders question defence.den defence.rows counts) history) some.2
     (subst (λ (h : ClassHistory). SharesMass question (defenders question defence.den defence.rows counts) h
     row.counts) (same_class_history_is row.history history parts.1)
-    (subst (λ (w : Counts). SharesMass question (defenders question defence.den defence.rows w) row.history row.counts)
+    (subst (λ (w : ClassLayout). SharesMass question (defenders question defence.den defence.rows w) row.history row.counts)
     ((bytes_eq-Decides row.west counts).0 parts.0)
     (row_shares_at question defence.den defence.rows counts history row (proper_defence question defence proper).2
     found)))
@@ -165,7 +165,7 @@ number_positive : (number : ℕ) → pos 0 ≤ℤ pos number
 number_positive number = omega (arith, ints)
 
 -- the defenders with the rows of a proper defence are a sound side in each class layout
-pub defence_sound : (question : Question) (defence : Defence) (counts : Counts) → IsProperDefence question defence
+pub defence_sound : (question : Question) (defence : Defence) (counts : ClassLayout) → IsProperDefence question defence
     → IsSound question (defenders question defence.den defence.rows counts)
 defence_sound question defence counts proper =
     let least : pos 1 ≤ℤ defence.den = int_le-true (pos 1) defence.den (proper_defence question defence proper).0 in

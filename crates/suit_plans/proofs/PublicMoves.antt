@@ -8,33 +8,33 @@ use Rattle.std.specs.List.{list_any}
 use Rattle.std.proofs.lemmas.Bool.{false≢true, or_cases, or_left, or_right}
 use Rattle.std.proofs.lemmas.Bool.Decides.{same_from_decides}
 use Rattle.std.proofs.lemmas.List.Elements.{filter_agree}
-use Rattle.suit_cards.specs.Cards.{Counts}
+use Rattle.suit_cards.specs.Cards.{ClassLayout}
 use Rattle.suit_game.specs.declared.question.Question.{Question}
 use Rattle.suit_game.specs.Validity.{IsValid}
 use Rattle.suit_game.proofs.EachElement.{Contains-cons_cases, Contains-filter, Contains-first, Contains-later}
 use Rattle.suit_game.proofs.EachElement.{Contains-nil, kept_parts}
 use Rattle.suit_classes.specs.declared.class_moves.ClassMove.{ClassMove}
-use Rattle.suit_classes.specs.AllowedHistories.{allows, every_move, is_among}
+use Rattle.suit_classes.specs.WhatIsAllowed.{allows, every_move, is_among}
 use Rattle.suit_classes.specs.Classes.{defence_sizes, hands_of, sizes_of}
 use Rattle.suit_classes.specs.ClassGame.{Allows}
 use Rattle.suit_classes.specs.declared.class_view.ClassView.{ClassView}
 use Rattle.suit_classes.specs.ClassPlaces.{class_after, class_decided, class_moves, class_turn}
-use Rattle.suit_classes.proofs.AllowedHistories.{allowed_moves}
-use Rattle.suit_classes.proofs.AllowedLayouts.{allows_tells}
+use Rattle.suit_classes.proofs.AllowedMoveByMove.{allowed_moves}
+use Rattle.suit_classes.proofs.CountsAllowAsTold.{allows_tells}
 use Rattle.suit_classes.proofs.DefenceSizes.{sum-defence_sizes}
-use Rattle.suit_cards.proofs.SuitRuns.{filter-filter}
+use Rattle.suit_lists.proofs.Filters.{filter-filter}
 use Rattle.suit_classes.proofs.SameMoves.{among-Contains, among_contained, among_decides, both_second}
-use Rattle.suit_classes.proofs.ToldHistories.{allows-push}
-use Rattle.suit_layouts.proofs.ListedCounts.{class_layouts_exact}
+use Rattle.suit_classes.proofs.AllowsOneMoveMore.{allows-push}
+use Rattle.suit_layouts.proofs.WhatHasWeightIsListed.{class_layouts_exact}
 use Rattle.suit_layouts.specs.ClassLayouts.{class_layouts}
 use Rattle.suit_plans.specs.BestReplies.{allowing_layouts, public_moves}
 use Rattle.suit_plans.specs.Masses.{is_declarers, weight_of}
 use Rattle.suit_plans.specs.Properness.{some_allows}
-use Rattle.suit_plans.proofs.AllowedWalks.{start_allows}
+use Rattle.suit_plans.proofs.AllowedSoFar.{start_allows}
 use Rattle.suit_classes.proofs.EveryMove.{class_moves_listed}
 use Rattle.suit_plans.proofs.RowLimits.{some_allowed_short}
 use Rattle.suit_plans.proofs.TurnMoves.{declarers_moves}
-use Rattle.suit_classes.proofs.UndecidedMoves.{HasFirst, some_move}
+use Rattle.suit_classes.proofs.UndecidedHasAMove.{HasFirst, some_move}
 use Rattle.suit_game.specs.declared.limits.TheConstants.{MOST_MOVES}
 use Rattle.suit_classes.specs.ClassMoves.{ClassHistory}
 
@@ -68,7 +68,7 @@ and-true false c is = refl
 
 module _ (question : Question) (valid : IsValid question) where
   -- a class layout that is listed has positive weight
-  pub layout_weighs : (layout : Counts × ℕ) → Contains (class_layouts question (sizes_of question)) layout
+  pub layout_weighs : (layout : ClassLayout × ℕ) → Contains (class_layouts question (sizes_of question)) layout
       → 0 < weight_of question layout.0
   layout_weighs layout found =
       let sizes = defence_sizes (hands_of question) in
@@ -77,53 +77,53 @@ module _ (question : Question) (valid : IsValid question) where
       omega (arith, exact.0, exact.1)
 
   -- what it is told to allow it allows, and the other way round
-  pub layout_tells : (layout : Counts × ℕ) (history : ClassHistory)
+  pub layout_tells : (layout : ClassLayout × ℕ) (history : ClassHistory)
       → Contains (class_layouts question (sizes_of question)) layout
       → Decides (allows question layout.0 history) (Allows question layout.0 history)
   layout_tells layout history found =
       allows_tells question layout.0 history (start_allows question layout.0 valid (layout_weighs layout found))
 
   -- a class layout among those that allow a history
-  pub allowing_parts : (history : ClassHistory) (layout : Counts × ℕ)
+  pub allowing_parts : (history : ClassHistory) (layout : ClassLayout × ℕ)
       → Contains (allowing_layouts question history) layout
       → Contains (class_layouts question (sizes_of question)) layout × Allows question layout.0 history
   allowing_parts history layout found =
-      let kept = kept_parts (λ (other : Counts × ℕ). allows question other.0 history)
+      let kept = kept_parts (λ (other : ClassLayout × ℕ). allows question other.0 history)
       (class_layouts question (sizes_of question)) layout found in
       (kept.0, (layout_tells layout history kept.0).0 kept.1)
 
-  pub Contains-allowing : (history : ClassHistory) (layout : Counts × ℕ)
+  pub Contains-allowing : (history : ClassHistory) (layout : ClassLayout × ℕ)
       → Contains (class_layouts question (sizes_of question)) layout
       → Allows question layout.0 history → Contains (allowing_layouts question history) layout
   Contains-allowing history layout found allowed =
-      Contains-filter (λ (other : Counts × ℕ). allows question other.0 history)
+      Contains-filter (λ (other : ClassLayout × ℕ). allows question other.0 history)
       (class_layouts question (sizes_of question)) layout found
       ((layout_tells layout history found).1 allowed)
 
   -- where some class layout is told to allow a history there is one that does
-  pub some_layout : (history : ClassHistory) → some_allows question history ≡ true → (layout : Counts × ℕ)
+  pub some_layout : (history : ClassHistory) → some_allows question history ≡ true → (layout : ClassLayout × ℕ)
       × Contains (allowing_layouts question history) layout
   unfolding some_allows
   some_layout history some =
-      let found = some_passing (λ (other : Counts × ℕ). allows question other.0 history)
+      let found = some_passing (λ (other : ClassLayout × ℕ). allows question other.0 history)
       (class_layouts question (sizes_of question)) some in (
         found.0,
-        Contains-filter (λ (other : Counts × ℕ). allows question other.0 history)
+        Contains-filter (λ (other : ClassLayout × ℕ). allows question other.0 history)
             (class_layouts question (sizes_of question)) found.0 found.1 found.2,
       )
 
-  pub allows_some : (history : ClassHistory) (layout : Counts × ℕ)
+  pub allows_some : (history : ClassHistory) (layout : ClassLayout × ℕ)
       → Contains (allowing_layouts question history) layout → some_allows question history ≡ true
   unfolding some_allows
   allows_some history layout found =
-      let kept = kept_parts (λ (other : Counts × ℕ). allows question other.0 history)
+      let kept = kept_parts (λ (other : ClassLayout × ℕ). allows question other.0 history)
       (class_layouts question (sizes_of question)) layout found in
-      passing_some (λ (other : Counts × ℕ). allows question other.0 history)
+      passing_some (λ (other : ClassLayout × ℕ). allows question other.0 history)
       (class_layouts question (sizes_of question)) layout kept.0 kept.1
 
   -- a class layout allows a history with a move more where it allows the history, and the move is one of its class
   -- moves
-  pub allowing_next : (history : ClassHistory) (move : ClassMove) (layout : Counts × ℕ)
+  pub allowing_next : (history : ClassHistory) (move : ClassMove) (layout : ClassLayout × ℕ)
       → Contains (allowing_layouts question history) layout
       → Contains (class_moves (class_after question history) layout.0) move
       → Contains (allowing_layouts question (history ++ move ∷ [])) layout
@@ -132,7 +132,7 @@ module _ (question : Question) (valid : IsValid question) where
       Contains-allowing (history ++ move
       ∷ []) layout parts.0 ((allowed_moves question layout.0 history move).1 (parts.1, goes))
 
-  pub allowing_before : (history : ClassHistory) (move : ClassMove) (layout : Counts × ℕ)
+  pub allowing_before : (history : ClassHistory) (move : ClassMove) (layout : ClassLayout × ℕ)
       → Contains (allowing_layouts question (history ++ move ∷ [])) layout
       → Contains (allowing_layouts question history) layout
       × Contains (class_moves (class_after question history) layout.0) move
@@ -143,12 +143,13 @@ module _ (question : Question) (valid : IsValid question) where
 
   -- of the class layouts that allow a history, those that go on with a move allow it with the move
   pub going_with : (history : ClassHistory) (move : ClassMove)
-      → filter (λ (layout : Counts × ℕ). is_among (class_moves (class_after question history) layout.0) move)
+      → filter (λ (layout : ClassLayout × ℕ). is_among (class_moves (class_after question history) layout.0) move)
       (allowing_layouts question history)
       ≡ allowing_layouts question (history ++ move ∷ [])
   going_with history move =
-      let goes : Counts × ℕ → Bool = λ layout. is_among (class_moves (class_after question history) layout.0) move in
-      let before : Counts × ℕ → Bool = λ layout. allows question layout.0 history in
+      let goes : ClassLayout × ℕ → Bool = λ layout. is_among
+          (class_moves (class_after question history) layout.0) move in
+      let before : ClassLayout × ℕ → Bool = λ layout. allows question layout.0 history in
       filter-filter before goes (class_layouts question (sizes_of question))
       ∙ filter_agree (λ layout. before layout
       && goes layout) (λ layout. allows question layout.0 (history ++ move ∷ []))
@@ -185,7 +186,7 @@ module _ (question : Question) (valid : IsValid question) where
   public_short history move found =
       some_allowed_short question (history ++ move ∷ []) valid (sym (public_allowed history move found))
 
-  module _ (history : ClassHistory) (going : class_decided (class_after question history) ≡ false) (layout : Counts
+  module _ (history : ClassHistory) (going : class_decided (class_after question history) ≡ false) (layout : ClassLayout
       × ℕ) (held : Contains (allowing_layouts question history) layout) where
     -- a class move is one that some class layout allows
     move_allowed : (move : ClassMove) → is_among (class_moves (class_after question history) layout.0) move ≡ true
@@ -251,11 +252,11 @@ module _ (question : Question) (valid : IsValid question) where
       let view : ClassView = class_after question history in
       let other = some_layout (history ++ move ∷ []) (public_allowed history move found) in
       let goes = (allowing_before history move other.0 other.1).1 in
-      let among : (counts : Counts) → is_among (class_moves view counts) move ≡ true =
+      let among : (counts : ClassLayout) → is_among (class_moves view counts) move ≡ true =
       λ counts. among_contained (class_moves view counts) move
       (subst (λ (l : List ClassMove). Contains l move) (declarers_moves view other.0.0 counts own) goes) in
-      filter_agree (λ (layout : Counts × ℕ). allows question layout.0 (history ++ move ∷ []))
-      (λ (layout : Counts × ℕ). allows question layout.0 history)
+      filter_agree (λ (layout : ClassLayout × ℕ). allows question layout.0 (history ++ move ∷ []))
+      (λ (layout : ClassLayout × ℕ). allows question layout.0 history)
       (λ layout. allows-push question layout.0 history move
       ∙ and-true (allows question layout.0 history) (is_among (class_moves view layout.0) move) (among layout.0))
       (class_layouts question (sizes_of question))

@@ -8,7 +8,7 @@ use Rattle.std.specs.Ordering.{int_eq}
 use Rattle.std.proofs.lemmas.Bool.{and_parts, false≢true, ltb-true}
 use Rattle.std.proofs.lemmas.Bool.Decides.{Decides-int_eq}
 use Rattle.std.proofs.lemmas.List.Elements.{All-contains, Contains-get_or}
-use Rattle.suit_cards.specs.Cards.{Counts}
+use Rattle.suit_cards.specs.Cards.{ClassLayout}
 use Rattle.suit_num.proofs.IntegerLaws.{int_lt-true}
 use Rattle.suit_game.specs.declared.question.Question.{Question}
 use Rattle.suit_game.specs.Validity.{IsValid}
@@ -21,7 +21,7 @@ use Rattle.suit_classes.specs.Classes.{sizes_of}
 use Rattle.suit_classes.specs.ClassGame.{Allows}
 use Rattle.suit_classes.specs.ClassMoves.{ClassHistory}
 use Rattle.suit_classes.specs.ClassPlaces.{class_after, class_decided, class_moves}
-use Rattle.suit_classes.proofs.AllowedHistories.{allowed_moves}
+use Rattle.suit_classes.proofs.AllowedMoveByMove.{allowed_moves}
 use Rattle.suit_classes.proofs.DefenceSizes.{range_below}
 use Rattle.suit_game.proofs.DistinctElements.{each_flat_map}
 use Rattle.suit_layouts.specs.ClassLayouts.{class_layouts}
@@ -36,12 +36,12 @@ use Rattle.suit_plans.specs.Masses.{defence_mass, plan_mass}
 use Rattle.suit_plans.specs.Properness.{some_allows}
 use Rattle.suit_plans.specs.ReplyLaws.{IsDeclarerChoice, IsDefenceChoice, LeastRepliesAreChoices, MostRepliesAreChoices}
 use Rattle.suit_plans.specs.ReplyLaws.{counts_at, worths_with}
-use Rattle.suit_plans.proofs.AllowedWalks.{start_allows}
-use Rattle.suit_plans.proofs.BoundedReplies.{some_allow_none}
+use Rattle.suit_plans.proofs.AllowedSoFar.{start_allows}
+use Rattle.suit_plans.proofs.RepliesAreBounded.{some_allow_none}
 use Rattle.suit_plans.proofs.DefenceWorths.{room as defence_room}
 use Rattle.suit_plans.proofs.PlanWorths.{moves_going, room as plan_room}
 use Rattle.suit_plans.proofs.PublicMoves.{layout_weighs, public_allowed, some_passing}
-use Rattle.suit_classes.proofs.UndecidedMoves.{HasFirst}
+use Rattle.suit_classes.proofs.UndecidedHasAMove.{HasFirst}
 use Rattle.suit_plans.proofs.WhoseTurns.{own_turn, their_turn}
 use Rattle.suit_plans.proofs.WorthsAtTurns.{best_attained, best_turn, max_picks, min_picks}
 use Rattle.suit_game.specs.declared.limits.TheConstants.{MOST_MOVES}
@@ -121,7 +121,8 @@ going_moves false moves move found = found
 
 -- ---- against a plan
 
-plan_choice : (question : Question) (plan : Plan) (counts : Counts) (history : ClassHistory) → Allows question counts []
+plan_choice : (question : Question) (plan : Plan) (counts : ClassLayout) (history : ClassHistory)
+    → Allows question counts []
     → Contains (choices (reply_to_plan question plan counts)) history
     → IsDefenceChoice question plan counts history (reply_move (reply_to_plan question plan counts) history)
 plan_choice question plan counts history starts found =
@@ -164,7 +165,7 @@ pub least_entry : (question : Question) (plan : Plan) (entry : DefenceMove) → 
     × (reply_move (reply_to_plan question plan (counts_at question entry.layout)) entry.history ≡ entry.mv)
 unfolding least_reply
 least_entry question plan entry found =
-    let layouts : List (Counts × ℕ) = class_layouts question (sizes_of question) in
+    let layouts : List (ClassLayout × ℕ) = class_layouts question (sizes_of question) in
     let reply_in : ℕ → Reply = λ index. reply_to_plan question plan (counts_at question index) in
     let piece : ℕ → List DefenceMove = λ index. least_reply_in question plan (counts_at question index) index in
     let IsEntry : DefenceMove → Type 0 = λ (other : DefenceMove). (other.layout < length layouts)
@@ -199,7 +200,7 @@ least_listed question plan index history below found =
 pub least_choices : LeastRepliesAreChoices
 least_choices question plan entry valid found =
     let listed = least_entry question plan entry found in
-    let counts : Counts = counts_at question entry.layout in
+    let counts : ClassLayout = counts_at question entry.layout in
     let starts = start_allows question counts valid
     (layout_weighs question valid (get_or (class_layouts question (sizes_of question)) entry.layout ([], 0))
     (Contains-get_or (class_layouts question (sizes_of question)) entry.layout ([], 0) listed.0)) in (
@@ -223,7 +224,8 @@ defence_choice question defence history valid found =
     let going = (own_turn (class_after question history) chosen.0).0 in
     let many : 1 < length (public_moves question history) =
     ltb-true 1 (length (public_moves question history)) chosen.1 in
-    let some = some_passing (λ (layout : Counts × ℕ). int_lt (pos 0) (defence_mass question defence layout.0 history))
+    let some = some_passing (λ (layout : ClassLayout × ℕ). int_lt (pos 0)
+        (defence_mass question defence layout.0 history))
     (allowing_layouts question history) reached.0 in
     record {
       allowed = parts.0;

@@ -5,37 +5,37 @@ use Rattle.std.specs.Prelude.{Contains}
 use Rattle.std.specs.List.{AllByRecursion}
 use Rattle.std.proofs.lemmas.Bool.{cases_lt, false≢true, or_cases}
 use Rattle.std.proofs.lemmas.List.Sums.{sum_by-cons}
-use Rattle.suit_cards.specs.Cards.{Counts}
+use Rattle.suit_cards.specs.Cards.{ClassLayout}
 use Rattle.suit_game.specs.declared.question.Question.{Question}
 use Rattle.suit_game.specs.Validity.{IsValid}
 use Rattle.suit_game.proofs.EachElement.{Contains-cons_cases, Contains-nil}
-use Rattle.suit_game.proofs.FilledPlaces.{total_at_most}
+use Rattle.suit_game.proofs.WhatAllLayoutsWeigh.{total_at_most}
 use Rattle.suit_classes.specs.declared.class_moves.ClassMove.{ClassMove}
-use Rattle.suit_classes.specs.AllowedHistories.{allows}
+use Rattle.suit_classes.specs.WhatIsAllowed.{allows}
 use Rattle.suit_classes.specs.Classes.{defence_sizes, hands_of, sizes_of}
-use Rattle.suit_classes.proofs.AllowedLayouts.{allows_tells}
-use Rattle.suit_classes.proofs.DecidedPlays.{class_histories_are_short}
+use Rattle.suit_classes.proofs.CountsAllowAsTold.{allows_tells}
+use Rattle.suit_classes.proofs.DecidedStaysDecided.{class_histories_are_short}
 use Rattle.suit_classes.proofs.DefenceSizes.{sum-defence_sizes}
 use Rattle.suit_layouts.specs.ClassLayouts.{class_layouts}
 use Rattle.suit_layouts.proofs.ClassWeights.{class_weights_add_up}
-use Rattle.suit_layouts.proofs.ListedCounts.{class_layouts_exact}
+use Rattle.suit_layouts.proofs.WhatHasWeightIsListed.{class_layouts_exact}
 use Rattle.suit_plans.specs.Masses.{weight_of}
 use Rattle.suit_plans.specs.Properness.{some_allows}
-use Rattle.suit_plans.proofs.AllowedWalks.{start_allows}
+use Rattle.suit_plans.proofs.AllowedSoFar.{start_allows}
 use Rattle.suit_plans.proofs.SomeLayoutAllows.{any_allows, all_to_come}
 use Rattle.suit_game.specs.declared.limits.TheConstants.{MOST_MOVES}
 use Rattle.suit_classes.specs.ClassMoves.{ClassHistory}
 
 -- a class history that a class layout of positive weight allows has at most 52 moves
-pub allowed_short : (question : Question) (counts : Counts) (history : ClassHistory) → IsValid question
+pub allowed_short : (question : Question) (counts : ClassLayout) (history : ClassHistory) → IsValid question
     → 0 < weight_of question counts → true ≡ allows question counts history
     → length history ≤ MOST_MOVES
 allowed_short question counts history valid weighs told =
     class_histories_are_short question counts history
     ((allows_tells question counts history (start_allows question counts valid weighs)).0 (sym told))
 
-short_if_any : (question : Question) (history : ClassHistory) (layouts : List (Counts × ℕ)) → IsValid question
-    → AllByRecursion (λ (layout : Counts × ℕ). 0 < weight_of question layout.0) layouts
+short_if_any : (question : Question) (history : ClassHistory) (layouts : List (ClassLayout × ℕ)) → IsValid question
+    → AllByRecursion (λ (layout : ClassLayout × ℕ). 0 < weight_of question layout.0) layouts
     → any_allows question history layouts ≡ true → length history ≤ MOST_MOVES
 short_if_any question history [] valid weigh told = absurd (false≢true told)
 short_if_any question history (layout ∷ layouts) valid weigh told =
@@ -51,19 +51,21 @@ some_allowed_short question history valid told =
     let come = all_to_come question history in
     short_if_any question history (class_layouts question (sizes_of question)) valid come.weigh (come.left ∙ sym told)
 
-one_of_sum : (layouts : List (Counts × ℕ)) (layout : Counts × ℕ) → Contains layouts layout
-    → layout.1 ≤ sum_by (λ (other : Counts × ℕ). other.1) layouts
+one_of_sum : (layouts : List (ClassLayout × ℕ)) (layout : ClassLayout × ℕ) → Contains layouts layout
+    → layout.1 ≤ sum_by (λ (other : ClassLayout × ℕ). other.1) layouts
 one_of_sum [] layout found = absurd (Contains-nil layout found)
 one_of_sum (first ∷ layouts) layout found =
-    let whole = sum_by-cons (λ (other : Counts × ℕ). other.1) first layouts in
+    let whole = sum_by-cons (λ (other : ClassLayout × ℕ). other.1) first layouts in
     elim (Contains-cons_cases first layouts layout found) [
-      | inl here ↦ subst (λ (l : Counts × ℕ). l.1 ≤ sum_by (λ (other : Counts × ℕ). other.1) (first ∷ layouts)) here
+      | inl here ↦ subst (λ (l : ClassLayout × ℕ). l.1 ≤ sum_by (λ (other : ClassLayout × ℕ). other.1)
+          (first ∷ layouts)) here
           (omega (arith, whole))
       | inr there ↦ omega (arith, whole, one_of_sum layouts layout there)
     ]
 
 -- no class layout weighs more than all do
-pub weight_at_most : (question : Question) (counts : Counts) → IsValid question → weight_of question counts ≤ 10400600
+pub weight_at_most : (question : Question) (counts : ClassLayout) → IsValid question
+    → weight_of question counts ≤ 10400600
 weight_at_most question counts valid =
     let sizes = defence_sizes (hands_of question) in
     elim (cases_lt 0 (weight_of question counts)) [

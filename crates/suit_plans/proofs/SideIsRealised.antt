@@ -3,12 +3,12 @@ use Rattle.std.proofs.Common.{◌≡◌, Bool, true, false, List, [], ◌∷◌,
 use Rattle.std.proofs.Common.{subst, map}
 use Rattle.std.specs.Prelude.{ℤ, pos, ◌≤ℤ◌, int_le}
 use Rattle.std.specs.List.{list_all}
-use Rattle.suit_cards.specs.Cards.{Counts}
+use Rattle.suit_cards.specs.Cards.{ClassLayout}
 use Rattle.suit_game.specs.declared.question.Question.{Question}
 use Rattle.suit_game.proofs.EachElement.{map_same}
 use Rattle.suit_classes.specs.declared.class_moves.ClassMove.{ClassMove}
 use Rattle.suit_classes.specs.declared.class_turn.ClassTurn.TheVariants as turns
-use Rattle.suit_classes.specs.AllowedHistories.{is_among}
+use Rattle.suit_classes.specs.WhatIsAllowed.{is_among}
 use Rattle.suit_classes.specs.ClassGame.{Allows}
 use Rattle.suit_classes.specs.ClassPlaces.{class_after, class_moves, class_turn}
 use Rattle.suit_classes.proofs.DistinctMoves.{once_class_moves}
@@ -17,9 +17,9 @@ use Rattle.suit_plans.specs.Masses.{Shares, Side, is_first, mass_from, mass_of, 
 use Rattle.suit_plans.specs.PlanLaws.{AreRealised}
 use Rattle.suit_plans.specs.Properness.{are_rising, moves_of, sum_of}
 use Rattle.suit_plans.proofs.MassSteps.{mass_kept, mass_shared}
-use Rattle.suit_plans.proofs.SharedSums.{count_case, count_positive, sum_counts, sum_first}
+use Rattle.suit_plans.proofs.SharesAddUpToTheMass.{count_case, count_positive, sum_counts, sum_first}
 use Rattle.suit_num.proofs.IntegerLaws.{int_le-true}
-use Rattle.suit_classes.proofs.UndecidedMoves.{HasFirst, turn_move}
+use Rattle.suit_classes.proofs.UndecidedHasAMove.{HasFirst, turn_move}
 use Rattle.suit_classes.specs.ClassMoves.{ClassHistory}
 
 -- counts share out the mass of a history among legal moves
@@ -84,7 +84,8 @@ shares_add question side history legal None rows is once some =
     (sum_first mass some.first some.more (subst (IsOnce {X = ClassMove}) some.parts once))
 
 -- at a turn of a sound side the moves share what came to it
-pub mass_adds : (question : Question) (side : Side) (counts : Counts) (history : ClassHistory) → IsSound question side
+pub mass_adds : (question : Question) (side : Side) (counts : ClassLayout) (history : ClassHistory)
+    → IsSound question side
     → class_moves (class_after question history) side.counts ≡ class_moves (class_after question history) counts
     → Allows question counts history → side.plays (class_turn (class_after question history)) ≡ true
     → sum_of (map (λ move. mass_of question side (history ++ move ∷ []))
@@ -104,7 +105,7 @@ mass_adds question side counts history sound same allows plays =
     (turn_move question side.plays counts history sound.decided allows plays)
 
 -- a sound side is realised where its moves are those for West's counts
-pub sound_realised : (question : Question) (side : Side) (counts : Counts) → IsSound question side
+pub sound_realised : (question : Question) (side : Side) (counts : ClassLayout) → IsSound question side
     → ((history : ClassHistory) → side.plays (class_turn (class_after question history)) ≡ true
     → class_moves (class_after question history) side.counts ≡ class_moves (class_after question history) counts)
     → AreRealised question side counts

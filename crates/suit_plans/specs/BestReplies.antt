@@ -4,12 +4,12 @@ use Rattle.std.specs.Prelude.{get_or, if◌then◌else◌, ℤ, pos, ◌*ℤ◌,
 use Rattle.std.specs.Int.{int_min, int_max}
 use Rattle.std.specs.List.{flat_map, list_any, range_with_len}
 use Rattle.std.specs.Ordering.{int_eq}
-use Rattle.suit_cards.specs.Cards.{Counts}
+use Rattle.suit_cards.specs.Cards.{ClassLayout}
 use Rattle.suit_game.specs.declared.question.Question.{Question}
 use Rattle.suit_game.specs.declared.limits.TheConstants.{MOST_MOVES}
 use Rattle.suit_classes.specs.declared.class_moves.ClassMove.{ClassMove}
 use Rattle.suit_classes.specs.declared.class_moves.ClassMove.TheVariants.{ShowOut}
-use Rattle.suit_classes.specs.AllowedHistories.{allows, every_move}
+use Rattle.suit_classes.specs.WhatIsAllowed.{allows, every_move}
 use Rattle.suit_classes.specs.ClassMoves.{ClassHistory, same_class_move}
 use Rattle.suit_classes.specs.ClassPlaces.{class_after, class_decided, class_moves, class_payoff, class_turn}
 use Rattle.suit_classes.specs.Classes.{sizes_of}
@@ -94,7 +94,7 @@ choices reply = filter (λ history. has_choice reply history
     && is_reached reply history) (histories_within MOST_MOVES reply [])
 
 -- the defence in one class layout, replying to a plan
-abbrev pub reply_to_plan : Question → Plan → Counts → Reply
+abbrev pub reply_to_plan : Question → Plan → ClassLayout → Reply
 reply_to_plan question plan counts = record {
   moves = λ history. if class_decided (class_after question history) then []
       else class_moves (class_after question history) counts;
@@ -105,9 +105,9 @@ reply_to_plan question plan counts = record {
 }
 
 -- the class layouts of positive weight that allow a class history
-abbrev pub allowing_layouts : Question → ClassHistory → List (Counts × ℕ)
+abbrev pub allowing_layouts : Question → ClassHistory → List (ClassLayout × ℕ)
 allowing_layouts question history =
-    filter (λ (layout : Counts × ℕ). allows question layout.0 history) (class_layouts question (sizes_of question))
+    filter (λ (layout : ClassLayout × ℕ). allows question layout.0 history) (class_layouts question (sizes_of question))
 
 -- the moves with which a class history goes on for who sees it alone: none where it is decided, else in order those
 -- with which some class layout of positive weight allows it
@@ -122,20 +122,21 @@ reply_to_defence question defence = record {
   moves = λ history. public_moves question history;
   replies = λ history. is_declarers (class_turn (class_after question history));
   best = int_max;
-  earned = λ history. sum_of (map (λ (layout : Counts × ℕ). pos (class_payoff (class_after question history))
+  earned = λ history. sum_of (map (λ (layout : ClassLayout × ℕ). pos (class_payoff (class_after question history))
       *ℤ defence_mass question defence layout.0 history) (allowing_layouts question history));
-  live = λ history. list_any (λ (layout : Counts × ℕ). int_lt (pos 0) (defence_mass question defence layout.0 history))
+  live = λ history. list_any (λ (layout : ClassLayout × ℕ). int_lt (pos 0)
+      (defence_mass question defence layout.0 history))
       (allowing_layouts question history);
 }
 
 -- what a plan earns at least, not yet divided by its denominator and the total weight of the question
 unfoldable pub least : Question → Plan → ℤ
 least question plan = sum_of (map
-    (λ (layout : Counts × ℕ). pos layout.1 *ℤ worth (reply_to_plan question plan layout.0) [])
+    (λ (layout : ClassLayout × ℕ). pos layout.1 *ℤ worth (reply_to_plan question plan layout.0) [])
     (class_layouts question (sizes_of question)))
 
 -- the best reply to a plan in the class layout at an index: its moves where it is reached and there is a choice
-abbrev pub least_reply_in : Question → Plan → Counts → ℕ → List DefenceMove
+abbrev pub least_reply_in : Question → Plan → ClassLayout → ℕ → List DefenceMove
 least_reply_in question plan counts index =
     map (λ history. record {
       layout = index;

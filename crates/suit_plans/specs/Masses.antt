@@ -2,7 +2,7 @@
 -- this side the moves share out what came there.
 use Rattle.std.specs.Prelude.{ℕ, Bool, true, false, List, [], ◌∷◌, ◌++◌, Option, Some, None, option_map, find, bytes_eq}
 use Rattle.std.specs.Prelude.{◌&&◌, if◌then◌else◌, ℤ, pos, ◌*ℤ◌}
-use Rattle.suit_cards.specs.Cards.{Counts}
+use Rattle.suit_cards.specs.Cards.{ClassLayout}
 use Rattle.suit_game.specs.declared.question.Question.{Question}
 use Rattle.suit_classes.specs.declared.class_moves.ClassMove.{ClassMove}
 use Rattle.suit_classes.specs.declared.class_turn.ClassTurn.{ClassTurn}
@@ -40,7 +40,7 @@ pub record Side : Type 0 where
   -- whether it is on turn
   pub plays : ClassTurn → Bool
   -- West's counts where it sees them; declarer sees none, and his moves do not depend on them
-  pub counts : Counts
+  pub counts : ClassLayout
   -- the shares of its row at a class history, where it has one
   pub shares_at : ClassHistory → Option Shares
   -- the mass of the empty history
@@ -96,17 +96,17 @@ declarer den rows = record {
 }
 
 -- the weight of a class layout
-abbrev pub weight_of : Question → Counts → ℕ
+abbrev pub weight_of : Question → ClassLayout → ℕ
 weight_of question counts = class_weight question (defence_sizes (hands_of question)) counts
 
 -- the shares of a defence's row for a class layout at a class history
-unfoldable pub defence_shares_at : List DefenceRow → Counts → ClassHistory → Option Shares
+unfoldable pub defence_shares_at : List DefenceRow → ClassLayout → ClassHistory → Option Shares
 defence_shares_at rows counts history =
     option_map (λ (row : DefenceRow). row.counts) (find (λ (row : DefenceRow). bytes_eq row.west counts
     && same_class_history row.history history) rows)
 
 -- the defence with some rows, in one class layout
-abbrev pub defenders : Question → ℤ → List DefenceRow → Counts → Side
+abbrev pub defenders : Question → ℤ → List DefenceRow → ClassLayout → Side
 defenders question den rows counts = record {
   plays = is_defences;
   counts = counts;
@@ -119,6 +119,6 @@ unfoldable pub plan_mass : Question → Plan → ClassHistory → ℤ
 plan_mass question plan history = mass_of question (declarer plan.den plan.rows) history
 
 -- the mass that a defence lets through to one, in a class layout
-unfoldable pub defence_mass : Question → Defence → Counts → ClassHistory → ℤ
+unfoldable pub defence_mass : Question → Defence → ClassLayout → ClassHistory → ℤ
 defence_mass question defence counts history =
     mass_of question (defenders question defence.den defence.rows counts) history

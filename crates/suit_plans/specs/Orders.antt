@@ -1,6 +1,6 @@
 -- In what order class histories and West's counts stand.
 use Rattle.std.specs.Prelude.{◌≡◌, ◌&&◌, ◌||◌, ◌==◌, nat_lt, Bool, true, false, List, [], ◌∷◌, AllPairs, bytes_eq}
-use Rattle.suit_cards.specs.Cards.{Counts}
+use Rattle.suit_cards.specs.Cards.{ClassLayout}
 use Rattle.suit_classes.specs.ClassMoves.{ClassHistory, same_class_move}
 use Rattle.suit_classes.specs.MoveOrder.{stands_before}
 use Rattle.suit_plans.specs.declared.plan.Row.{Row}
@@ -27,11 +27,11 @@ abbrev pub history_before : ClassHistory → ClassHistory → Bool
 history_before here there = is_earlier stands_before same_class_move here there
 
 -- whether West's counts stand before others
-abbrev pub counts_before : Counts → Counts → Bool
+abbrev pub counts_before : ClassLayout → ClassLayout → Bool
 counts_before here there = is_earlier nat_lt (λ a b. a == b) here there
 
 -- whether West's counts and a class history stand before others: by the counts, and then by the history
-abbrev pub key_before : Counts → ClassHistory → Counts → ClassHistory → Bool
+abbrev pub key_before : ClassLayout → ClassHistory → ClassLayout → ClassHistory → Bool
 key_before counts history other later = counts_before counts other
     || (bytes_eq counts other && history_before history later)
 

@@ -4,10 +4,10 @@ use Rattle.std.specs.Prelude.{⊤, ◌≡◌, ℕ, ◌+◌, ◌&&◌, not, nat_l
 use Rattle.std.specs.Prelude.{Result, Ok, Err, map, length, if◌then◌else◌, ℤ, pos, ◌+ℤ◌, int_le}
 use Rattle.std.specs.List.{list_any, list_all}
 use Rattle.std.specs.Ordering.{int_eq}
-use Rattle.suit_cards.specs.Cards.{Counts}
+use Rattle.suit_cards.specs.Cards.{ClassLayout}
 use Rattle.suit_game.specs.declared.question.Question.{Question}
 use Rattle.suit_classes.specs.declared.class_moves.ClassMove.{ClassMove}
-use Rattle.suit_classes.specs.AllowedHistories.{allows, is_among}
+use Rattle.suit_classes.specs.WhatIsAllowed.{allows, is_among}
 use Rattle.suit_classes.specs.ClassMoves.{ClassHistory}
 use Rattle.suit_classes.specs.MoveOrder.{stands_before}
 use Rattle.suit_classes.specs.declared.class_view.ClassView.{ClassView}
@@ -38,7 +38,8 @@ has_turn question side history = goes_undecided (class_start question) history
 -- whether some class layout of positive weight allows a class history
 unfoldable pub some_allows : Question → ClassHistory → Bool
 some_allows question history =
-    list_any (λ (layout : Counts × ℕ). allows question layout.0 history) (class_layouts question (sizes_of question))
+    list_any (λ (layout : ClassLayout × ℕ). allows question layout.0 history)
+        (class_layouts question (sizes_of question))
 
 -- whether some moves stand in strictly rising order
 unfoldable pub are_rising : List ClassMove → Bool

@@ -2,7 +2,7 @@
 -- order they stand.
 use Rattle.std.specs.Prelude.{◌⊎◌, ◌≡◌, ℕ, ◌<◌, ◌==◌, ◌&&◌, ◌||◌, nat_lt, Bool, true, false, List, [], ◌∷◌, ◌++◌}
 use Rattle.std.specs.Prelude.{length, map, get_or, Contains, ℤ, pos, ◌*ℤ◌, ◌≤ℤ◌, ◌<ℤ◌}
-use Rattle.suit_cards.specs.Cards.{Counts}
+use Rattle.suit_cards.specs.Cards.{ClassLayout}
 use Rattle.suit_game.specs.declared.question.Question.{Question}
 use Rattle.suit_game.specs.Validity.{IsValid}
 use Rattle.suit_game.specs.declared.limits.TheConstants.{MOST_MOVES}
@@ -46,14 +46,14 @@ WorthsUnfold = (reply : Reply) (history : ClassHistory) → length history < MOS
 
 -- against a plan: where play is decided, the payoff for the mass that came
 abbrev pub PlansAtDecided : Type 0
-PlansAtDecided = (question : Question) (plan : Plan) (counts : Counts) (history : ClassHistory)
+PlansAtDecided = (question : Question) (plan : Plan) (counts : ClassLayout) (history : ClassHistory)
     → class_decided (class_after question history) ≡ true
     → worth (reply_to_plan question plan counts) history
     ≡ pos (class_payoff (class_after question history)) *ℤ plan_mass question plan history
 
 -- at a turn of declarer's, the sum over his class moves
 abbrev pub PlansAtDeclarers : Type 0
-PlansAtDeclarers = (question : Question) (plan : Plan) (counts : Counts) (history : ClassHistory)
+PlansAtDeclarers = (question : Question) (plan : Plan) (counts : ClassLayout) (history : ClassHistory)
     → Allows question counts history
     → is_declarers (class_turn (class_after question history)) ≡ true
     → worth (reply_to_plan question plan counts) history
@@ -62,7 +62,7 @@ PlansAtDeclarers = (question : Question) (plan : Plan) (counts : Counts) (histor
 
 -- at a turn of a defender's, the least of his class moves
 abbrev pub PlansAtDefences : Type 0
-PlansAtDefences = (question : Question) (plan : Plan) (counts : Counts) (history : ClassHistory)
+PlansAtDefences = (question : Question) (plan : Plan) (counts : ClassLayout) (history : ClassHistory)
     → Allows question counts history
     → is_defences (class_turn (class_after question history)) ≡ true
     → IsLeastOf (worths_with (reply_to_plan question plan counts) history
@@ -72,7 +72,8 @@ PlansAtDefences = (question : Question) (plan : Plan) (counts : Counts) (history
 -- what the layouts that allow a class history let through to it
 abbrev pub masses_of : Question → Defence → ClassHistory → List ℤ
 masses_of question defence history =
-    map (λ (layout : Counts × ℕ). defence_mass question defence layout.0 history) (allowing_layouts question history)
+    map (λ (layout : ClassLayout × ℕ). defence_mass question defence layout.0 history)
+        (allowing_layouts question history)
 
 -- against a defence: where play is decided, the payoff for the masses that came
 abbrev pub DefencesAtDecided : Type 0
@@ -106,14 +107,15 @@ pub record IsPaid (mass worth : ℤ) : Type 0 where
 
 -- against a proper plan each class history that is allowed is worth no more than thirteen tricks of its mass
 abbrev pub PlansArePaid : Type 0
-PlansArePaid = (question : Question) (plan : Plan) (counts : Counts) (history : ClassHistory) → IsValid question
+PlansArePaid = (question : Question) (plan : Plan) (counts : ClassLayout) (history : ClassHistory) → IsValid question
     → IsProperPlan question plan
     → Allows question counts history
     → IsPaid (plan_mass question plan history) (worth (reply_to_plan question plan counts) history)
 
 -- so it is worth nothing where no mass comes to it
 abbrev pub NoMassIsWorthNothing : Type 0
-NoMassIsWorthNothing = (question : Question) (plan : Plan) (counts : Counts) (history : ClassHistory) → IsValid question
+NoMassIsWorthNothing = (question : Question) (plan : Plan) (counts : ClassLayout) (history : ClassHistory)
+    → IsValid question
     → IsProperPlan question plan
     → Allows question counts history → plan_mass question plan history ≡ pos 0
     → worth (reply_to_plan question plan counts) history ≡ pos 0
@@ -130,7 +132,7 @@ abbrev pub NoMassesAreWorthNothing : Type 0
 NoMassesAreWorthNothing = (question : Question) (defence : Defence) (history : ClassHistory) → IsValid question
     → IsProperDefence question defence
     → some_allows question history ≡ true
-    → ((layout : Counts × ℕ) → Contains (allowing_layouts question history) layout
+    → ((layout : ClassLayout × ℕ) → Contains (allowing_layouts question history) layout
     → defence_mass question defence layout.0 history ≡ pos 0)
     → worth (reply_to_defence question defence) history ≡ pos 0
 
@@ -147,12 +149,12 @@ MostsAreBounded = (question : Question) (defence : Defence) → IsValid question
 -- ---- what the lists name
 
 -- the counts of the class layout at an index
-abbrev pub counts_at : Question → ℕ → Counts
+abbrev pub counts_at : Question → ℕ → ClassLayout
 counts_at question index = (get_or (class_layouts question (sizes_of question)) index ([], 0)).0
 
 -- a choice of the defence against a plan: counts allow the class history, play is not decided there, a defender is on
 -- turn with more moves than one, this is one of them, and some mass comes to it
-pub record IsDefenceChoice (question : Question) (plan : Plan) (counts : Counts) (history : ClassHistory)
+pub record IsDefenceChoice (question : Question) (plan : Plan) (counts : ClassLayout) (history : ClassHistory)
     (move : ClassMove) : Type 0 where
   pub allowed : Allows question counts history
   pub going : class_decided (class_after question history) ≡ false
@@ -177,7 +179,7 @@ pub record IsDeclarerChoice (question : Question) (defence : Defence) (history :
   pub turn : is_declarers (class_turn (class_after question history)) ≡ true
   pub many : 1 < length (public_moves question history)
   pub legal : Contains (public_moves question history) move
-  pub live : (layout : Counts × ℕ) × Contains (allowing_layouts question history) layout
+  pub live : (layout : ClassLayout × ℕ) × Contains (allowing_layouts question history) layout
       × (pos 0 <ℤ defence_mass question defence layout.0 history)
 
 -- such are the entries of the best reply to a defence
@@ -221,7 +223,7 @@ abbrev pub MostRepliesAreReached : Type 0
 MostRepliesAreReached = (question : Question) (defence : Defence) (entry : DeclarerMove) (start rest : ClassHistory)
     → IsValid question → IsProperDefence question defence
     → Contains (most_reply question defence) entry → entry.history ≡ start ++ rest
-    → (layout : Counts × ℕ) × Contains (allowing_layouts question start) layout
+    → (layout : ClassLayout × ℕ) × Contains (allowing_layouts question start) layout
     × (pos 0 <ℤ defence_mass question defence layout.0 start)
 
 -- and each move of declarer's within it is the reply's
@@ -237,7 +239,7 @@ MostRepliesAreFollowed = (question : Question) (defence : Defence) (entry : Decl
 -- the choices against a plan, of which its best reply lists those of each class layout in turn, stand in the order of
 -- their class histories
 abbrev pub PlanChoicesRise : Type 0
-PlanChoicesRise = (question : Question) (plan : Plan) (counts : Counts)
+PlanChoicesRise = (question : Question) (plan : Plan) (counts : ClassLayout)
     → InOrder history_before (choices (reply_to_plan question plan counts))
 
 -- and so do those against a defence

@@ -1,7 +1,7 @@
 //! Which class histories are allowed, and where they lead.
 ghost use Rattle.std.specs.Prelude.{◌≡◌, ◌<◌, ◌≤◌, MatchOption, false, length, true};
 ghost use Rattle.suit_game.specs.Validity.{IsValid};
-ghost use Rattle.suit_classes.specs.AllowedHistories.{allows, allows_from, is_among};
+ghost use Rattle.suit_classes.specs.WhatIsAllowed.{allows, allows_from, is_among};
 ghost use Rattle.suit_classes.specs.ClassPlaces.{class_after, class_moves, class_start};
 ghost use Rattle.suit_plans.specs.Masses.{weight_of};
 ghost use Rattle.suit_plans.specs.Properness.{goes_undecided, some_allows};
@@ -13,7 +13,7 @@ use suit_game::Question;
 use suit_layouts::ClassWalk;
 
 /// Whether a class layout of positive weight allows a class history.
-#[tactic(auto, unfolding(suit_classes::specs::AllowedHistories::allows))]
+#[tactic(auto, unfolding(suit_classes::specs::WhatIsAllowed::allows))]
 pub(crate) fn allows(question: &Question, counts: &[u8], history: &[ClassMove]) -> bool
     requires valid { IsValid question.now }
     requires weighs { 0 < weight_of question.now counts.now }

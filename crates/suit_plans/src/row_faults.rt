@@ -2,7 +2,7 @@
 ghost use Rattle.std.specs.Prelude.{◌≡◌, ◌-ℤ◌, ◌≤ℤ◌, IsTrue, int_le, int_lt, map, pos};
 ghost use Rattle.std.specs.List.{list_all};
 ghost use Rattle.std.specs.Ordering.{int_eq};
-ghost use Rattle.suit_classes.specs.AllowedHistories.{is_among};
+ghost use Rattle.suit_classes.specs.WhatIsAllowed.{is_among};
 ghost use Rattle.suit_classes.specs.MoveOrder.{stands_before};
 ghost use Rattle.suit_plans.specs.Properness.{are_rising, shares_fault, moves_of, sum_of};
 

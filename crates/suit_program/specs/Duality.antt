@@ -1,7 +1,7 @@
 -- Weak duality: no plan earns more than a defence lets declarer earn.
 use Rattle.std.specs.Prelude.{false, true, [], map, ℕ, ℤ, pos, ◌*ℤ◌, ◌≤ℤ◌}
 use Rattle.std.specs.Int.{int_max}
-use Rattle.suit_cards.specs.Cards.{Counts}
+use Rattle.suit_cards.specs.Cards.{ClassLayout}
 use Rattle.suit_game.specs.declared.question.Question.{Question}
 use Rattle.suit_game.specs.Validity.{IsValid}
 use Rattle.suit_classes.specs.ClassPlaces.{class_after, class_payoff}
@@ -14,7 +14,7 @@ use Rattle.suit_program.specs.Supports.{layouts_of, legal_moves}
 
 -- a plan and a defence as they meet in a class layout: nobody replies, and a decided class history earns its payoff for
 -- what both let through
-abbrev pub meeting : Question → Plan → Defence → Counts → Reply
+abbrev pub meeting : Question → Plan → Defence → ClassLayout → Reply
 meeting question plan defence west = record {
   moves = λ history. legal_moves question west history;
   replies = λ history. false;
@@ -28,7 +28,7 @@ meeting question plan defence west = record {
 -- both denominators and the total weight
 unfoldable pub meets : Question → Plan → Defence → ℤ
 meets question plan defence =
-    sum_of (map (λ (layout : Counts × ℕ). worth (meeting question plan defence layout.0) []) (layouts_of question))
+    sum_of (map (λ (layout : ClassLayout × ℕ). worth (meeting question plan defence layout.0) []) (layouts_of question))
 
 -- it lies between what the plan earns at least and what the defence lets declarer earn at most, each over its own
 -- denominator

@@ -5,7 +5,7 @@ pub mod Sized
 pub mod Worths
 use Rattle.std.specs.Prelude.{ℕ, ◌+◌, List, [], ◌∷◌, ◌++◌, length, map, ℤ, ◌+ℤ◌, ◌-ℤ◌, ◌*ℤ◌, neg_ℤ, if◌then◌else◌}
 use Rattle.std.specs.List.{flat_map}
-use Rattle.suit_cards.specs.Cards.{Counts}
+use Rattle.suit_cards.specs.Cards.{ClassLayout}
 use Rattle.suit_game.specs.declared.question.Question.{Question}
 use Rattle.suit_classes.specs.declared.class_moves.ClassMove.{ClassMove}
 use Rattle.suit_classes.specs.ClassMoves.{ClassHistory}
@@ -21,7 +21,7 @@ use Rattle.suit_program.specs.Programs.Worths.{mass_at, objective_at, worth_at}
 -- theirs lets him earn
 pub data Limit : Type 0 where
   Shared : (history : ClassHistory) → Limit
-  Answered : (west : Counts) (history : ClassHistory) (move : ClassMove) → Limit
+  Answered : (west : ClassLayout) (history : ClassHistory) (move : ClassMove) → Limit
 
 -- what is passed on with all moves
 abbrev pub sum_passed : Question → Support → Point → ClassHistory → ℤ
@@ -36,12 +36,12 @@ excess question support point (Answered west history move) =
     point.at (Held west history) -ℤ worth_at question support point west (history ++ move ∷ [])
 
 -- the column of the defence at a choice of theirs in a class layout
-unfoldable pub held_column : Question → ClassHistory → Counts × ℕ → List Column
+unfoldable pub held_column : Question → ClassHistory → ClassLayout × ℕ → List Column
 held_column question history layout =
     if defence_chooses question layout.0 history then Held layout.0 history ∷ [] else []
 
 -- its rows
-unfoldable pub answered_limits : Question → Support → ClassHistory → Counts × ℕ → List Limit
+unfoldable pub answered_limits : Question → Support → ClassHistory → ClassLayout × ℕ → List Limit
 answered_limits question support history layout =
     if defence_chooses question layout.0 history
     then map (Answered layout.0 history) (supported_moves question support layout.0 history) else []

@@ -1,6 +1,6 @@
 -- How a plan is read from the point of an optimum, and a defence from its prices.
 pub mod Examples
-pub mod ReadOptima
+pub mod ReadingOfAnOptimum
 pub mod ReadingLaws
 pub mod Sharing
 use Rattle.std.specs.Prelude.{ℕ, ◌&&◌, ◌||◌, not, Bool, true, false, List, [], ◌∷◌, ◌++◌, map, filter, get_or}
@@ -8,7 +8,7 @@ use Rattle.std.specs.Prelude.{if◌then◌else◌, ℤ, pos, ◌-ℤ◌, ◌*ℤ
 use Rattle.std.specs.Int.{int_min, int_max}
 use Rattle.std.specs.Ordering.{int_eq}
 use Rattle.std.specs.List.{flat_map}
-use Rattle.suit_cards.specs.Cards.{Counts}
+use Rattle.suit_cards.specs.Cards.{ClassLayout}
 use Rattle.suit_num.specs.declared.fraction.Frac.{Frac}
 use Rattle.suit_num.specs.Divisors.{lcm_of}
 use Rattle.suit_game.specs.declared.question.Question.{Question}
@@ -149,20 +149,20 @@ filled mass (count ∷ shares) =
     (count.0, int_min count.1 mass) ∷ filled (mass -ℤ int_min count.1 mass) shares
 
 -- whether a row is that of a move in a class layout
-unfoldable pub is_answer : Counts → ClassHistory → ClassMove → Limit → Bool
+unfoldable pub is_answer : ClassLayout → ClassHistory → ClassMove → Limit → Bool
 is_answer west history move (Shared other) = false
 is_answer west history move (Answered counts other next) =
     bytes_eq west counts && same_class_history history other && same_class_move move next
 
 -- the price of the row of a move in a class layout, where the prices stand in the order of the rows
-unfoldable pub price_of : List Limit → List ℤ → Counts → ClassHistory → ClassMove → ℤ
+unfoldable pub price_of : List Limit → List ℤ → ClassLayout → ClassHistory → ClassMove → ℤ
 price_of [] prices west history move = pos 0
 price_of (limit ∷ limits) [] west history move = pos 0
 price_of (limit ∷ limits) (price ∷ prices) west history move =
     if is_answer west history move limit then price else price_of limits prices west history move
 
 -- how the defence is read in a class layout
-abbrev pub defence_reading : Question → Support → List ℤ → ℤ → Counts → Reading
+abbrev pub defence_reading : Question → Support → List ℤ → ℤ → ClassLayout → Reading
 defence_reading question support prices scale west = record {
   chooses = defence_chooses question west;
   shares = λ history mass. filled mass
@@ -172,7 +172,7 @@ defence_reading question support prices scale west = record {
 }
 
 -- its rows in a class layout
-abbrev pub defence_rows_in : Question → Support → List ℤ → ℤ → Counts × ℕ → List DefenceRow
+abbrev pub defence_rows_in : Question → Support → List ℤ → ℤ → ClassLayout × ℕ → List DefenceRow
 defence_rows_in question support prices scale layout =
     map (λ history. record {
       west = layout.0;

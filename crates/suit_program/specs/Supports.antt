@@ -4,11 +4,11 @@ pub mod Marks
 use Rattle.std.specs.Prelude.{ℕ, zero, suc, ◌&&◌, ◌||◌, nat_lt, Bool, true, false, List, [], ◌∷◌, ◌++◌, length}
 use Rattle.std.specs.Prelude.{filter, not, bytes_eq, if◌then◌else◌}
 use Rattle.std.specs.List.{flat_map, list_any}
-use Rattle.suit_cards.specs.Cards.{Counts}
+use Rattle.suit_cards.specs.Cards.{ClassLayout}
 use Rattle.suit_game.specs.declared.question.Question.{Question}
 use Rattle.suit_game.specs.declared.limits.TheConstants.{MOST_MOVES}
 use Rattle.suit_classes.specs.declared.class_moves.ClassMove.{ClassMove}
-use Rattle.suit_classes.specs.AllowedHistories.{every_move, is_among}
+use Rattle.suit_classes.specs.WhatIsAllowed.{every_move, is_among}
 use Rattle.suit_classes.specs.Classes.{sizes_of}
 use Rattle.suit_classes.specs.ClassMoves.{ClassHistory, same_class_move}
 use Rattle.suit_classes.specs.ClassPlaces.{class_after, class_decided, class_moves, class_turn}
@@ -24,7 +24,7 @@ use Rattle.suit_plans.specs.ReplyLaws.{counts_at}
 -- for nothing
 pub record Support : Type 0 where
   pub declarers : ClassHistory → ClassMove → Bool
-  pub defences : Counts → ClassHistory → ClassMove → Bool
+  pub defences : ClassLayout → ClassHistory → ClassMove → Bool
 
 -- the support of first moves alone
 abbrev pub first_support : Support
@@ -35,17 +35,17 @@ abbrev pub whole_support : Support
 whole_support = record { declarers = λ history move. true; defences = λ west history move. true }
 
 -- the class layouts of a question, each with its weight
-abbrev pub layouts_of : Question → List (Counts × ℕ)
+abbrev pub layouts_of : Question → List (ClassLayout × ℕ)
 layouts_of question = class_layouts question (sizes_of question)
 
 -- the moves at a class history where West has these counts, none where play is decided; declarer's do not rest on them,
 -- so that none need be given for his
-abbrev pub legal_moves : Question → Counts → ClassHistory → List ClassMove
+abbrev pub legal_moves : Question → ClassLayout → ClassHistory → List ClassMove
 legal_moves question west history =
     if class_decided (class_after question history) then [] else class_moves (class_after question history) west
 
 -- whether a support names a move of the side on turn
-abbrev pub names : Question → Support → Counts → ClassHistory → ClassMove → Bool
+abbrev pub names : Question → Support → ClassLayout → ClassHistory → ClassMove → Bool
 names question support west history move =
     if is_declarers (class_turn (class_after question history)) then support.declarers history move
     else support.defences west history move
@@ -56,7 +56,7 @@ first_and named [] = []
 first_and named (first ∷ moves) = first ∷ filter named moves
 
 -- the moves of a support at a class history where West has these counts
-unfoldable pub supported_moves : Question → Support → Counts → ClassHistory → List ClassMove
+unfoldable pub supported_moves : Question → Support → ClassLayout → ClassHistory → List ClassMove
 supported_moves question support west history =
     first_and (names question support west history) (legal_moves question west history)
 
@@ -66,31 +66,31 @@ declarer_chooses question history =
     is_declarers (class_turn (class_after question history)) && nat_lt 1 (length (legal_moves question [] history))
 
 -- whether the defence has one where West has these counts
-unfoldable pub defence_chooses : Question → Counts → ClassHistory → Bool
+unfoldable pub defence_chooses : Question → ClassLayout → ClassHistory → Bool
 defence_chooses question west history =
     is_defences (class_turn (class_after question history)) && nat_lt 1 (length (legal_moves question west history))
 
 -- whether some moves, one after the other from a class history on, are in a support
-unfoldable pub goes_supported : Question → Support → Counts → ClassHistory → List ClassMove → Bool
+unfoldable pub goes_supported : Question → Support → ClassLayout → ClassHistory → List ClassMove → Bool
 goes_supported question support west history [] = true
 goes_supported question support west history (move ∷ moves) =
     is_among (supported_moves question support west history) move
     && goes_supported question support west (history ++ move ∷ []) moves
 
 -- whether a class history is reached where West has these counts: each of its moves is legal and in the support
-unfoldable pub is_reached : Question → Support → Counts → ClassHistory → Bool
+unfoldable pub is_reached : Question → Support → ClassLayout → ClassHistory → Bool
 is_reached question support west history = goes_supported question support west [] history
 
 -- the class layouts in which a class history is reached
-unfoldable pub reached_layouts : Question → Support → ClassHistory → List (Counts × ℕ)
+unfoldable pub reached_layouts : Question → Support → ClassHistory → List (ClassLayout × ℕ)
 reached_layouts question support history =
-    filter (λ (layout : Counts × ℕ). is_reached question support layout.0 history) (layouts_of question)
+    filter (λ (layout : ClassLayout × ℕ). is_reached question support layout.0 history) (layouts_of question)
 
 -- the moves with which a class history goes on that is reached: those of the support in some class layout in which it
 -- is, in order
 unfoldable pub next_moves : Question → Support → ClassHistory → List ClassMove
 next_moves question support history =
-    filter (is_among (flat_map (λ (layout : Counts × ℕ). supported_moves question support layout.0 history)
+    filter (is_among (flat_map (λ (layout : ClassLayout × ℕ). supported_moves question support layout.0 history)
     (reached_layouts question support history))) every_move
 
 -- a class history and those that go on from it by at most so many of such moves, in order
@@ -110,7 +110,7 @@ has_declarers moves history move =
     list_any (λ (entry : DeclarerMove). same_class_history entry.history history && same_class_move entry.mv move) moves
 
 -- whether some moves of the defence's have one where West has these counts
-unfoldable pub has_defences : Question → List DefenceMove → Counts → ClassHistory → ClassMove → Bool
+unfoldable pub has_defences : Question → List DefenceMove → ClassLayout → ClassHistory → ClassMove → Bool
 has_defences question moves west history move =
     list_any (λ (entry : DefenceMove). bytes_eq (counts_at question entry.layout) west
     && same_class_history entry.history history && same_class_move entry.mv move) moves

@@ -1,6 +1,6 @@
 //! The plan and the defence that are read from the optimum of a support's program.
 ghost use Rattle.std.specs.Prelude.{◌≡◌, IfErr, IfOk};
-ghost use Rattle.suit_program.specs.Readings.ReadOptima.{AreRead, IsEndOf, IsOptimumFor};
+ghost use Rattle.suit_program.specs.Readings.ReadingOfAnOptimum.{AreRead, IsEndOf, IsOptimumFor};
 ghost use Rattle.suit_program.specs.Supports.Marks.{support_seen};
 
 use crate::readings::plan_den::plan_den;

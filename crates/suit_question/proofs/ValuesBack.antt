@@ -10,7 +10,7 @@ use Rattle.std.proofs.lemmas.List.Elements.{All-from_recursion, All-contains}
 use Rattle.suit_cards.specs.Holdings.{IsHolding, FallsBelow, suit, text_of}
 use Rattle.suit_cards.specs.Ranks.{letters, letter_of}
 use Rattle.suit_cards.proofs.RankLetters.{Contains-suit}
-use Rattle.suit_cards.proofs.WrittenCards.{holding_read-text_of}
+use Rattle.suit_cards.proofs.HoldingTextReadsBack.{holding_read-text_of}
 use Rattle.suit_game.specs.Validity.{AreEntries, IsGoal}
 use Rattle.suit_game.specs.declared.limits.TheConstants.{HAND_SIZE}
 use Rattle.suit_game.specs.declared.question.LeadAt.{LeadAt}

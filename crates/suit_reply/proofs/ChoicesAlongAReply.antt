@@ -15,7 +15,7 @@ use Rattle.suit_classes.specs.declared.class_moves.ClassMove.{ClassMove}
 use Rattle.suit_classes.specs.ClassMoves.{ClassHistory, same_class_move}
 use Rattle.suit_game.proofs.DistinctElements.{IsOnce}
 use Rattle.suit_classes.proofs.SameMoves.{same_move-itself, same_move_is}
-use Rattle.suit_classes.proofs.ToldHistories.{and-assoc, and-last}
+use Rattle.suit_classes.proofs.AllowsOneMoveMore.{and-assoc, and-last}
 use Rattle.suit_plans.specs.BestReplies.{Reply, choices, follows, has_choice, histories_within}
 use Rattle.suit_plans.specs.BestReplies.{is_reached, reply_move}
 use Rattle.suit_plans.proofs.ReplyChoices.{reply_move_found}

@@ -8,7 +8,7 @@ use Rattle.std.specs.Ordering.{int_eq}
 use Rattle.std.proofs.lemmas.Bool.{cases_Bool, false≢true}
 use Rattle.std.proofs.lemmas.Bool.Decides.{Decides-int_eq, not_from_Decides}
 use Rattle.std.proofs.lemmas.Int.{ints}
-use Rattle.suit_cards.specs.Cards.{Counts}
+use Rattle.suit_cards.specs.Cards.{ClassLayout}
 use Rattle.suit_game.specs.declared.question.Question.{Question}
 use Rattle.suit_classes.specs.declared.class_moves.ClassMove.{ClassMove}
 use Rattle.suit_classes.specs.declared.class_turn.ClassTurn.{ClassTurn}
@@ -32,10 +32,10 @@ use Rattle.suit_reply.specs.NodeReplies.{NodeReplyView, nothing}
 use Rattle.suit_reply.specs.Turns.{finished, gathered}
 use Rattle.suit_reply.specs.NodeMoves.{is_first_of}
 use Rattle.suit_reply.specs.AgainstPlan.{least_at, node_least, nodes_for, plan_share}
-use Rattle.suit_tree.proofs.FittedNodes.{map_fitted, map_fitted_kept}
+use Rattle.suit_tree.proofs.NodesFitMoves.{map_fitted, map_fitted_kept}
 use Rattle.suit_reply.proofs.WorthAtATurn.SumOrBest.{found_with, least_gathered, results_of, same_found}
 use Rattle.suit_plans.proofs.WhoseTurns.{Declarers, Defences, Over, WhoseTurn, whose_turn}
-use Rattle.suit_tree.proofs.HeldMoves.{held_decides, held_moves, index_goes_on}
+use Rattle.suit_tree.proofs.ClassMovesLeadToNodes.{held_decides, held_moves, index_goes_on}
 use Rattle.suit_tree.specs.Nodes.{is_held}
 use Rattle.suit_reply.proofs.OwnMovesGoOn.{AreBelow, AreChildren, IsDecided, IsDeclarersTurn, IsDefencesTurn, IsGoing}
 use Rattle.suit_reply.proofs.OwnMovesGoOn.{NotDeclarersTurn, NotDefencesTurn, layout_counts, layout_moves, moves_below}
@@ -149,7 +149,7 @@ module _ (question : Question) (plan : Plan) (index : ℕ) where
   own_told more history mass node move moves is stands fit tells same live going own not_theirs some =
       let reply : Reply = reply_at question plan index in
       let view : ClassView = class_after question history in
-      let counts : Counts = layout_counts question index in
+      let counts : ClassLayout = layout_counts question index in
       let nodes : List Node = children_of node in
       let next : Node → ℤ → NodeReplyView =
       λ child part. node_least more plan.rows index (history ++ move_of child ∷ []) part child in
@@ -193,7 +193,7 @@ module _ (question : Question) (plan : Plan) (index : ℕ) where
   defences_told more history mass node move moves is stands fit tells same live going not_own theirs some =
       let reply : Reply = reply_at question plan index in
       let view : ClassView = class_after question history in
-      let counts : Counts = layout_counts question index in
+      let counts : ClassLayout = layout_counts question index in
       let nodes : List Node = children_of node in
       let next : Node → ℤ → NodeReplyView =
       λ child part. node_least more plan.rows index (history ++ move_of child ∷ []) part child in

@@ -38,10 +38,10 @@ use Rattle.suit_reply.specs.NodeReplies.{NodeReplyView, nothing}
 use Rattle.suit_reply.specs.Turns.{TurnView, finished, gathered, gathered_none, joined}
 use Rattle.suit_reply.specs.AgainstPlan.{LeastNode, goes_to, least_at, node_least, nodes_for, plan_share}
 use Rattle.suit_reply.specs.NodeMoves.{is_first_of}
-use Rattle.suit_tree.proofs.FittedNodes.{fitted_node}
+use Rattle.suit_tree.proofs.NodesFitMoves.{fitted_node}
 use Rattle.suit_reply.proofs.WorthAtATurn.SumOrBest.{found_with, gathered-push}
 use Rattle.suit_plans.proofs.WhoseTurns.{Declarers, Defences, Over, WhoseTurn, whose_turn}
-use Rattle.suit_tree.proofs.HeldMoves.{held_decides, index_goes_on}
+use Rattle.suit_tree.proofs.ClassMovesLeadToNodes.{held_decides, index_goes_on}
 use Rattle.suit_tree.specs.Nodes.{is_held}
 use Rattle.suit_reply.proofs.OwnMovesGoOn.{AreBelow, AreChildren, IsGoing, layout_counts, layout_moves, moves_below}
 use Rattle.suit_reply.proofs.OwnMovesGoOn.{own_moves_on}

@@ -10,7 +10,7 @@ use Rattle.suit_plans.specs.Masses.{plan_mass}
 use Rattle.suit_plans.specs.Properness.{sum_of}
 use Rattle.suit_plans.specs.ReplyLaws.{IsPaid}
 use Rattle.suit_plans.proofs.NumberSums.{first_sums}
-use Rattle.suit_plans.proofs.PaidWorths.{sum_paid}
+use Rattle.suit_plans.proofs.AtMostThirteenTricks.{sum_paid}
 use Rattle.suit_plans.proofs.PlanWorths.{plans_paid}
 use Rattle.suit_plans.specs.declared.plan.Plan.{Plan}
 use Rattle.suit_reply.proofs.OwnMovesGoOn.{IsDeclarersTurn, layout_counts, layout_moves}

@@ -10,7 +10,7 @@ use Rattle.std.proofs.lemmas.List.Concat.{flat_map-append}
 use Rattle.std.proofs.lemmas.List.Elements.{Contains-get_or}
 use Rattle.std.proofs.lemmas.List.FromFn.{get_or-range_with_len, length-range_with_len}
 use Rattle.std.proofs.lemmas.Simd.{map-map}
-use Rattle.suit_cards.specs.Cards.{Counts, Indices}
+use Rattle.suit_cards.specs.Cards.{ClassLayout, Indices}
 use Rattle.suit_game.specs.declared.question.Question.{Question}
 use Rattle.suit_game.specs.Validity.{IsValid}
 use Rattle.suit_game.proofs.EachElement.{Contains-range}
@@ -20,9 +20,9 @@ use Rattle.suit_plans.specs.declared.plan.Plan.{Plan}
 use Rattle.suit_plans.specs.declared.plan.Row.{Row}
 use Rattle.suit_plans.specs.BestReplies.{least, least_reply, least_reply_in, reply_to_plan, worth}
 use Rattle.suit_plans.specs.Properness.{IsProperPlan, sum_of}
-use Rattle.suit_plans.proofs.BoundedReplies.{first_mass, leasts_bounded, weighed_paid}
+use Rattle.suit_plans.proofs.RepliesAreBounded.{first_mass, leasts_bounded, weighed_paid}
 use Rattle.suit_plans.proofs.ProperPlans.{plans_are_realised, proper_plan}
-use Rattle.suit_plans.proofs.SharedSums.{sum_positive}
+use Rattle.suit_plans.proofs.SharesAddUpToTheMass.{sum_positive}
 use Rattle.suit_num.proofs.IntegerLaws.{int_le-true}
 use Rattle.suit_tree.specs.declared.node.Node.{Node}
 use Rattle.suit_tree.specs.declared.tree.Tree.{Tree}
@@ -111,12 +111,13 @@ asked_at_root tree plan index rows history mass node case same none whole root b
     (subst (LeastNode plan.rows index [] plan.den) (sym root) (root_asked tree plan index case below))))
 
 -- the weight that stands at an index
-pub weighs_at : (question : Question) (layouts : List (Counts × ℕ)) (index : ℕ) (layout : Counts × ℕ)
+pub weighs_at : (question : Question) (layouts : List (ClassLayout × ℕ)) (index : ℕ) (layout : ClassLayout × ℕ)
     → layouts ≡ layouts_of question → index < length layouts
     → (get_or layouts index layout).1 ≡ (layout_at question index).1
 weighs_at question layouts index layout same below =
-    ap (λ (other : Counts × ℕ). other.1)
-    (get_or_default layouts index layout ([], 0) below ∙ ap (λ (l : List (Counts × ℕ)). get_or l index ([], 0)) same)
+    ap (λ (other : ClassLayout × ℕ). other.1)
+    (get_or_default layouts index layout ([], 0) below ∙ ap (λ (l : List (ClassLayout × ℕ)). get_or l index
+        ([], 0)) same)
 
 -- ---- some class layouts
 
@@ -192,10 +193,10 @@ least_by_indices : (question : Question) (plan : Plan)
     → least question plan ≡ sum_of (map (weighed_worth question plan) (layout_indices (layouts_of question)))
 unfolding least
 least_by_indices question plan =
-    let layouts : List (Counts × ℕ) = layouts_of question in
-    let weighed : Counts × ℕ → ℤ = λ layout. pos layout.1 *ℤ worth (reply_to_plan question plan layout.0) [] in
+    let layouts : List (ClassLayout × ℕ) = layouts_of question in
+    let weighed : ClassLayout × ℕ → ℤ = λ layout. pos layout.1 *ℤ worth (reply_to_plan question plan layout.0) [] in
     sym (ap sum_of (sym (map-map weighed (layout_at question) (layout_indices layouts)))
-    ∙ ap (λ (l : List (Counts × ℕ)). sum_of (map weighed l)) (by_indices layouts ([], 0)))
+    ∙ ap (λ (l : List (ClassLayout × ℕ)). sum_of (map weighed l)) (by_indices layouts ([], 0)))
 
 module _ (question : Question) (plan : Plan) (count : ℕ) (number : ℤ) (moves : List DefenceMove)
     (all : count ≡ length (layouts_of question)) (found : IsReplyIn question plan 0 count number moves) where

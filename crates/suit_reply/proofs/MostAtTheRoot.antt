@@ -8,17 +8,17 @@ use Rattle.std.specs.List.{range_with_len}
 use Rattle.std.proofs.lemmas.Int.{ints}
 use Rattle.std.proofs.lemmas.List.Elements.{Contains-get_or}
 use Rattle.suit_num.proofs.IntegerLaws.{le-mul_right, int_le-true}
-use Rattle.suit_cards.specs.Cards.{Counts, Indices}
+use Rattle.suit_cards.specs.Cards.{ClassLayout, Indices}
 use Rattle.suit_game.specs.declared.question.Question.{Question}
 use Rattle.suit_game.specs.Layouts.{total as all_weights}
 use Rattle.suit_game.specs.Validity.{IsValid}
 use Rattle.suit_game.proofs.EachElement.{Contains-first, Contains-later, map_same}
-use Rattle.suit_game.proofs.FilledPlaces.{total_at_most}
+use Rattle.suit_game.proofs.WhatAllLayoutsWeigh.{total_at_most}
 use Rattle.suit_classes.specs.declared.class_moves.ClassMove.{ClassMove}
 use Rattle.suit_classes.specs.Classes.{defence_sizes, hands_of, sizes_of}
 use Rattle.suit_classes.proofs.DefenceSizes.{sum-defence_sizes}
 use Rattle.suit_classes.specs.ClassMoves.{ClassHistory}
-use Rattle.suit_layouts.proofs.ListedCounts.{class_layouts_exact}
+use Rattle.suit_layouts.proofs.WhatHasWeightIsListed.{class_layouts_exact}
 use Rattle.suit_layouts.specs.ClassLayouts.{class_layouts}
 use Rattle.suit_plans.specs.BestReplies.{reply_to_defence}
 use Rattle.suit_plans.specs.Masses.{weight_of}
@@ -49,7 +49,7 @@ use Rattle.suit_plans.specs.declared.plan.TheConstants.{MOST_DEN}
 -- their weights are small
 pub layouts_weigh : (question : Question) → IsValid question → All (λ layout. layout.1 ≤ 10400600) (layouts_of question)
 layouts_weigh question valid = λ k d below.
-    let layout : Counts × ℕ = get_or (layouts_of question) k d in
+    let layout : ClassLayout × ℕ = get_or (layouts_of question) k d in
     let exact =
     (class_layouts_exact question (defence_sizes (hands_of question)) layout.0 layout.1
     (sum-defence_sizes (hands_of question))).0 (Contains-get_or (layouts_of question) k d below) in
@@ -67,7 +67,7 @@ den_within question defence proper =
 -- ---- the masses of the empty history
 
 -- the masses of the empty history, by the indices of the class layouts
-abbrev pub weighed_masses : List (Counts × ℕ) → ℤ → LayoutMasses
+abbrev pub weighed_masses : List (ClassLayout × ℕ) → ℤ → LayoutMasses
 weighed_masses layouts den =
     map (λ index. (index, pos (get_or layouts index ([], 0)).1 *ℤ den)) (range_with_len 0 (length layouts))
 
@@ -91,7 +91,7 @@ module _ (question : Question) (defence : Defence) (valid : IsValid question)
   -- they are what a proper defence lets through to it
   pub first_masses : weighed_masses (layouts_of question) defence.den ≡ masses_at question defence []
   first_masses =
-      let layouts : List (Counts × ℕ) = layouts_of question in
+      let layouts : List (ClassLayout × ℕ) = layouts_of question in
       let indices : Indices = layout_indices layouts in
       let mass : ℕ → ℤ = mass_at question defence [] in
       let weighed : ℕ → ℕ × ℤ = λ index. (index, pos (layout_at question index).1 *ℤ defence.den) in
@@ -127,7 +127,7 @@ module _ (question : Question) (defence : Defence) (valid : IsValid question)
 
 -- ---- the root
 
-module _ (tree : Tree) (defence : Defence) (layouts : List (Counts × ℕ)) (rows : List DefenceRow)
+module _ (tree : Tree) (defence : Defence) (layouts : List (ClassLayout × ℕ)) (rows : List DefenceRow)
     (history : ClassHistory) (masses : LayoutMasses) (root : Node) (is : IsDefenceFor tree defence)
     (are : layouts ≡ tree.layouts.items) (given : rows ≡ defence.rows) (none : history ≡ [])
     (weighed : masses ≡ weighed_masses layouts defence.den) (top : root ≡ tree.root) where
@@ -137,7 +137,7 @@ module _ (tree : Tree) (defence : Defence) (layouts : List (Counts × ℕ)) (row
       let question : Question = is.question in
       let listed : layouts ≡ layouts_of question = are ∙ is.grown.layouts in
       let whole : masses ≡ masses_at question defence [] =
-      weighed ∙ ap (λ (l : List (Counts × ℕ)). weighed_masses l defence.den) listed
+      weighed ∙ ap (λ (l : List (ClassLayout × ℕ)). weighed_masses l defence.den) listed
       ∙ first_masses question defence is.valid is.proper in
       subst (λ (h : ClassHistory). MostNode layouts rows h masses root) (sym none)
       (record {
@@ -162,10 +162,10 @@ module _ (tree : Tree) (defence : Defence) (layouts : List (Counts × ℕ)) (row
       let question : Question = is.question in
       let listed : layouts ≡ layouts_of question = are ∙ is.grown.layouts in
       let whole : masses ≡ masses_at question defence [] =
-      weighed ∙ ap (λ (l : List (Counts × ℕ)). weighed_masses l defence.den) listed
+      weighed ∙ ap (λ (l : List (ClassLayout × ℕ)). weighed_masses l defence.den) listed
       ∙ first_masses question defence is.valid is.proper in
       ap (λ (h : ClassHistory). node_most (MOST_MOVES - length h) layouts rows h masses root) none
-      ∙ ap (λ (l : List (Counts × ℕ)). node_most MOST_MOVES l rows [] masses root) listed
+      ∙ ap (λ (l : List (ClassLayout × ℕ)). node_most MOST_MOVES l rows [] masses root) listed
       ∙ ap (λ (l : List DefenceRow). node_most MOST_MOVES (layouts_of question) l [] masses root) given
       ∙ ap (λ (node : Node). node_most MOST_MOVES (layouts_of question) defence.rows [] masses node) top
       ∙ most_by_nodes question defence MOST_MOVES [] masses tree.root (most_first question defence is.valid is.proper)

@@ -7,7 +7,7 @@ use Rattle.std.proofs.Common.{◌≡◌, ℕ, zero, suc, Bool, true, false, List
 use Rattle.std.specs.Prelude.{Contains, filter, if◌then◌else◌, pos, unwrap_or, ℤ, ◌*ℤ◌}
 use Rattle.std.proofs.lemmas.Bool.{false≢true}
 use Rattle.std.proofs.Math.IntN.{*ℤ_comm, zero-*ℤ}
-use Rattle.suit_cards.specs.Cards.{Counts}
+use Rattle.suit_cards.specs.Cards.{ClassLayout}
 use Rattle.suit_game.specs.declared.question.Question.{Question}
 use Rattle.suit_classes.specs.declared.class_moves.ClassMove.{ClassMove}
 use Rattle.suit_classes.specs.declared.class_turn.ClassTurn.{ClassTurn}
@@ -30,7 +30,7 @@ use Rattle.suit_reply.specs.Turns.{finished, gathered}
 use Rattle.suit_reply.specs.AgainstDefence.{LayoutMasses, if_live, is_live, layout_share, most_at, node_most}
 use Rattle.suit_reply.specs.AgainstDefence.{shared_masses}
 use Rattle.suit_reply.proofs.MostByNodes.WhichLayoutsAllow.{earned_at, mass_at}
-use Rattle.suit_tree.proofs.FittedNodes.{map_fitted}
+use Rattle.suit_tree.proofs.NodesFitMoves.{map_fitted}
 use Rattle.suit_reply.proofs.WorthAtATurn.SumOrBest.{found_with, most_gathered, results_of, same_found}
 use Rattle.suit_plans.proofs.WhoseTurns.{Declarers, Defences, Over, WhoseTurn, whose_turn}
 use Rattle.suit_reply.proofs.OwnMovesGoOn.{AreBelow, AreChildren, IsDecided, IsDeclarersTurn, IsDefencesTurn, IsGoing}
@@ -46,14 +46,15 @@ use Rattle.suit_reply.proofs.ChoicesAlongAReply.WalkOfAReply.{walked}
 -- ---- where a history is decided
 
 -- the masses with which a node below is asked at a turn of the defence
-abbrev passed_masses : List (Counts × ℕ) → List DefenceRow → List Node → ClassHistory → LayoutMasses → Node → ClassMove
+abbrev passed_masses : List (ClassLayout × ℕ) → List DefenceRow → List Node → ClassHistory → LayoutMasses → Node
+    → ClassMove
     → LayoutMasses
 passed_masses layouts rows nodes history masses child move =
     filter is_live (map (layout_share layouts rows nodes history move)
     (filter (λ held. holds_index held.0 child) masses))
 
 at_declarers : (turn : ClassTurn) (payoff : ℕ) (masses : LayoutMasses) (history : ClassHistory)
-    (layouts : List (Counts × ℕ)) (rows : List DefenceRow) (nodes : List Node)
+    (layouts : List (ClassLayout × ℕ)) (rows : List DefenceRow) (nodes : List Node)
     (next : Node → LayoutMasses → NodeReplyView) → is_declarers turn ≡ true
     → most_at turn payoff masses history
     (map (λ child. (move_of child, next child (shared_masses turn layouts rows nodes history masses child))) nodes)
@@ -64,7 +65,7 @@ at_declarers (turns.Defence seat) payoff masses history layouts rows nodes next 
 at_declarers turns.Decided payoff masses history layouts rows nodes next own = absurd (false≢true own)
 
 at_defences : (turn : ClassTurn) (payoff : ℕ) (masses : LayoutMasses) (history : ClassHistory)
-    (layouts : List (Counts × ℕ)) (rows : List DefenceRow) (nodes : List Node)
+    (layouts : List (ClassLayout × ℕ)) (rows : List DefenceRow) (nodes : List Node)
     (next : Node → LayoutMasses → NodeReplyView) → is_defences turn ≡ true
     → most_at turn payoff masses history
     (map (λ child. (move_of child, next child (shared_masses turn layouts rows nodes history masses child))) nodes)
@@ -86,7 +87,7 @@ TellsMost more question defence history =
     ≡ found_next more (reply_to_defence question defence) history move
 
 -- the moves to the nodes below a node, each with what is told there
-abbrev told_below : ℕ → List (Counts × ℕ) → List DefenceRow → ClassHistory → LayoutMasses → Node
+abbrev told_below : ℕ → List (ClassLayout × ℕ) → List DefenceRow → ClassHistory → LayoutMasses → Node
     → List (ClassMove × NodeReplyView)
 told_below more layouts rows history masses node =
     map (λ child. told_of (move_of child)
@@ -151,7 +152,7 @@ module _ (question : Question) (defence : Defence) where
       ≡ found_from (suc more) (reply_to_defence question defence) history
   own_told more history masses node move moves is stands fit tells same live own not_theirs some =
       let reply : Reply = reply_to_defence question defence in
-      let layouts : List (Counts × ℕ) = layouts_of question in
+      let layouts : List (ClassLayout × ℕ) = layouts_of question in
       let nodes : List Node = children_of node in
       let next : Node → LayoutMasses → NodeReplyView =
       λ child part. node_most more layouts defence.rows (history ++ move_of child ∷ []) part child in
@@ -181,7 +182,7 @@ module _ (question : Question) (defence : Defence) where
       ≡ found_from (suc more) (reply_to_defence question defence) history
   defences_told more history masses node move moves is stands fit tells same live going not_own theirs some =
       let reply : Reply = reply_to_defence question defence in
-      let layouts : List (Counts × ℕ) = layouts_of question in
+      let layouts : List (ClassLayout × ℕ) = layouts_of question in
       let nodes : List Node = children_of node in
       let next : Node → LayoutMasses → NodeReplyView =
       λ child part. node_most more layouts defence.rows (history ++ move_of child ∷ []) part child in

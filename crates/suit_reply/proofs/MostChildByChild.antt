@@ -9,7 +9,7 @@ use Rattle.std.proofs.lemmas.Bool.{false≢true}
 use Rattle.std.proofs.lemmas.Bool.Decides.{nat_tests}
 use Rattle.std.proofs.lemmas.Int.{ints}
 use Rattle.std.proofs.lemmas.List.{length-append, take_more}
-use Rattle.suit_cards.specs.Cards.{Counts}
+use Rattle.suit_cards.specs.Cards.{ClassLayout}
 use Rattle.suit_game.specs.declared.question.Question.{Question}
 use Rattle.suit_game.proofs.EachElement.{map_same}
 use Rattle.suit_classes.specs.declared.class_moves.ClassMove.{ClassMove}
@@ -33,7 +33,7 @@ use Rattle.suit_reply.specs.Turns.{TurnView, finished, gathered, joined}
 use Rattle.suit_reply.specs.AgainstDefence.{LayoutMasses, MostNode, if_live, most_at, most_gathers, node_most}
 use Rattle.suit_reply.specs.AgainstDefence.{shared_masses}
 use Rattle.suit_reply.proofs.MostChildByChild.ChildrenAreAsked.{HasBelow, IsStep, has_below, masses_below, node_case, none_gathered}
-use Rattle.suit_tree.proofs.FittedNodes.{map_fitted}
+use Rattle.suit_tree.proofs.NodesFitMoves.{map_fitted}
 use Rattle.suit_reply.proofs.WorthAtATurn.SumOrBest.{found_with, gathered-push, results_of, sum_gathered, worths_of}
 use Rattle.suit_plans.proofs.WhoseTurns.{Declarers, Defences, Over, WhoseTurn, whose_turn}
 use Rattle.suit_reply.proofs.OwnMovesGoOn.{AreBelow, IsDefencesTurn, IsGoing, layouts_of}
@@ -45,7 +45,7 @@ use Rattle.suit_reply.proofs.WorthAtATurn.{found_next}
 use Rattle.suit_game.specs.declared.limits.TheConstants.{MOST_MOVES}
 
 -- a node below a node: its move, with what is told there
-abbrev pub told_at : List (Counts × ℕ) → List DefenceRow → ClassHistory → LayoutMasses → Node → Node
+abbrev pub told_at : List (ClassLayout × ℕ) → List DefenceRow → ClassHistory → LayoutMasses → Node → Node
     → ClassMove × NodeReplyView
 told_at layouts rows history masses node child = (
   move_of child,
@@ -62,7 +62,7 @@ gathered_more {X} rule told xs i d below =
     ap (λ (l : List X). gathered rule (map told l)) (take_more xs i d below)
     ∙ gathered-push rule told (take i xs) (get_or xs i d)
 
-module _ (layouts : List (Counts × ℕ)) (rows : List DefenceRow) (history : ClassHistory) (masses : LayoutMasses)
+module _ (layouts : List (ClassLayout × ℕ)) (rows : List DefenceRow) (history : ClassHistory) (masses : LayoutMasses)
     (node : Node) where
   -- what is found after a step is what is told there
   pub told_is : (i : ℕ) (child : Node) (next : ClassHistory) (passed : LayoutMasses) (found : NodeReplyView)
@@ -95,13 +95,13 @@ module _ (layouts : List (Counts × ℕ)) (rows : List DefenceRow) (history : Cl
       ∙ sym (gathered_more rule told nodes i child step.within)
 
 -- all nodes below it
-abbrev pub told_children : List (Counts × ℕ) → List DefenceRow → ClassHistory → LayoutMasses → Node
+abbrev pub told_children : List (ClassLayout × ℕ) → List DefenceRow → ClassHistory → LayoutMasses → Node
     → List (ClassMove × NodeReplyView)
 told_children layouts rows history masses node = map (told_at layouts rows history masses node) (children_of node)
 
 -- ---- what a node tells
 
-told_by : (more : ℕ) (question : Question) (layouts : List (Counts × ℕ)) (rows : List DefenceRow)
+told_by : (more : ℕ) (question : Question) (layouts : List (ClassLayout × ℕ)) (rows : List DefenceRow)
     (history : ClassHistory) (masses : LayoutMasses) (node : Node) → more ≡ MOST_MOVES - length history
     → IsTreeAt more question history node
     → node_most more layouts rows history masses node
@@ -184,7 +184,7 @@ sum_theirs (turns.Declarer seat) gathers = absurd (cc)
 sum_theirs (turns.Defence seat) gathers = refl
 sum_theirs turns.Decided gathers = absurd (cc)
 
-module _ (layouts : List (Counts × ℕ)) (rows : List DefenceRow) (history : ClassHistory) (masses : LayoutMasses)
+module _ (layouts : List (ClassLayout × ℕ)) (rows : List DefenceRow) (history : ClassHistory) (masses : LayoutMasses)
     (node : Node) (is : MostNode layouts rows history masses node) where
   -- it tells what is gathered from the nodes below, where some mass comes to it
   node_tells : node_most (MOST_MOVES - length history) layouts rows history masses node
@@ -245,7 +245,8 @@ module _ (layouts : List (Counts × ℕ)) (rows : List DefenceRow) (history : Cl
       (node_most (MOST_MOVES - length (history ++ m ∷ [])) layouts rows (history ++ m ∷ []) given child))
       (ap (λ to. unwrap_or to ShowOut) fits.0)
       ∙ ap (λ (fuel : ℕ). told_of move (node_most fuel layouts rows (history ++ move ∷ []) given child)) (sym next.left)
-      ∙ ap (λ (l : List (Counts × ℕ)). told_of move (node_most below.less l rows (history ++ move ∷ []) given child))
+      ∙ ap (λ (l : List (ClassLayout × ℕ)). told_of move (node_most below.less l rows
+          (history ++ move ∷ []) given child))
       (sym is.is_layouts)
       ∙ ap (λ (l : List DefenceRow). told_of move
       (node_most below.less (layouts_of question) l (history ++ move ∷ []) given child)) (sym is.is_rows)

@@ -6,11 +6,11 @@ use Rattle.std.proofs.lemmas.Int.{ints}
 use Rattle.std.proofs.lemmas.List.Elements.{All-contains, filter_agree, filter_passes}
 use Rattle.std.proofs.lemmas.Bool.{lt-ltb}
 use Rattle.std.proofs.lemmas.Simd.{map-map}
-use Rattle.suit_cards.specs.Cards.{Counts, Indices}
+use Rattle.suit_cards.specs.Cards.{ClassLayout, Indices}
 use Rattle.suit_game.specs.declared.question.Question.{Question}
 use Rattle.suit_game.proofs.EachElement.{Contains-nil, map_same}
 use Rattle.suit_classes.specs.declared.class_moves.ClassMove.{ClassMove}
-use Rattle.suit_classes.specs.AllowedHistories.{is_among}
+use Rattle.suit_classes.specs.WhatIsAllowed.{is_among}
 use Rattle.suit_classes.specs.ClassPlaces.{class_after, class_decided, class_payoff}
 use Rattle.suit_classes.specs.ClassMoves.{ClassHistory}
 use Rattle.suit_plans.specs.BestReplies.{Reply, reply_to_defence, worth, worth_within}
@@ -19,9 +19,9 @@ use Rattle.suit_plans.specs.Properness.{some_allows, sum_of}
 use Rattle.suit_plans.specs.ReplyLaws.{IsPaid, masses_of}
 use Rattle.suit_plans.proofs.DefenceWorths.{defences_paid}
 use Rattle.suit_plans.proofs.NumberSums.{first_sums, sum_kept, sums_exchanged}
-use Rattle.suit_plans.proofs.PaidWorths.{paid_most, product_paid, sum_paid}
+use Rattle.suit_plans.proofs.AtMostThirteenTricks.{paid_most, product_paid, sum_paid}
 use Rattle.suit_plans.specs.declared.defence.Defence.{Defence}
-use Rattle.suit_plans.proofs.SharedSums.{within_sum}
+use Rattle.suit_plans.proofs.SharesAddUpToTheMass.{within_sum}
 use Rattle.suit_tree.specs.declared.node.Node.{Node}
 use Rattle.suit_tree.specs.Nodes.{payoff_at}
 use Rattle.suit_tree.specs.Trees.{StandsAt, allowing, moves_on}
@@ -30,7 +30,7 @@ use Rattle.suit_reply.specs.LayoutsReplies.{layout_at}
 use Rattle.suit_reply.proofs.MostByNodes.WhichLayoutsAllow.{allowing_at, mass_at, some_allows_at}
 use Rattle.suit_reply.proofs.OneMoreAdded.{le_through}
 use Rattle.suit_plans.proofs.WhoseTurns.{Declarers, Defences, Over, WhoseTurn, whose_turn}
-use Rattle.suit_tree.proofs.HeldMoves.{held_is, held_moves}
+use Rattle.suit_tree.proofs.ClassMovesLeadToNodes.{held_is, held_moves}
 use Rattle.suit_tree.specs.Nodes.{is_held}
 use Rattle.suit_reply.proofs.OwnMovesGoOn.{IsDefencesTurn, IsGoing, layout_counts, layout_moves}
 use Rattle.suit_reply.proofs.MostByNodes.LiveMasses.{held_at, live_total}
@@ -171,10 +171,10 @@ module _ (question : Question) (defence : Defence) where
       → IsPaid (mass_sum question defence history) (worth_within more (reply_to_defence question defence) history)
   most_paid more history is =
       let reply : Reply = reply_to_defence question defence in
-      let mass : Counts × ℕ → ℤ = λ layout. defence_mass question defence layout.0 history in
+      let mass : ClassLayout × ℕ → ℤ = λ layout. defence_mass question defence layout.0 history in
       let indices : Indices = allowing question history in
       let masses : sum_of (masses_of question defence history) ≡ mass_sum question defence history =
-      ap (λ (l : List (Counts × ℕ)). sum_of (map mass l)) (allowing_at question history)
+      ap (λ (l : List (ClassLayout × ℕ)). sum_of (map mass l)) (allowing_at question history)
       ∙ ap sum_of (map-map mass (layout_at question) indices) ∙ sym (sum_all more history is) in
       let some : some_allows question history ≡ true =
       some_allows_at question history ∙ lt-ltb 0 (length indices) is.some in

@@ -5,41 +5,41 @@ use Rattle.std.specs.Prelude.{Contains, Some, get_or, nat_lt, unwrap_or}
 use Rattle.std.proofs.lemmas.Bool.{ltb-true}
 use Rattle.std.proofs.lemmas.Bool.Decides.{same_from_decides}
 use Rattle.std.proofs.lemmas.List.Elements.{Contains-get_or, filter_agree}
-use Rattle.suit_cards.specs.Cards.{Counts, Indices}
+use Rattle.suit_cards.specs.Cards.{ClassLayout, Indices}
 use Rattle.suit_game.specs.declared.question.Question.{Question}
 use Rattle.suit_game.specs.Validity.{IsValid}
 use Rattle.suit_classes.specs.declared.class_moves.ClassMove.{ClassMove}
-use Rattle.suit_classes.specs.AllowedHistories.{every_move, is_among}
+use Rattle.suit_classes.specs.WhatIsAllowed.{every_move, is_among}
 use Rattle.suit_classes.specs.ClassGame.{Allows}
 use Rattle.suit_classes.specs.declared.class_view.ClassView.{ClassView}
 use Rattle.suit_classes.specs.ClassPlaces.{class_after, class_decided, class_moves}
 use Rattle.suit_classes.specs.ClassPlaces.{class_turn}
-use Rattle.suit_classes.proofs.AllowedHistories.{allowed_moves}
+use Rattle.suit_classes.proofs.AllowedMoveByMove.{allowed_moves}
 use Rattle.suit_classes.proofs.SameMoves.{among-Contains, among_contained}
 use Rattle.suit_classes.specs.Classes.{sizes_of}
 use Rattle.suit_classes.specs.ClassMoves.{ClassHistory}
 use Rattle.suit_classes.specs.declared.class_moves.ClassMove.TheVariants.{ShowOut}
 use Rattle.suit_plans.specs.Masses.{is_declarers, is_defences}
 use Rattle.suit_plans.proofs.TurnMoves.{declarers_moves}
-use Rattle.suit_classes.proofs.UndecidedMoves.{HasFirst, some_move as first_move}
+use Rattle.suit_classes.proofs.UndecidedHasAMove.{HasFirst, some_move as first_move}
 use Rattle.suit_tree.specs.declared.node.Node.{Node}
 use Rattle.suit_tree.specs.Nodes.{move_of, move_to}
 use Rattle.suit_tree.specs.Trees.{AllFit, IsTreeAt, allowing, counts_at, moves_on}
-use Rattle.suit_tree.proofs.CountedNodes.{kept_layouts}
-use Rattle.suit_tree.proofs.HeldMoves.{going_on, index_goes_on, some_held}
+use Rattle.suit_tree.proofs.OneNodeAtEachPath.{kept_layouts}
+use Rattle.suit_tree.proofs.ClassMovesLeadToNodes.{going_on, index_goes_on, some_held}
 use Rattle.suit_classes.proofs.EveryMove.{class_moves_listed}
 use Rattle.suit_layouts.specs.ClassLayouts.{class_layouts}
-use Rattle.suit_tree.proofs.FittedNodes.{map_fitted}
+use Rattle.suit_tree.proofs.NodesFitMoves.{map_fitted}
 use Rattle.std.proofs.lemmas.List.{map-id}
 
 -- ---- class histories, and the nodes of a tree
 
 -- the class layouts of a question, each with its weight
-abbrev pub layouts_of : Question → List (Counts × ℕ)
+abbrev pub layouts_of : Question → List (ClassLayout × ℕ)
 layouts_of question = class_layouts question (sizes_of question)
 
 -- West's counts in the class layout with an index
-abbrev pub layout_counts : Question → ℕ → Counts
+abbrev pub layout_counts : Question → ℕ → ClassLayout
 layout_counts question index = counts_at (layouts_of question) index
 
 -- the class moves there, after a class history
@@ -85,7 +85,7 @@ none_first : (moves : List ClassMove) → HasFirst moves → moves ≡ [] → �
 none_first moves some none = let parts : moves ≡ some.first ∷ some.more = some.parts in absurd (cc)
 
 -- there is a class move
-pub some_move : (question : Question) (counts : Counts) (history : ClassHistory) → Allows question counts history
+pub some_move : (question : Question) (counts : ClassLayout) (history : ClassHistory) → Allows question counts history
     → IsGoing question history
     → class_moves (class_after question history) counts ≡ [] → ⊥
 some_move question counts history allows going none =
@@ -100,7 +100,7 @@ module _ (question : Question) (history : ClassHistory) (index : ℕ) (valid : I
   pub own_moves_on : IsGoing question history → IsDeclarersTurn question history
       → moves_on question history ≡ layout_moves question index history
   own_moves_on going own =
-      let layouts : List (Counts × ℕ) = layouts_of question in
+      let layouts : List (ClassLayout × ℕ) = layouts_of question in
       let view : ClassView = class_after question history in
       let moves : List ClassMove = class_moves view (counts_at layouts index) in
       let some : ClassMove → Bool = λ move. nat_lt 0 (length (allowing question (history ++ move ∷ []))) in

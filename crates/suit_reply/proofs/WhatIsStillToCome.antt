@@ -5,7 +5,7 @@ use Rattle.std.specs.Prelude.{filter}
 use Rattle.std.specs.List.{range_with_len}
 use Rattle.std.proofs.lemmas.List.Elements.{filter-append}
 use Rattle.std.proofs.lemmas.List.{append_assoc, at_drop_all, at_drop_more, length-append, map-append, take_at}
-use Rattle.suit_tree.proofs.GrowingSteps.{one_index}
+use Rattle.suit_tree.proofs.NodeGrowsChildByChild.{one_index}
 
 -- ---- tests
 

@@ -2,7 +2,7 @@
 -- What is said of nodes here serves the contracts of private functions alone, as in AgainstPlan.
 use Rattle.std.specs.Prelude.{◌≡◌, ℕ, zero, suc, ◌-◌, ◌<◌, ◌^◌, Bool, List, [], ◌∷◌, ◌++◌, Option, Some, None, filter}
 use Rattle.std.specs.Prelude.{length, map, ℤ, pos, ◌*ℤ◌, ◌≤ℤ◌, int_lt}
-use Rattle.suit_cards.specs.Cards.{Counts}
+use Rattle.suit_cards.specs.Cards.{ClassLayout}
 use Rattle.suit_game.specs.declared.question.Question.{Question}
 use Rattle.suit_game.specs.Validity.{IsValid}
 use Rattle.suit_game.specs.declared.limits.TheConstants.{MOST_MOVES}
@@ -46,7 +46,7 @@ pub record IsDefenceFor (tree : Tree) (defence : Defence) : Type 0 where
 -- a node stands at a class history of a question, which some class layout allows; the rows are those of a proper
 -- defence,
 -- and the masses are what they let through, without those that are 0
-pub record MostNode (layouts : List (Counts × ℕ)) (rows : List DefenceRow) (history : ClassHistory)
+pub record MostNode (layouts : List (ClassLayout × ℕ)) (rows : List DefenceRow) (history : ClassHistory)
     (masses : LayoutMasses) (node : Node) : Type 0 where
   pub question : Question
   pub defence : Defence
@@ -68,7 +68,8 @@ pub record MostNode (layouts : List (Counts × ℕ)) (rows : List DefenceRow) (h
 -- ---- what is found
 
 -- what a mass becomes with a defender's move
-abbrev pub layout_share : List (Counts × ℕ) → List DefenceRow → List Node → ClassHistory → ClassMove → ℕ × ℤ → ℕ × ℤ
+abbrev pub layout_share : List (ClassLayout × ℕ) → List DefenceRow → List Node → ClassHistory → ClassMove → ℕ × ℤ
+    → ℕ × ℤ
 layout_share layouts rows nodes history move held = (
   held.0,
   share (defence_shares_at rows (counts_at layouts held.0) history)
@@ -76,7 +77,8 @@ layout_share layouts rows nodes history move held = (
 )
 
 -- what the masses become at a child, without those that are 0; no move of declarer's changes them
-abbrev pub shared_masses : ClassTurn → List (Counts × ℕ) → List DefenceRow → List Node → ClassHistory → LayoutMasses
+abbrev pub shared_masses : ClassTurn → List (ClassLayout × ℕ) → List DefenceRow → List Node → ClassHistory
+    → LayoutMasses
     → Node → LayoutMasses
 shared_masses (turns.Defence seat) layouts rows nodes history masses child =
     filter is_live
@@ -106,7 +108,8 @@ if_live [] found = nothing
 if_live (held ∷ masses) found = found
 
 -- declarer's best reply to a defence from a node on, which at most so many moves follow
-unfoldable pub node_most : ℕ → List (Counts × ℕ) → List DefenceRow → ClassHistory → LayoutMasses → Node → NodeReplyView
+unfoldable pub node_most : ℕ → List (ClassLayout × ℕ) → List DefenceRow → ClassHistory → LayoutMasses → Node
+    → NodeReplyView
 node_most zero layouts rows history masses node =
     if_live masses (most_at (turn_at node) (payoff_at node) masses history [])
 node_most (suc more) layouts rows history masses node =

@@ -2,7 +2,7 @@
 -- This serves the contracts of private functions alone, as what is said of nodes does.
 use Rattle.std.specs.Prelude.{◌≡◌, ℕ, List, [], get_or, map, ℤ, pos, ◌*ℤ◌}
 use Rattle.std.specs.List.{flat_map, range_with_len}
-use Rattle.suit_cards.specs.Cards.{Counts}
+use Rattle.suit_cards.specs.Cards.{ClassLayout}
 use Rattle.suit_game.specs.declared.question.Question.{Question}
 use Rattle.suit_classes.specs.Classes.{sizes_of}
 use Rattle.suit_layouts.specs.ClassLayouts.{class_layouts}
@@ -12,7 +12,7 @@ use Rattle.suit_plans.specs.BestReplies.{least_reply_in, reply_to_plan, worth}
 use Rattle.suit_plans.specs.Properness.{sum_of}
 
 -- the class layout at an index, with its weight
-abbrev pub layout_at : Question → ℕ → Counts × ℕ
+abbrev pub layout_at : Question → ℕ → ClassLayout × ℕ
 layout_at question index = get_or (class_layouts question (sizes_of question)) index ([], 0)
 
 -- what it is worth to the defence that replies to a plan, by its weight

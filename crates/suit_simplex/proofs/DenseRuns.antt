@@ -10,7 +10,7 @@ use Rattle.suit_simplex.specs.Dense.{seen, IsKept, CanAdvance}
 use Rattle.suit_simplex.specs.declared.dense.Dense.{Dense}
 use Rattle.suit_linear.proofs.SoundTableaus.{IsSound}
 use Rattle.suit_linear.proofs.SoundRows.{cases_option}
-use Rattle.suit_linear.proofs.EnteringColumns.{entering_is_column}
+use Rattle.suit_linear.proofs.EnteringCostIsNegative.{entering_is_column}
 use Rattle.suit_linear.proofs.RatioTest.{leaving_is_row}
 use Rattle.suit_linear.proofs.PivotKeepsSound.{row_content, objective_content}
 use Rattle.suit_linear.proofs.Rays.{no_ray}

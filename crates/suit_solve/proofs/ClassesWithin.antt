@@ -7,7 +7,7 @@ use Rattle.std.specs.List.{AllByRecursion}
 use Rattle.std.proofs.Math.ListN.{set}
 use Rattle.std.proofs.lemmas.Bool.{and_parts, cases_eq, cases_lt, ltb-true}
 use Rattle.std.proofs.lemmas.List.{get_or-set_same, get_or-set_other, get_or_past, set_past}
-use Rattle.suit_cards.specs.Cards.{Counts, Indices}
+use Rattle.suit_cards.specs.Cards.{ClassLayout, Indices}
 use Rattle.suit_cards.specs.declared.seats.Seat.{Seat}
 use Rattle.suit_cards.specs.declared.seats.Seat.TheVariants.{N, E, S, W}
 use Rattle.suit_game.specs.declared.question.Question.{Question}
@@ -17,19 +17,19 @@ use Rattle.suit_classes.specs.declared.classes.Owner.TheVariants as owners
 use Rattle.suit_classes.specs.declared.class_moves.ClassMove.{ClassMove}
 use Rattle.suit_classes.specs.declared.class_moves.ClassMove.TheVariants.{Lead, Follow, ShowOut}
 use Rattle.suit_classes.specs.declared.class_trick.ClassTrick.TheVariants.{Closed, Open}
-use Rattle.suit_classes.specs.AllowedHistories.{allows, allows_from, is_among}
+use Rattle.suit_classes.specs.WhatIsAllowed.{allows, allows_from, is_among}
 use Rattle.suit_classes.specs.Classes.{Hands, class_count, hands_of}
 use Rattle.suit_classes.specs.ClassMoves.{ClassHistory}
 use Rattle.suit_classes.specs.ClassPlaces.{ClassTrick, ClassView, class_after, class_ended, class_led, class_moves}
 use Rattle.suit_classes.specs.ClassPlaces.{class_moves_in, class_numbers, class_passed, class_played, class_start}
 use Rattle.suit_classes.specs.ClassPlaces.{class_step, class_step_in, classes_left, counted_classes, dealt_to}
 use Rattle.suit_classes.specs.ClassPlaces.{left, may_lead, or_show_out, side, west_count}
-use Rattle.suit_classes.proofs.CountedLists.{class_size-none, dealt_to-at, length-dealt_to}
+use Rattle.suit_classes.proofs.CountedClassByClass.{class_size-none, dealt_to-at, length-dealt_to}
 use Rattle.suit_classes.proofs.SameMoves.{among-Contains}
 use Rattle.suit_answer.specs.Writable.{IsWritableMove}
 
 -- no card is counted in a class from a number on
-abbrev pub AreNone : ℕ → Counts → Type 0
+abbrev pub AreNone : ℕ → ClassLayout → Type 0
 AreNone classes counts = (class : ℕ) → classes ≤ class → get_or counts class 0 ≡ 0
 
 -- no card of a position is
@@ -40,7 +40,7 @@ pub record IsWithin (classes : ℕ) (view : ClassView) : Type 0 where
 
 -- ---- positions
 
-less_at : (classes : ℕ) (counts : Counts) (class : ℕ) → AreNone classes counts
+less_at : (classes : ℕ) (counts : ClassLayout) (class : ℕ) → AreNone classes counts
     → AreNone classes (set counts class (get_or counts class 0 - 1))
 less_at classes counts class none k past = elim (cases_lt class (length counts)) [
   | inl within ↦ elim (cases_eq k class) [
@@ -133,7 +133,7 @@ within_after question history =
 
 -- ---- moves
 
-counted_below : (classes : ℕ) (counts : Counts) → AreNone classes counts → (class : ℕ)
+counted_below : (classes : ℕ) (counts : ClassLayout) → AreNone classes counts → (class : ℕ)
     → nat_lt 0 (get_or counts class 0) ≡ true → class < classes
 counted_below classes counts none class some = elim (cases_lt class classes) [
   | inl below ↦ below
@@ -164,7 +164,7 @@ if_some true n some = refl
 if_some false n some = absurd (cc)
 
 module _ (classes : ℕ) (view : ClassView) (is : IsWithin classes view) where
-  left_below : (counts : Counts) (seat : Seat) (class : ℕ) → nat_lt 0 (left view counts seat class) ≡ true
+  left_below : (counts : ClassLayout) (seat : Seat) (class : ℕ) → nat_lt 0 (left view counts seat class) ≡ true
       → class < classes
   left_below counts N class some = counted_below classes view.north is.north class some
   left_below counts S class some = counted_below classes view.south is.south class some
@@ -177,7 +177,7 @@ module _ (classes : ℕ) (view : ClassView) (is : IsWithin classes view) where
       (if_some (nat_lt 0 (get_or view.defence class 0))
       (get_or view.defence class 0 - west_count view counts class - get_or view.gone_e class 0) some)
 
-  moves_in : (counts : Counts) (trick : ClassTrick)
+  moves_in : (counts : ClassLayout) (trick : ClassTrick)
       → AllByRecursion (IsWritableMove classes) (class_moves_in view counts trick)
   moves_in counts Closed =
       each_append (IsWritableMove classes)
@@ -197,12 +197,13 @@ module _ (classes : ℕ) (view : ClassView) (is : IsWithin classes view) where
       (left_below counts turn))
 
   -- each class move can be written
-  pub move_writable : (counts : Counts) (move : ClassMove) → Contains (class_moves view counts) move
+  pub move_writable : (counts : ClassLayout) (move : ClassMove) → Contains (class_moves view counts) move
       → IsWritableMove classes move
   move_writable counts move found =
       each_at (IsWritableMove classes) (class_moves view counts) move (moves_in counts view.trick) found
 
-moves_writable : (classes : ℕ) (counts : Counts) (view : ClassView) (history : ClassHistory) → IsWithin classes view
+moves_writable : (classes : ℕ) (counts : ClassLayout) (view : ClassView) (history : ClassHistory)
+    → IsWithin classes view
     → allows_from counts view history ≡ true → AllByRecursion (IsWritableMove classes) history
 unfolding allows_from
 moves_writable classes counts view [] is allowed = tt
@@ -214,7 +215,7 @@ moves_writable classes counts view (move ∷ history) is allowed =
     )
 
 -- and so can each class history that a class layout allows
-pub history_writable : (question : Question) (counts : Counts) (history : ClassHistory)
+pub history_writable : (question : Question) (counts : ClassLayout) (history : ClassHistory)
     → allows question counts history ≡ true → AllByRecursion (IsWritableMove (class_count (hands_of question))) history
 unfolding allows
 history_writable question counts history allowed =

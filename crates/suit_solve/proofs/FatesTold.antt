@@ -3,7 +3,7 @@ use Rattle.std.proofs.Common.{◌≡◌, ◌≢◌, ℕ, zero, suc, ◌<◌, Boo
 use Rattle.std.specs.Prelude.{nat_lt, if◌then◌else◌}
 use Rattle.suit_game.specs.declared.question.Question.{Question}
 use Rattle.suit_game.specs.Validity.{IsValid}
-use Rattle.suit_tree.specs.CountedHistories.{node_count}
+use Rattle.suit_tree.specs.WhatIsCounted.{node_count}
 use Rattle.suit_program.specs.Supports.{Support, first_support, with_moves}
 use Rattle.suit_answer.specs.declared.answer.Answer.{Answer}
 use Rattle.suit_solve.specs.declared.ends.SolveEnd.TheVariants as ends
@@ -13,7 +13,7 @@ use Rattle.suit_solve.specs.Fates.{Fate, fate, fate_after, fate_from, fate_in_ro
 use Rattle.suit_solve.specs.Rounds.{RoundEnd, PastSize, PastPivots, PastWidth, Met, Apart, Limitless, round_end}
 use Rattle.suit_solve.proofs.Growth.{apart_less}
 use Rattle.suit_solve.proofs.Rounds.{IsMetAt, ReadsAt, reads}
-use Rattle.suit_solve.proofs.ShownAnswers.{shown}
+use Rattle.suit_solve.proofs.AnswerShowsItsValue.{shown}
 use Rattle.suit_solve.proofs.WritableAnswers.{writable}
 use Rattle.suit_answer.specs.Writable.{IsWritable}
 

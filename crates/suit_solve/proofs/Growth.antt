@@ -6,10 +6,10 @@ use Rattle.std.specs.List.{list_any}
 use Rattle.std.proofs.lemmas.Bool.{and_from, or_cases}
 use Rattle.std.proofs.lemmas.Bool.Decides.{Decides-int_eq}
 use Rattle.std.proofs.lemmas.Slice.Eq.{bytes_eq-Decides}
-use Rattle.suit_cards.specs.Cards.{Counts}
+use Rattle.suit_cards.specs.Cards.{ClassLayout}
 use Rattle.suit_game.specs.declared.question.Question.{Question}
 use Rattle.suit_classes.specs.declared.class_moves.ClassMove.{ClassMove}
-use Rattle.suit_classes.specs.AllowedHistories.{is_among}
+use Rattle.suit_classes.specs.WhatIsAllowed.{is_among}
 use Rattle.suit_classes.specs.ClassMoves.{same_class_move}
 use Rattle.suit_classes.specs.ClassPlaces.{class_after, class_turn}
 use Rattle.suit_classes.proofs.SameMoves.{among_contained, same_move-itself}
@@ -61,7 +61,7 @@ module _ (question : Question) (support : Support) (own : List DeclarerMove) (th
   }
 
   -- and the moves that were added
-  own_added : (entry : DeclarerMove) (west : Counts) → Contains own entry
+  own_added : (entry : DeclarerMove) (west : ClassLayout) → Contains own entry
       → is_declarers (class_turn (class_after question entry.history)) ≡ true
       → Contains (legal_moves question west entry.history) entry.mv
       → is_among (supported_moves question more west entry.history) entry.mv ≡ true
@@ -83,7 +83,7 @@ module _ (question : Question) (support : Support) (own : List DeclarerMove) (th
       → is_among (supported_moves question more (counts_at question entry.layout) entry.history) entry.mv ≡ true
   unfolding supported_moves with_moves has_defences
   their_added entry found turn legal =
-      let west : Counts = counts_at question entry.layout in
+      let west : ClassLayout = counts_at question entry.layout in
       among_contained (supported_moves question more west entry.history) entry.mv
       (named_first (names question more west entry.history) (legal_moves question west entry.history) entry.mv legal
       (ap (λ (b : Bool). if b then more.declarers entry.history entry.mv

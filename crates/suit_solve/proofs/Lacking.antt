@@ -4,17 +4,17 @@ use Rattle.std.proofs.Common.{subst}
 use Rattle.std.proofs.Common.{inl, inr, arith}
 use Rattle.std.specs.Prelude.{Contains, cond, filter, not, sum_by, if◌then◌else◌}
 use Rattle.std.proofs.lemmas.List.Sums.{sum_by-cons}
-use Rattle.suit_cards.specs.Cards.{Counts}
+use Rattle.suit_cards.specs.Cards.{ClassLayout}
 use Rattle.suit_game.specs.declared.question.Question.{Question}
 use Rattle.suit_game.proofs.EachElement.{Contains-cons_cases, Contains-filter, Contains-first, Contains-later}
 use Rattle.suit_game.proofs.EachElement.{Contains-nil, kept_parts}
 use Rattle.suit_classes.specs.declared.class_moves.ClassMove.{ClassMove}
-use Rattle.suit_classes.specs.AllowedHistories.{is_among}
+use Rattle.suit_classes.specs.WhatIsAllowed.{is_among}
 use Rattle.suit_classes.specs.ClassMoves.{ClassHistory}
 use Rattle.suit_classes.specs.ClassPlaces.{class_after, class_turn}
 use Rattle.suit_classes.proofs.SameMoves.{among-Contains, among_contained}
 use Rattle.suit_plans.specs.Masses.{is_declarers}
-use Rattle.suit_tree.specs.CountedHistories.{counted_histories}
+use Rattle.suit_tree.specs.WhatIsCounted.{counted_histories}
 use Rattle.suit_program.specs.Supports.{Support, first_and, layouts_of, legal_moves, names, supported_moves}
 use Rattle.suit_solve.specs.Fates.{lacking, lacking_at}
 
@@ -119,7 +119,7 @@ named_first named (first ∷ moves) move found is =
 pub record NamesMore (less more : Support) : Type 0 where
   pub declarers : (history : ClassHistory) (move : ClassMove) → less.declarers history move ≡ true
       → more.declarers history move ≡ true
-  pub defences : (west : Counts) (history : ClassHistory) (move : ClassMove)
+  pub defences : (west : ClassLayout) (history : ClassHistory) (move : ClassMove)
       → less.defences west history move ≡ true → more.defences west history move ≡ true
 
 either_more : (b : Bool) (one other more next : Bool) → (one ≡ true → more ≡ true) → (other ≡ true → next ≡ true)
@@ -134,7 +134,7 @@ not_back false more gives fails = refl
 
 module _ (question : Question) (less more : Support) (grown : NamesMore less more) where
   -- so its moves are among those of the other
-  pub supported_more : (west : Counts) (history : ClassHistory) (move : ClassMove)
+  pub supported_more : (west : ClassLayout) (history : ClassHistory) (move : ClassMove)
       → is_among (supported_moves question less west history) move ≡ true
       → is_among (supported_moves question more west history) move ≡ true
   unfolding supported_moves
@@ -147,23 +147,23 @@ module _ (question : Question) (less more : Support) (grown : NamesMore less mor
       (more.defences west history other) (grown.declarers history other) (grown.defences west history other) named)
       (among-Contains (first_and (names question less west history) (legal_moves question west history)) move among))
 
-  abbrev lacks : Support → Counts → ClassHistory → ClassMove → Bool
+  abbrev lacks : Support → ClassLayout → ClassHistory → ClassMove → Bool
   lacks support west history move = not (is_among (supported_moves question support west history) move)
 
-  lacks_too : (west : Counts) (history : ClassHistory) (move : ClassMove) → lacks more west history move ≡ true
+  lacks_too : (west : ClassLayout) (history : ClassHistory) (move : ClassMove) → lacks more west history move ≡ true
       → lacks less west history move ≡ true
   lacks_too west history move fails =
       not_back (is_among (supported_moves question less west history) move)
       (is_among (supported_moves question more west history) move) (supported_more west history move) fails
 
-  fewer_at : (west : Counts) (history : ClassHistory)
+  fewer_at : (west : ClassLayout) (history : ClassHistory)
       → lacking_at question more west history ≤ lacking_at question less west history
   fewer_at west history =
       fewer_kept (lacks more west history) (lacks less west history) (legal_moves question west history)
       (lacks_too west history)
 
   -- where a move of the tree is in it and not in the other, it lacks fewer
-  pub lacks_less : (layout : Counts × ℕ) (history : ClassHistory) (move : ClassMove)
+  pub lacks_less : (layout : ClassLayout × ℕ) (history : ClassHistory) (move : ClassMove)
       → Contains (layouts_of question) layout → Contains (counted_histories question layout.0) history
       → Contains (legal_moves question layout.0 history) move
       → is_among (supported_moves question less layout.0 history) move ≡ false
@@ -172,10 +172,10 @@ module _ (question : Question) (less more : Support) (grown : NamesMore less mor
   unfolding lacking
   lacks_less layout history move listed counted legal old new =
       sum_less
-      (λ (other : Counts × ℕ). sum_by (lacking_at question more other.0) (counted_histories question other.0))
-      (λ (other : Counts × ℕ). sum_by (lacking_at question less other.0) (counted_histories question other.0))
+      (λ (other : ClassLayout × ℕ). sum_by (lacking_at question more other.0) (counted_histories question other.0))
+      (λ (other : ClassLayout × ℕ). sum_by (lacking_at question less other.0) (counted_histories question other.0))
       (layouts_of question) layout
-      (λ (other : Counts × ℕ). sum_fewer (lacking_at question more other.0) (lacking_at question less other.0)
+      (λ (other : ClassLayout × ℕ). sum_fewer (lacking_at question more other.0) (lacking_at question less other.0)
       (counted_histories question other.0) (fewer_at other.0))
       listed
       (sum_less (lacking_at question more layout.0) (lacking_at question less layout.0)

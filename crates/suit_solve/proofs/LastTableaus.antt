@@ -19,7 +19,7 @@ use Rattle.suit_linear.proofs.SoundTableaus.{IsSound}
 use Rattle.suit_simplex.proofs.FastAnswers.{last_of, told_dual, told_primal}
 use Rattle.suit_simplex.proofs.OneOptimum.{one_optimum}
 use Rattle.suit_answer.specs.Reduced.{fraction}
-use Rattle.suit_answer.proofs.ReducedFractions.{fraction_exact}
+use Rattle.suit_answer.proofs.OneFractionInLowestTerms.{fraction_exact}
 use Rattle.suit_solve.specs.LastTableaus.{basic_value, optimum_at, value_at}
 
 -- ---- fractions

@@ -4,11 +4,11 @@ pub mod Growth
 pub mod Lacking
 pub mod LastTableaus
 pub mod LayoutCounts
-pub mod PlayedRounds
+pub mod HowARoundEnds
 pub mod ReplyPlaces
 pub mod Rounds
-pub mod ShownAnswers
-pub mod SolvedRounds
+pub mod AnswerShowsItsValue
+pub mod FromRoundToRound
 pub mod WholeSupports
 pub mod WritableAnswers
 pub mod WritableRows

@@ -5,17 +5,17 @@ use Rattle.std.proofs.Common.{subst}
 use Rattle.std.specs.Prelude.{Contains, fold, if◌then◌else◌}
 use Rattle.std.proofs.lemmas.Bool.{and_from}
 use Rattle.std.proofs.lemmas.List.Elements.{Contains-get_or}
-use Rattle.suit_cards.specs.Cards.{Counts}
+use Rattle.suit_cards.specs.Cards.{ClassLayout}
 use Rattle.suit_game.specs.declared.question.Question.{Question}
 use Rattle.suit_game.specs.Validity.{IsValid}
 use Rattle.suit_game.proofs.EachElement.{Contains-nil}
 use Rattle.suit_classes.specs.declared.class_moves.ClassMove.{ClassMove}
 use Rattle.suit_classes.specs.declared.class_view.ClassView.{ClassView}
-use Rattle.suit_classes.specs.AllowedHistories.{allows, allows_from, is_among}
+use Rattle.suit_classes.specs.WhatIsAllowed.{allows, allows_from, is_among}
 use Rattle.suit_classes.specs.ClassMoves.{ClassHistory}
 use Rattle.suit_classes.specs.ClassPlaces.{class_after, class_decided, class_moves, class_start, class_step, class_turn}
 use Rattle.suit_classes.proofs.SameMoves.{among_contained}
-use Rattle.suit_classes.proofs.ToldHistories.{allows-push}
+use Rattle.suit_classes.proofs.AllowsOneMoveMore.{allows-push}
 use Rattle.suit_plans.specs.declared.moves.DeclarerMove.{DeclarerMove}
 use Rattle.suit_plans.specs.declared.moves.DefenceMove.{DefenceMove}
 use Rattle.suit_plans.specs.declared.plan.Plan.{Plan}
@@ -24,18 +24,18 @@ use Rattle.suit_plans.specs.BestReplies.{least_reply, most_reply, reply_to_defen
 use Rattle.suit_plans.specs.BestReplies.{reply_to_plan}
 use Rattle.suit_plans.specs.Masses.{is_declarers, is_defences}
 use Rattle.suit_plans.specs.Properness.{some_allows}
-use Rattle.suit_plans.proofs.BoundedReplies.{some_allow_none}
+use Rattle.suit_plans.proofs.RepliesAreBounded.{some_allow_none}
 use Rattle.suit_plans.proofs.PublicMoves.{allowing_parts, layout_tells, layout_weighs, own_moves_on, public_allowed}
 use Rattle.suit_plans.proofs.PublicMoves.{some_layout}
 use Rattle.suit_plans.proofs.ReplyChoices.{choice_parts, least_choices, least_entry, most_choices, most_entry}
 use Rattle.suit_plans.proofs.RowLimits.{allowed_short}
-use Rattle.suit_tree.specs.CountedHistories.{counted_histories}
-use Rattle.suit_tree.proofs.ListedHistories.{Contains-continued, GoesOn}
+use Rattle.suit_tree.specs.WhatIsCounted.{counted_histories}
+use Rattle.suit_tree.proofs.EachHistoryIsCountedOnce.{Contains-continued, GoesOn}
 use Rattle.suit_program.specs.Supports.{first_support, layouts_of, legal_moves}
 use Rattle.suit_program.proofs.lemmas.Supports.TurnCases.{legal_going}
 
 -- a move is legal at a class history that is counted in a class layout, where play is not decided
-pub record IsPlace (question : Question) (layout : Counts × ℕ) (history : ClassHistory) (move : ClassMove) : Type 0
+pub record IsPlace (question : Question) (layout : ClassLayout × ℕ) (history : ClassHistory) (move : ClassMove) : Type 0
   where
     pub listed : Contains (layouts_of question) layout
     pub allowed : allows question layout.0 history ≡ true
@@ -63,7 +63,7 @@ going_parts false moves move found = (refl, found)
 
 module _ (question : Question) (valid : IsValid question) where
   -- a history that a class layout allows and that goes past no decided position is counted for it
-  counted_at : (layout : Counts × ℕ) → Contains (layouts_of question) layout → (history : ClassHistory)
+  counted_at : (layout : ClassLayout × ℕ) → Contains (layouts_of question) layout → (history : ClassHistory)
       → allows question layout.0 history ≡ true → GoesOn (class_start question) history
       → Contains (counted_histories question layout.0) history
   unfolding counted_histories allows
@@ -72,16 +72,17 @@ module _ (question : Question) (valid : IsValid question) where
       (allowed_short question layout.0 history valid (layout_weighs question valid layout listed) (sym allowed))
       allowed goes
 
-  allows_none : (counts : Counts) → allows question counts [] ≡ true
+  allows_none : (counts : ClassLayout) → allows question counts [] ≡ true
   unfolding allows allows_from
   allows_none counts = refl
 
   -- ---- the defence's
 
-  abbrev TheirFits : Counts → ClassHistory → Type 0
+  abbrev TheirFits : ClassLayout → ClassHistory → Type 0
   TheirFits counts history = (allows question counts history ≡ true) × GoesOn (class_start question) history
 
-  their_next : (plan : Plan) (counts : Counts) (history : ClassHistory) (move : ClassMove) → TheirFits counts history
+  their_next : (plan : Plan) (counts : ClassLayout) (history : ClassHistory) (move : ClassMove)
+      → TheirFits counts history
       → Contains ((reply_to_plan question plan counts).moves history) move
       → TheirFits counts (history ++ move ∷ [])
   their_next plan counts history move fits found =
@@ -98,7 +99,7 @@ module _ (question : Question) (valid : IsValid question) where
       → IsPlace question (get_or (layouts_of question) entry.layout ([], 0)) entry.history entry.mv
       × (is_defences (class_turn (class_after question entry.history)) ≡ true)
   their_place plan entry found =
-      let layout : Counts × ℕ = get_or (layouts_of question) entry.layout ([], 0) in
+      let layout : ClassLayout × ℕ = get_or (layouts_of question) entry.layout ([], 0) in
       let chosen = least_choices question plan entry valid found in
       let choice = chosen.1 in
       let listed : Contains (layouts_of question) layout =
@@ -137,7 +138,7 @@ module _ (question : Question) (valid : IsValid question) where
 
   -- a move of the best reply to a defence stands in the tree, in some class layout
   pub own_place : (defence : Defence) (entry : DeclarerMove) → Contains (most_reply question defence) entry
-      → (layout : Counts × ℕ) × IsPlace question layout entry.history entry.mv
+      → (layout : ClassLayout × ℕ) × IsPlace question layout entry.history entry.mv
       × (is_declarers (class_turn (class_after question entry.history)) ≡ true)
   own_place defence entry found =
       let choice = most_choices question defence entry valid found in
@@ -145,7 +146,7 @@ module _ (question : Question) (valid : IsValid question) where
       let fits = (choice_parts OwnFits (reply_to_defence question defence) (own_next defence)
       (some_allow_none question valid, goes_none (class_start question)) entry.history entered.0).0 in
       let held = some_layout question valid entry.history fits.0 in
-      let layout : Counts × ℕ = held.0 in
+      let layout : ClassLayout × ℕ = held.0 in
       let parts = allowing_parts question valid entry.history layout held.1 in
       let allowed : allows question layout.0 entry.history ≡ true =
       (layout_tells question valid layout entry.history parts.0).1 parts.1 in (

@@ -7,17 +7,17 @@ use Rattle.std.specs.Prelude.{cond, filter, nat_lt, if◌then◌else◌}
 use Rattle.std.specs.List.{flat_map}
 use Rattle.std.proofs.lemmas.Bool.{and_from, and_parts, ltb-true}
 use Rattle.std.proofs.lemmas.List.{length-append, length-map}
-use Rattle.suit_cards.specs.Cards.{Counts}
+use Rattle.suit_cards.specs.Cards.{ClassLayout}
 use Rattle.suit_game.specs.declared.question.Question.{Question}
 use Rattle.suit_game.specs.Validity.{IsValid}
 use Rattle.suit_game.proofs.EachElement.{Contains-filter, Contains-flat_map, kept_parts}
 use Rattle.suit_classes.specs.declared.class_moves.ClassMove.{ClassMove}
-use Rattle.suit_classes.specs.AllowedHistories.{every_move, is_among}
+use Rattle.suit_classes.specs.WhatIsAllowed.{every_move, is_among}
 use Rattle.suit_classes.specs.ClassMoves.{ClassHistory}
 use Rattle.suit_classes.specs.ClassPlaces.{class_after, class_turn}
 use Rattle.suit_classes.proofs.SameMoves.{among-Contains, among_contained}
 use Rattle.suit_plans.specs.Masses.{is_declarers}
-use Rattle.suit_tree.specs.CountedHistories.{node_count}
+use Rattle.suit_tree.specs.WhatIsCounted.{node_count}
 use Rattle.suit_program.specs.Programs.Points.{Passed}
 use Rattle.suit_program.specs.Programs.{Answered, Shared, answered_limits, columns, columns_at, held_column}
 use Rattle.suit_program.specs.Programs.{limits}
@@ -87,14 +87,14 @@ either_more false one other more next gives too is = too is
 -- ---- supports that name more
 
 module _ (question : Question) (less more : Support) (grown : NamesMore less more) where
-  names_too : (west : Counts) (history : ClassHistory) (move : ClassMove)
+  names_too : (west : ClassLayout) (history : ClassHistory) (move : ClassMove)
       → names question less west history move ≡ true → names question more west history move ≡ true
   names_too west history move =
       either_more (is_declarers (class_turn (class_after question history))) (less.declarers history move)
       (less.defences west history move) (more.declarers history move) (more.defences west history move)
       (grown.declarers history move) (grown.defences west history move)
 
-  first_longer : (west : Counts) (history : ClassHistory) (moves : List ClassMove)
+  first_longer : (west : ClassLayout) (history : ClassHistory) (moves : List ClassMove)
       → length (first_and (names question less west history) moves)
       ≤ length (first_and (names question more west history) moves)
   first_longer west history [] = omega arith
@@ -105,12 +105,13 @@ module _ (question : Question) (less more : Support) (grown : NamesMore less mor
       one_more : {a b : ℕ} → a ≤ b → suc a ≤ suc b
       one_more le = omega (arith, le)
 
-  supported_longer : (west : Counts) (history : ClassHistory)
+  supported_longer : (west : ClassLayout) (history : ClassHistory)
       → length (supported_moves question less west history) ≤ length (supported_moves question more west history)
   unfolding supported_moves
   supported_longer west history = first_longer west history (legal_moves question west history)
 
-  goes_more : (west : Counts) (history moves : ClassHistory) → goes_supported question less west history moves ≡ true
+  goes_more : (west : ClassLayout) (history moves : ClassHistory)
+      → goes_supported question less west history moves ≡ true
       → goes_supported question more west history moves ≡ true
   unfolding goes_supported
   goes_more west history [] goes = refl
@@ -122,29 +123,31 @@ module _ (question : Question) (less more : Support) (grown : NamesMore less mor
       (supported_more question less more grown west history move parts.0)
       (goes_more west (history ++ move ∷ []) moves parts.1)
 
-  reached_more : (west : Counts) (history : ClassHistory) → is_reached question less west history ≡ true
+  reached_more : (west : ClassLayout) (history : ClassHistory) → is_reached question less west history ≡ true
       → is_reached question more west history ≡ true
   unfolding is_reached
   reached_more west history reached = goes_more west [] history reached
 
   next_more : (history : ClassHistory) (move : ClassMove)
-      → is_among (flat_map (λ (layout : Counts × ℕ). supported_moves question less layout.0 history)
+      → is_among (flat_map (λ (layout : ClassLayout × ℕ). supported_moves question less layout.0 history)
       (reached_layouts question less history)) move ≡ true
-      → is_among (flat_map (λ (layout : Counts × ℕ). supported_moves question more layout.0 history)
+      → is_among (flat_map (λ (layout : ClassLayout × ℕ). supported_moves question more layout.0 history)
       (reached_layouts question more history)) move ≡ true
   unfolding reached_layouts
   next_more history move among =
-      let moves_less : Counts × ℕ → List ClassMove =
-      λ (layout : Counts × ℕ). supported_moves question less layout.0 history in
-      let moves_more : Counts × ℕ → List ClassMove =
-      λ (layout : Counts × ℕ). supported_moves question more layout.0 history in
+      let moves_less : ClassLayout × ℕ → List ClassMove =
+      λ (layout : ClassLayout × ℕ). supported_moves question less layout.0 history in
+      let moves_more : ClassLayout × ℕ → List ClassMove =
+      λ (layout : ClassLayout × ℕ). supported_moves question more layout.0 history in
       let from = flat_map_from moves_less (reached_layouts question less history) move
       (among-Contains (flat_map moves_less (reached_layouts question less history)) move among) in
-      let kept = kept_parts (λ (layout : Counts × ℕ). is_reached question less layout.0 history) (layouts_of question)
+      let kept = kept_parts (λ (layout : ClassLayout × ℕ). is_reached question less layout.0 history)
+          (layouts_of question)
       from.0 from.1 in
       among_contained (flat_map moves_more (reached_layouts question more history)) move
       (Contains-flat_map moves_more (reached_layouts question more history) from.0 move
-      (Contains-filter (λ (layout : Counts × ℕ). is_reached question more layout.0 history) (layouts_of question) from.0
+      (Contains-filter (λ (layout : ClassLayout × ℕ). is_reached question more layout.0 history)
+          (layouts_of question) from.0
       kept.0 (reached_more from.0.0 history kept.1))
       (among-Contains (moves_more from.0) move
       (supported_more question less more grown from.0.0 history move
@@ -171,8 +174,8 @@ module _ (question : Question) (less more : Support) (grown : NamesMore less mor
             supported_longer [] history,
           )
       by_choice false =
-          flat_kept (λ (layout : Counts × ℕ). is_reached question less layout.0 history)
-          (λ (layout : Counts × ℕ). is_reached question more layout.0 history) (held_column question history)
+          flat_kept (λ (layout : ClassLayout × ℕ). is_reached question less layout.0 history)
+          (λ (layout : ClassLayout × ℕ). is_reached question more layout.0 history) (held_column question history)
           (held_column question history) (layouts_of question)
           (λ layout. reached_more layout.0 history) (λ layout. itself (length (held_column question history layout)))
 
@@ -181,7 +184,7 @@ module _ (question : Question) (less more : Support) (grown : NamesMore less mor
   unfolding limits_at reached_layouts answered_limits
   limits_more history = by_choice (declarer_chooses question history)
     where
-      by_answer : (layout : Counts × ℕ) (b : Bool)
+      by_answer : (layout : ClassLayout × ℕ) (b : Bool)
           → length (if b then map (Answered layout.0 history) (supported_moves question less layout.0 history) else [])
           ≤ length (if b then map (Answered layout.0 history) (supported_moves question more layout.0 history) else [])
       by_answer layout true =
@@ -200,8 +203,9 @@ module _ (question : Question) (less more : Support) (grown : NamesMore less mor
           else flat_map (answered_limits question more history) (reached_layouts question more history))
       by_choice true = omega arith
       by_choice false =
-          flat_kept (λ (layout : Counts × ℕ). is_reached question less layout.0 history)
-          (λ (layout : Counts × ℕ). is_reached question more layout.0 history) (answered_limits question less history)
+          flat_kept (λ (layout : ClassLayout × ℕ). is_reached question less layout.0 history)
+          (λ (layout : ClassLayout × ℕ). is_reached question more layout.0 history)
+              (answered_limits question less history)
           (answered_limits question more history) (layouts_of question)
           (λ layout. reached_more layout.0 history)
           (λ layout. by_answer layout (defence_chooses question layout.0 history))
@@ -220,9 +224,9 @@ module _ (question : Question) (less more : Support) (grown : NamesMore less mor
       let rest : length (flat_map (λ move. flat_map made (here move)) (next_moves question less history))
       ≤ length (flat_map (λ move. flat_map others (there move)) (next_moves question more history)) =
       flat_kept
-      (is_among (flat_map (λ (layout : Counts × ℕ). supported_moves question less layout.0 history)
+      (is_among (flat_map (λ (layout : ClassLayout × ℕ). supported_moves question less layout.0 history)
       (reached_layouts question less history)))
-      (is_among (flat_map (λ (layout : Counts × ℕ). supported_moves question more layout.0 history)
+      (is_among (flat_map (λ (layout : ClassLayout × ℕ). supported_moves question more layout.0 history)
       (reached_layouts question more history)))
       (λ move. flat_map made (here move)) (λ move. flat_map others (there move)) every_move (next_more history)
       (λ move. histories_more made others fewer left (history ++ move ∷ [])) in

@@ -12,20 +12,20 @@ use Rattle.std.proofs.lemmas.Int.{ints}
 use Rattle.std.proofs.lemmas.List.Elements.{All-from_recursion}
 use Rattle.suit_num.proofs.IntegerLaws.{int_le-true, le-mul_right}
 use Rattle.suit_num.specs.declared.fraction.Frac.{Frac}
-use Rattle.suit_cards.specs.Cards.{Counts}
+use Rattle.suit_cards.specs.Cards.{ClassLayout}
 use Rattle.suit_game.specs.declared.question.Question.{Question}
 use Rattle.suit_game.specs.Layouts.{total}
 use Rattle.suit_game.proofs.EachElement.{Contains-cons_cases}
 use Rattle.suit_game.proofs.EachElement.{Contains-map, Contains-nil, each_in}
-use Rattle.suit_game.proofs.FilledPlaces.{total_at_most}
+use Rattle.suit_game.proofs.WhatAllLayoutsWeigh.{total_at_most}
 use Rattle.suit_classes.specs.declared.class_moves.ClassMove.{ClassMove}
-use Rattle.suit_classes.specs.AllowedHistories.{allows, is_among}
+use Rattle.suit_classes.specs.WhatIsAllowed.{allows, is_among}
 use Rattle.suit_classes.specs.Classes.{class_count, defence_classes, hands_of, sizes_of}
 use Rattle.suit_classes.specs.ClassGame.{Allows}
 use Rattle.suit_classes.specs.ClassMoves.{ClassHistory}
 use Rattle.suit_classes.specs.ClassPlaces.{class_after, class_moves}
-use Rattle.suit_classes.proofs.AllowedHistories.{allowed_moves}
-use Rattle.suit_classes.proofs.AllowedLayouts.{allows_before, allows_tells}
+use Rattle.suit_classes.proofs.AllowedMoveByMove.{allowed_moves}
+use Rattle.suit_classes.proofs.CountsAllowAsTold.{allows_before, allows_tells}
 use Rattle.suit_classes.proofs.SameMoves.{among-Contains}
 use Rattle.suit_plans.specs.declared.plan.Plan.{Plan}
 use Rattle.suit_plans.specs.declared.plan.Row.{Row}
@@ -36,8 +36,8 @@ use Rattle.suit_plans.specs.Masses.{Shares, Side, declarer, defence_mass, defend
 use Rattle.suit_plans.specs.PlanLaws.{AreRealised}
 use Rattle.suit_plans.specs.Properness.{IsProperDefence, IsProperPlan, defence_row_fault, moves_of, plan_row_fault}
 use Rattle.suit_plans.specs.Properness.{some_allows, sum_of}
-use Rattle.suit_plans.proofs.AllowedWalks.{start_allows}
-use Rattle.suit_plans.proofs.BoundedReplies.{leasts_bounded}
+use Rattle.suit_plans.proofs.AllowedSoFar.{start_allows}
+use Rattle.suit_plans.proofs.RepliesAreBounded.{leasts_bounded}
 use Rattle.suit_plans.proofs.FirstFaults.{FitsTurn, IsFaultless}
 use Rattle.suit_plans.proofs.MassBounds.{mass_falls}
 use Rattle.suit_plans.proofs.ProperDefences.{defence_row_fits, defences_are_realised, proper_defence}
@@ -46,7 +46,7 @@ use Rattle.suit_plans.proofs.ProperPlans.{plan_row_fits, plans_are_realised, pro
 use Rattle.suit_plans.proofs.ProperPlans.{stands_after as plan_stands}
 use Rattle.suit_plans.proofs.PublicMoves.{layout_tells, some_passing}
 use Rattle.suit_plans.proofs.RowLimits.{weight_at_most}
-use Rattle.suit_plans.proofs.SharedSums.{within_sum}
+use Rattle.suit_plans.proofs.SharesAddUpToTheMass.{within_sum}
 use Rattle.suit_layouts.specs.ClassLayouts.{class_layouts}
 use Rattle.suit_linear.specs.declared.ends.Optimum.{Optimum}
 use Rattle.suit_program.specs.Readings.ReadingLaws.{defence_read, plan_read}
@@ -62,10 +62,10 @@ use Rattle.suit_answer.specs.Writable.{IsWritableShare, IsWritableTurn}
 use Rattle.suit_solve.specs.Comparing.{answer_of}
 use Rattle.suit_answer.specs.Reduced.{fraction}
 use Rattle.suit_solve.proofs.ClassesWithin.{history_writable, move_writable, within_after}
-use Rattle.suit_answer.proofs.ReducedFractions.{fraction_small, whole_over}
+use Rattle.suit_answer.proofs.OneFractionInLowestTerms.{fraction_small, whole_over}
 use Rattle.suit_solve.proofs.LayoutCounts.{layout_small}
 use Rattle.suit_solve.proofs.Rounds.{AreRead, IsMetAt}
-use Rattle.suit_solve.proofs.ShownAnswers.{defence_over, plan_over}
+use Rattle.suit_solve.proofs.AnswerShowsItsValue.{defence_over, plan_over}
 use Rattle.suit_solve.proofs.WritableRows.{defence_few, plan_few, plan_row_some, read_row}
 
 -- ---- numbers
@@ -100,7 +100,7 @@ all_at test (first ∷ xs) x all found =
     ]
 
 -- masses fall along class histories
-mass_within : (question : Question) (side : Side) (counts : Counts) (before moves : ClassHistory)
+mass_within : (question : Question) (side : Side) (counts : ClassLayout) (before moves : ClassHistory)
     → AreRealised question side counts → Allows question counts (before ++ moves)
     → mass_of question side (before ++ moves) ≤ℤ mass_of question side before
 mass_within question side counts before [] realised allowed = same_history (append_nil before)
@@ -136,7 +136,7 @@ mass_within question side counts before (move ∷ moves) realised allowed =
     chain a b c p q = omega (arith, ints, p, q)
 
 -- so none is above that of the empty one
-mass_most : (question : Question) (side : Side) (counts : Counts) (history : ClassHistory)
+mass_most : (question : Question) (side : Side) (counts : ClassLayout) (history : ClassHistory)
     → AreRealised question side counts → Allows question counts history
     → mass_of question side history ≤ℤ side.whole
 unfolding mass_of mass_from
@@ -147,7 +147,8 @@ counts_chain : (a b c : ℤ) → a ≤ℤ b → b ≤ℤ c → a ≤ℤ c
 counts_chain a b c p q = omega (arith, ints, p, q)
 
 -- a turn that fits can be written, where its side's whole mass has few bits and some mass comes to it
-pub writable_turn : (question : Question) (side : Side) (counts : Counts) (history : ClassHistory) (shares : Shares)
+pub writable_turn : (question : Question) (side : Side) (counts : ClassLayout) (history : ClassHistory)
+    (shares : Shares)
     (may_have stands : Bool) → FitsTurn question side history shares may_have stands
     → allows question counts history ≡ true → Allows question counts history → AreRealised question side counts
     → side.whole ≤ℤ pos (2 ^ 126) → 0 < length shares
@@ -216,7 +217,7 @@ module _ (question : Question) (support : Support) (optimum : Optimum) (read : A
       let fits = plan_row_fits question plan.den parted.front row parted.back
       (subst (IsFaultless (plan_row_fault question plan.den) []) parted.parts
       (proper_plan question plan plan_proper).2) in
-      let some = some_passing (λ (layout : Counts × ℕ). allows question layout.0 row.history)
+      let some = some_passing (λ (layout : ClassLayout × ℕ). allows question layout.0 row.history)
       (class_layouts question (sizes_of question)) fits.allowed in
       writable_turn question (declarer plan.den (parted.front ++ row ∷ parted.back)) some.0.0 row.history row.counts
       (some_allows question row.history) (plan_stands row parted.front) fits some.2

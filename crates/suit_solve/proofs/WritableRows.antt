@@ -11,7 +11,7 @@ use Rattle.std.proofs.lemmas.Bool.{and_parts, ltb-false}
 use Rattle.std.proofs.lemmas.Bool.Decides.{Decides-int_eq}
 use Rattle.std.proofs.lemmas.Int.{clamps, ints}
 use Rattle.std.proofs.lemmas.List.{length-append, length-map}
-use Rattle.suit_cards.specs.Cards.{Counts}
+use Rattle.suit_cards.specs.Cards.{ClassLayout}
 use Rattle.suit_num.proofs.IntegerLaws.{int_lt-true}
 use Rattle.suit_game.specs.declared.question.Question.{Question}
 use Rattle.suit_game.specs.Validity.{IsValid}
@@ -101,7 +101,7 @@ module _ (question : Question) (support : Support) where
       (subst (λ (l : List ClassMove). 0 < length (map (Passed history) l)) (sym supported) (omega arith))
 
   -- and so has one of the defence's in a class layout
-  their_columns : (layout : Counts × ℕ) (history : ClassHistory) → Contains (layouts_of question) layout
+  their_columns : (layout : ClassLayout × ℕ) (history : ClassHistory) → Contains (layouts_of question) layout
       → is_reached question support layout.0 history ≡ true → defence_chooses question layout.0 history ≡ true
       → 0 < length (columns_at question support history)
   unfolding columns_at reached_layouts held_column declarer_chooses
@@ -118,7 +118,7 @@ module _ (question : Question) (support : Support) where
       (Held layout.0 history)
       (Contains-flat_map (held_column question history) (reached_layouts question support history) layout
       (Held layout.0 history)
-      (Contains-filter (λ (other : Counts × ℕ). is_reached question support other.0 history) (layouts_of question)
+      (Contains-filter (λ (other : ClassLayout × ℕ). is_reached question support other.0 history) (layouts_of question)
       layout listed reached) column))
     where
       waits : is_declarers (class_turn (class_after question history)) ≡ false
@@ -171,7 +171,7 @@ module _ (question : Question) (support : Support) where
       bounded : {rows kept columns : ℕ} → rows ≡ kept → kept ≤ columns → columns ≤ 16777216 → rows ≤ 16777216
       bounded is le few = omega (arith, is, le, few)
 
-      rows_few : (layout : Counts × ℕ) → Contains (layouts_of question) layout
+      rows_few : (layout : ClassLayout × ℕ) → Contains (layouts_of question) layout
           → length (defence_rows_in question support prices scale layout) ≤ 16777216
       rows_few layout listed =
           let reading : Reading = defence_reading question support prices scale layout.0 in
@@ -252,14 +252,14 @@ module _ (question : Question) (support : Support) (point : Point) where
 -- where a row of the defence comes from: a class layout and a class history, to which some mass comes
 pub record IsReadRow (question : Question) (support : Support) (prices : List ℤ) (scale : ℤ) (row : DefenceRow) :
     Type 0 where
-  pub layout : Counts × ℕ
+  pub layout : ClassLayout × ℕ
   pub listed : Contains (layouts_of question) layout
   pub west : row.west ≡ layout.0
   pub mass : pos 0 <ℤ defence_mass question (defence_of question support prices scale) row.west row.history
 
 module _ (question : Question) (support : Support) (valid : IsValid question) (prices : List ℤ) (scale : ℤ)
     (dual : IsDualFeasible (program_of question support) prices scale) where
-  row_in : (layout : Counts × ℕ) → Contains (layouts_of question) layout → (row : DefenceRow)
+  row_in : (layout : ClassLayout × ℕ) → Contains (layouts_of question) layout → (row : DefenceRow)
       → Contains (defence_rows_in question support prices scale layout) row
       → IsReadRow question support prices scale row
   row_in layout listed row found =

@@ -1,11 +1,11 @@
 -- What becomes of a question.
 use Rattle.std.specs.Prelude.{⊤, ◌≡◌, ℕ, zero, suc, not, nat_lt, Result, Ok, Err, filter, length, sum_by}
 use Rattle.std.specs.Prelude.{if◌then◌else◌}
-use Rattle.suit_cards.specs.Cards.{Counts}
+use Rattle.suit_cards.specs.Cards.{ClassLayout}
 use Rattle.suit_game.specs.declared.question.Question.{Question}
-use Rattle.suit_classes.specs.AllowedHistories.{is_among}
+use Rattle.suit_classes.specs.WhatIsAllowed.{is_among}
 use Rattle.suit_classes.specs.ClassMoves.{ClassHistory}
-use Rattle.suit_tree.specs.CountedHistories.{counted_histories, node_count}
+use Rattle.suit_tree.specs.WhatIsCounted.{counted_histories, node_count}
 use Rattle.suit_program.specs.Supports.{Support, first_support, layouts_of, legal_moves, supported_moves, with_moves}
 use Rattle.suit_answer.specs.declared.answer.Answer.{Answer}
 use Rattle.suit_solve.specs.declared.ends.SolveEnd.{SolveEnd}
@@ -17,7 +17,7 @@ abbrev pub Fate : Type 0
 Fate = Result Answer SolveEnd
 
 -- how many legal moves of a class history a support has not where West has these counts
-abbrev pub lacking_at : Question → Support → Counts → ClassHistory → ℕ
+abbrev pub lacking_at : Question → Support → ClassLayout → ClassHistory → ℕ
 lacking_at question support west history =
     length (filter (λ move. not (is_among (supported_moves question support west history) move))
     (legal_moves question west history))
@@ -25,7 +25,7 @@ lacking_at question support west history =
 -- how many moves of the tree of a question it has not, over all class layouts
 unfoldable pub lacking : Question → Support → ℕ
 lacking question support =
-    sum_by (λ (layout : Counts × ℕ). sum_by (lacking_at question support layout.0)
+    sum_by (λ (layout : ClassLayout × ℕ). sum_by (lacking_at question support layout.0)
     (counted_histories question layout.0)) (layouts_of question)
 
 -- what becomes of a question in a round that ends so, where it is told what comes of a support in the next one

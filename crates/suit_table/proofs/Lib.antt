@@ -1,7 +1,7 @@
 pub mod Entering
-pub mod JudgedQuestions
+pub mod SummaryIsMet
 pub mod Misfits
-pub mod PlacedLists
+pub mod RelatedIndexByIndex
 pub mod Putting
 pub mod Reaching
 pub mod Telling

@@ -7,7 +7,7 @@ use Rattle.suit_cards.specs.Cards.{Text}
 use Rattle.suit_game.specs.declared.question.Question.{Question}
 use Rattle.suit_game.specs.Validity.{IsValid}
 use Rattle.suit_question.specs.Reading.{end_index, question_read}
-use Rattle.suit_tree.specs.CountedHistories.{node_count}
+use Rattle.suit_tree.specs.WhatIsCounted.{node_count}
 use Rattle.suit_answer.specs.declared.answer.Answer.{Answer}
 use Rattle.suit_answer.specs.Reading.{answer_read}
 use Rattle.suit_answer.specs.Writing.{text_of}
@@ -25,7 +25,7 @@ use Rattle.suit_top.specs.Commands.Check.{due_checking, due_found, valid_text}
 use Rattle.suit_top.specs.Commands.OnAnswer.{due_with_answer}
 use Rattle.suit_top.specs.Dues.{Due, done}
 use Rattle.suit_top.specs.Refusals.{nodes_line}
-use Rattle.suit_top.specs.SolvedTexts.{SolvedTextsAreValid}
+use Rattle.suit_top.specs.WhatSolveWritesIsValid.{SolvedTextsAreValid}
 use Rattle.suit_top.proofs.QuestionsEndAlike.{asked_end, drop_first, take_first}
 use Rattle.suit_top.proofs.FatesAreCertified.{fate_met}
 

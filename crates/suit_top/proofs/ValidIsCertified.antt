@@ -9,7 +9,7 @@ use Rattle.suit_game.specs.declared.question.Question.{Question}
 use Rattle.suit_game.specs.Layouts.{total}
 use Rattle.suit_game.specs.Strategies.{counted}
 use Rattle.suit_game.specs.Validity.{IsValid}
-use Rattle.suit_tree.specs.CountedHistories.{node_count}
+use Rattle.suit_tree.specs.WhatIsCounted.{node_count}
 use Rattle.suit_plans.specs.BestReplies.{least, most}
 use Rattle.suit_answer.specs.declared.answer.Answer.{Answer}
 use Rattle.suit_check.specs.Verdicts.{Finding, Valid, Plan, Defence, Least, Most, verdict_of}

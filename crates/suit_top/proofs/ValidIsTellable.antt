@@ -9,26 +9,26 @@ use Rattle.std.proofs.lemmas.Nat.{div-mul-add, le-div}
 use Rattle.std.specs.Prelude.{ℤ, pos, negsuc, ◌*ℤ◌, ◌≤ℤ◌, ◌<ℤ◌, nat_lt, unsigned_abs, if◌then◌else◌}
 use Rattle.suit_num.proofs.IntegerLaws.{int_le-true}
 use Rattle.suit_num.specs.declared.fraction.Frac.{Frac}
-use Rattle.suit_cards.specs.Cards.{Counts}
+use Rattle.suit_cards.specs.Cards.{ClassLayout}
 use Rattle.suit_game.specs.declared.question.Question.{Question}
 use Rattle.suit_game.specs.declared.limits.TheConstants.{MOST_TOTAL}
 use Rattle.suit_game.specs.Layouts.{total}
 use Rattle.suit_game.specs.Validity.{IsValid}
-use Rattle.suit_game.proofs.FilledPlaces.{total_at_most}
+use Rattle.suit_game.proofs.WhatAllLayoutsWeigh.{total_at_most}
 use Rattle.suit_classes.specs.Classes.{sizes_of}
 use Rattle.suit_layouts.specs.ClassLayouts.{class_layouts}
-use Rattle.suit_tree.specs.CountedHistories.{node_count}
+use Rattle.suit_tree.specs.WhatIsCounted.{node_count}
 use Rattle.suit_plans.specs.BestReplies.{least, reply_to_plan, worth}
 use Rattle.suit_plans.specs.Properness.{IsProperPlan}
 use Rattle.suit_plans.specs.ReplyLaws.{IsPaid}
 use Rattle.suit_plans.specs.declared.plan.Plan.{Plan}
 use Rattle.suit_plans.specs.declared.plan.TheConstants.{MOST_DEN}
-use Rattle.suit_plans.proofs.BoundedReplies.{sum_weighed, weighed_paid, weights_add}
-use Rattle.suit_plans.proofs.PaidWorths.{sum_paid}
+use Rattle.suit_plans.proofs.RepliesAreBounded.{sum_weighed, weighed_paid, weights_add}
+use Rattle.suit_plans.proofs.AtMostThirteenTricks.{sum_paid}
 use Rattle.suit_plans.proofs.ProperPlans.{proper_plan}
 use Rattle.suit_answer.specs.declared.answer.Answer.{Answer}
 use Rattle.suit_answer.specs.Reduced.{fraction}
-use Rattle.suit_answer.proofs.ReducedFractions.{fraction_small, made_fraction, some_from_one, whole_over}
+use Rattle.suit_answer.proofs.OneFractionInLowestTerms.{fraction_small, made_fraction, some_from_one, whole_over}
 use Rattle.suit_lines.specs.Lines.{lines_of}
 use Rattle.suit_lines.specs.Values.{IsTellable}
 use Rattle.suit_check.specs.Verdicts.{Finding, Valid, Plan as PlanFound, Defence, Least, Most, verdict_of}
@@ -73,10 +73,10 @@ plan_paid : (question : Question) (plan : Plan) → IsValid question → IsPrope
 unfolding least
 plan_paid question plan valid proper =
     let layouts = class_layouts question (sizes_of question) in
-    let worths : Counts × ℕ → ℤ = λ layout. pos layout.1 *ℤ worth (reply_to_plan question plan layout.0) [] in
+    let worths : ClassLayout × ℕ → ℤ = λ layout. pos layout.1 *ℤ worth (reply_to_plan question plan layout.0) [] in
     subst (λ (mass : ℤ). IsPaid mass (least question plan))
     (sum_weighed plan.den layouts ∙ ap (λ (n : ℕ). pos n *ℤ plan.den) (weights_add question))
-    (sum_paid worths (λ (layout : Counts × ℕ). pos layout.1 *ℤ plan.den) layouts
+    (sum_paid worths (λ (layout : ClassLayout × ℕ). pos layout.1 *ℤ plan.den) layouts
     (λ layout found. weighed_paid question plan layout valid proper found))
 
 few_times : (a n d w : ℕ) → 0 < w → a ≤ 13 * w → a * d ≡ n * w → n ≤ 1000 * d

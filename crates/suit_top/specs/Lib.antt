@@ -8,7 +8,7 @@ pub mod Owing
 pub mod Refusals
 pub mod Replies
 pub mod Runs
-pub mod SolvedTexts
+pub mod WhatSolveWritesIsValid
 pub mod Statuses
 pub mod Texts
 pub mod Words

@@ -1,6 +1,6 @@
 //! Laws of what runs owe: each is the contract of an empty function.
 ghost use Rattle.suit_top.specs.Completeness.{RunsComplete, SolvesComplete, SureRunsComplete};
-ghost use Rattle.suit_top.specs.SolvedTexts.{SolvedTextsAreValid};
+ghost use Rattle.suit_top.specs.WhatSolveWritesIsValid.{SolvedTextsAreValid};
 
 /// What `solve` writes behind its own question is valid to `check`.
 pub fn solved_texts_are_valid()

@@ -6,7 +6,7 @@ use Rattle.std.proofs.lemmas.Bool.{false≢true, lt-ltb}
 use Rattle.std.proofs.lemmas.Bool.Decides.{nat_tests}
 use Rattle.std.proofs.lemmas.List.{append-nil, map-append}
 use Rattle.std.proofs.lemmas.List.Elements.{filter-append, filter_agree, filter_more}
-use Rattle.suit_cards.specs.Cards.{Counts, Indices}
+use Rattle.suit_cards.specs.Cards.{ClassLayout, Indices}
 use Rattle.suit_cards.specs.declared.seats.Seat.{Seat}
 use Rattle.suit_cards.specs.declared.seats.Seat.TheVariants.{N, E, S, W}
 use Rattle.suit_game.proofs.EachElement.{map_same}
@@ -14,7 +14,7 @@ use Rattle.suit_classes.specs.declared.class_moves.ClassMove.{ClassMove}
 use Rattle.suit_classes.specs.declared.class_moves.ClassMove.TheVariants.{Lead, Follow, ShowOut}
 use Rattle.suit_classes.specs.declared.class_turn.ClassTurn.{ClassTurn}
 use Rattle.suit_classes.specs.declared.class_turn.ClassTurn.TheVariants as turns
-use Rattle.suit_classes.specs.AllowedHistories.{every_move, is_among}
+use Rattle.suit_classes.specs.WhatIsAllowed.{every_move, is_among}
 use Rattle.suit_classes.specs.declared.class_view.ClassView.{ClassView}
 use Rattle.suit_classes.specs.declared.class_trick.ClassTrick.{ClassTrick}
 use Rattle.suit_classes.specs.declared.class_trick.ClassTrick.TheVariants.{Closed, Open}
@@ -56,7 +56,7 @@ undecided_theirs true trick theirs = absurd (false≢true theirs)
 undecided_theirs false trick theirs = (refl, theirs)
 
 -- declarer's moves are the same whatever West was dealt
-own_alike : (view : ClassView) (trick : ClassTrick) (counts other : Counts) → is_own (turn_of trick) ≡ true
+own_alike : (view : ClassView) (trick : ClassTrick) (counts other : ClassLayout) → is_own (turn_of trick) ≡ true
     → class_moves_in view counts trick ≡ class_moves_in view other trick
 own_alike view Closed counts other own = refl
 own_alike view (Open N after winner highest) counts other own = refl
@@ -77,7 +77,7 @@ no_lead_shown [] seat class = refl
 no_lead_shown (other ∷ classes) seat class = no_lead_followed classes seat class
 
 -- a defender never leads
-no_lead : (view : ClassView) (trick : ClassTrick) (counts : Counts) (seat : Seat) (class : ℕ)
+no_lead : (view : ClassView) (trick : ClassTrick) (counts : ClassLayout) (seat : Seat) (class : ℕ)
     → is_theirs (turn_of trick) ≡ true
     → is_among (class_moves_in view counts trick) (Lead seat class) ≡ false
 no_lead view Closed counts seat class theirs = absurd (false≢true theirs)
@@ -87,14 +87,14 @@ no_lead view (Open turn after winner highest) counts seat class theirs =
 -- ---- the moves at each index
 
 -- of some moves, those which may be made at some index
-abbrev pub made_from : List (Counts × ℕ) → ClassView → Indices → List ClassMove → List ClassMove
+abbrev pub made_from : List (ClassLayout × ℕ) → ClassView → Indices → List ClassMove → List ClassMove
 made_from layouts view indices moves = filter (λ move. nat_lt 0 (length (keeping layouts view indices move))) moves
 
 pub filter-true : (xs : List ℕ) → filter (λ x. true) xs ≡ xs
 filter-true [] = refl
 filter-true (x ∷ xs) = ap (λ (l : List ℕ). x ∷ l) (filter-true xs)
 
-module _ (layouts : List (Counts × ℕ)) (view : ClassView) (indices : Indices) where
+module _ (layouts : List (ClassLayout × ℕ)) (view : ClassView) (indices : Indices) where
   -- where declarer is on turn, a move of his may be made at all indices
   keeping_own : (move : ClassMove) → is_own (turn_of view.trick) ≡ true
       → keeping layouts view indices move ≡ (if is_among (class_moves view []) move then indices else [])

@@ -8,11 +8,11 @@ use Rattle.suit_classes.specs.declared.class_moves.ClassMove.{ClassMove}
 use Rattle.suit_classes.specs.declared.class_view.ClassView.{ClassView}
 use Rattle.suit_classes.specs.ClassPlaces.{class_after, class_decided, class_moves, class_step}
 use Rattle.suit_classes.proofs.SmallCounts.{class_after_move}
-use Rattle.suit_classes.proofs.ToldHistories.{allows-push}
-use Rattle.suit_cards.proofs.SuitRuns.{filter-filter}
+use Rattle.suit_classes.proofs.AllowsOneMoveMore.{allows-push}
+use Rattle.suit_lists.proofs.Filters.{filter-filter}
 use Rattle.suit_tree.proofs.Branches.{filter-true}
 use Rattle.suit_tree.specs.declared.node.Node.{Node}
-use Rattle.suit_classes.specs.AllowedHistories.{allows, allows_from, is_among, every_move}
+use Rattle.suit_classes.specs.WhatIsAllowed.{allows, allows_from, is_among, every_move}
 use Rattle.suit_classes.specs.Classes.{sizes_of}
 use Rattle.suit_tree.specs.Growing.{IsGrown, StandsFor, keeping, moves_from}
 use Rattle.suit_tree.specs.Nodes.{children_of, move_to}

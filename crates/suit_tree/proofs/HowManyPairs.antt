@@ -12,9 +12,9 @@ use Rattle.suit_classes.specs.declared.class_moves.ClassMove.{ClassMove}
 use Rattle.suit_classes.specs.declared.class_view.ClassView.{ClassView}
 use Rattle.suit_classes.specs.ClassPlaces.{class_after, class_decided, class_moves, class_start, class_step}
 use Rattle.suit_classes.proofs.SmallCounts.{class_after_move}
-use Rattle.suit_classes.specs.AllowedHistories.{is_among, every_move}
+use Rattle.suit_classes.specs.WhatIsAllowed.{is_among, every_move}
 use Rattle.suit_classes.specs.Classes.{sizes_of}
-use Rattle.suit_tree.specs.CountedHistories.{continued, counted_histories, node_count}
+use Rattle.suit_tree.specs.WhatIsCounted.{continued, counted_histories, node_count}
 use Rattle.suit_tree.specs.Growing.{keeping, moves_from, pairs_from}
 use Rattle.suit_tree.specs.Trees.{counts_at, layout_indices}
 use Rattle.suit_classes.proofs.EveryMove.{class_moves_listed}

@@ -18,14 +18,14 @@ use Rattle.suit_classes.specs.declared.class_trick.ClassTrick.{ClassTrick}
 use Rattle.suit_classes.specs.ClassPlaces.{class_after, class_decided, class_moves, class_moves_in, class_numbers}
 use Rattle.suit_classes.specs.ClassPlaces.{class_start, class_step, classes_left, counted_classes, left, may_lead}
 use Rattle.suit_classes.specs.ClassPlaces.{or_show_out}
-use Rattle.suit_classes.specs.AllowedHistories.{allows, allows_from, is_among, every_move}
+use Rattle.suit_classes.specs.WhatIsAllowed.{allows, allows_from, is_among, every_move}
 use Rattle.suit_tree.specs.Trees.{allowing, counts_at, layout_indices, moves_on}
 use Rattle.suit_classes.proofs.ClassNumbers.{kept_some}
 use Rattle.suit_classes.proofs.SameMoves.{among-Contains}
 use Rattle.suit_classes.proofs.DistinctMoves.{each_if, once_range}
 use Rattle.suit_game.proofs.DistinctElements.{IsOnce, once_append, once_filter, once_map}
 use Rattle.suit_classes.proofs.DistinctMoves.{once_unless}
-use Rattle.suit_classes.proofs.ToldHistories.{allows-push}
+use Rattle.suit_classes.proofs.AllowsOneMoveMore.{allows-push}
 use Rattle.suit_classes.specs.Classes.{sizes_of}
 use Rattle.suit_layouts.specs.ClassLayouts.{class_layouts}
 use Rattle.suit_classes.specs.ClassMoves.{ClassHistory}

@@ -19,7 +19,7 @@ use Rattle.suit_tree.specs.Trees.{AllFit, IsTreeAt, StandsAt, allowing, moves_on
 use Rattle.suit_classes.proofs.SameMoves.{same_move-itself, same_move_is}
 use Rattle.suit_game.proofs.DistinctElements.{IsOnce}
 use Rattle.suit_tree.proofs.MovesOn.{Contains-moves_on, allowing_start, moves_on-parts, once_moves_on}
-use Rattle.suit_tree.proofs.ListedHistories.{GoesOn}
+use Rattle.suit_tree.proofs.EachHistoryIsCountedOnce.{GoesOn}
 
 -- the nodes that moves lead to, each in its turn
 abbrev pub AreLed : (ClassMove → Node → Type 0) → List ClassMove → List Node → Type 0

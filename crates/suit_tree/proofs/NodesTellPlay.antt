@@ -7,22 +7,22 @@ use Rattle.std.proofs.lemmas.Bool.{and_parts}
 use Rattle.std.proofs.lemmas.List.{append-nil, append_assoc, length-append}
 use Rattle.std.proofs.lemmas.List.Elements.{All-from_recursion}
 use Rattle.std.proofs.lemmas.List.Kept.{AllPairs-cons, AllPairs-filter}
-use Rattle.suit_cards.specs.Cards.{Cards, Counts}
+use Rattle.suit_cards.specs.Cards.{Cards, ClassLayout}
 use Rattle.suit_game.specs.declared.question.Question.{Question}
 use Rattle.suit_game.specs.Histories.{History}
 use Rattle.suit_game.specs.PlaceViews.{IsPlay}
 use Rattle.suit_game.specs.Validity.{IsValid}
 use Rattle.suit_game.proofs.EachElement.{Contains-first, each_at, each_gives, kept_parts}
 use Rattle.suit_classes.specs.declared.class_moves.ClassMove.{ClassMove}
-use Rattle.suit_classes.specs.AllowedHistories.{every_move}
+use Rattle.suit_classes.specs.WhatIsAllowed.{every_move}
 use Rattle.suit_classes.specs.ClassGame.{Allows}
 use Rattle.suit_classes.specs.ClassMoves.{ClassHistory, merged}
 use Rattle.suit_classes.specs.MoveOrder.{stands_before}
 use Rattle.suit_classes.specs.ClassPlaces.{class_after, class_decided, class_moves, class_numbers, class_payoff}
 use Rattle.suit_classes.specs.Classes.{hands_of, sizes_of}
-use Rattle.suit_classes.proofs.AgreedPlaces.{class_game_agrees}
-use Rattle.suit_classes.proofs.AllowedHistories.{allowed_moves}
-use Rattle.suit_classes.proofs.DecidedPlays.{class_histories_are_short}
+use Rattle.suit_classes.proofs.ClassGameAgrees.{class_game_agrees}
+use Rattle.suit_classes.proofs.AllowedMoveByMove.{allowed_moves}
+use Rattle.suit_classes.proofs.DecidedStaysDecided.{class_histories_are_short}
 use Rattle.suit_game.proofs.DistinctElements.{each_flat_map}
 use Rattle.suit_classes.proofs.SameMoves.{same_move_is}
 use Rattle.suit_layouts.specs.ClassLayouts.{class_layouts}
@@ -31,9 +31,9 @@ use Rattle.suit_tree.specs.Nodes.{children_of, holds_index, is_held, move_to}
 use Rattle.suit_tree.specs.Paths.{is_by, nodes_at, nodes_by}
 use Rattle.suit_tree.specs.TreeLaws.{Rise, TellsPlay}
 use Rattle.suit_tree.specs.Trees.{IsTreeAt, allowing, counts_at, moves_on}
-use Rattle.suit_tree.proofs.CountedNodes.{fit_each, kept_layouts}
-use Rattle.suit_tree.proofs.FittedNodes.{map_fitted, map_fitted_kept}
-use Rattle.suit_tree.proofs.HeldMoves.{held_moves}
+use Rattle.suit_tree.proofs.OneNodeAtEachPath.{fit_each, kept_layouts}
+use Rattle.suit_tree.proofs.NodesFitMoves.{map_fitted, map_fitted_kept}
+use Rattle.suit_tree.proofs.ClassMovesLeadToNodes.{held_moves}
 use Rattle.suit_tree.proofs.NodePaths.{tree_stands}
 use Rattle.suit_game.specs.declared.limits.TheConstants.{MOST_MOVES}
 
@@ -121,7 +121,7 @@ children_moves : (more : ℕ) (question : Question) (path : ClassHistory) (index
     ≡ map Some (class_moves (class_after question path) (counts_at (class_layouts question (sizes_of question)) index))
 unfolding IsTreeAt
 children_moves zero question path index node valid long tree held going =
-    let counts : Counts = counts_at (class_layouts question (sizes_of question)) index in
+    let counts : ClassLayout = counts_at (class_layouts question (sizes_of question)) index in
     let allowed = ((kept_layouts question path index valid).0 held).1 in
     let none = none_listed (class_moves (class_after question path) counts)
     (λ move found.
@@ -162,7 +162,7 @@ nodes_tell_play question west history root node play tree found =
           record { west = west; cards = history; play = play; counted = sym counts; merges = refl } in
           children_moves (MOST_MOVES - length path) question path index node play.valid (omega (arith, at.few)) at.tree
           ((kept_layouts question path index play.valid).1 (below, allowed)) (agrees.decided ∙ going)
-          ∙ ap (λ (c : Counts). map Some (class_moves (class_after question path) c)) counts
+          ∙ ap (λ (c : ClassLayout). map Some (class_moves (class_after question path) c)) counts
           ∙ ap (map Some) agrees.moves;
     }
 

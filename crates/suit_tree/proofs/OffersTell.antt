@@ -9,12 +9,12 @@ use Rattle.std.proofs.lemmas.List.Folds.{list_any_more}
 use Rattle.suit_game.proofs.EachElement.{each_append, each_at, each_in, each_map}
 use Rattle.suit_classes.specs.declared.class_moves.ClassMove.{ClassMove}
 use Rattle.suit_classes.specs.declared.class_moves.ClassMove.TheVariants.{Lead, Follow, ShowOut}
-use Rattle.suit_classes.specs.AllowedHistories.{is_among}
+use Rattle.suit_classes.specs.WhatIsAllowed.{is_among}
 use Rattle.suit_classes.specs.ClassMoves.{same_class_move}
 use Rattle.suit_classes.specs.ClassPlaces.{class_numbers}
 use Rattle.suit_tree.specs.declared.offers.Offers.{Offers}
 use Rattle.suit_tree.specs.Growing.{Tells, is_offered, their_moves}
-use Rattle.suit_tree.proofs.CountedNodes.{in_range_below}
+use Rattle.suit_tree.proofs.OneNodeAtEachPath.{in_range_below}
 use Rattle.suit_classes.specs.declared.classes.TheConstants.{MOST_CLASSES}
 
 none_true : (told : List Bool) → AllByRecursion (λ b. b ≡ false) told → (class : ℕ) → get_or told class false ≡ false

@@ -8,11 +8,11 @@ use native.Mathlib.Numerals.{unary_clauses}
 use Rattle.std.proofs.lemmas.List.{append_assoc, append-nil}
 use Rattle.std.proofs.lemmas.List.Elements.{All-filter}
 use Rattle.std.proofs.Math.ListN.{drop_of_length-le}
-use Rattle.suit_cards.specs.Cards.{Counts, Indices}
+use Rattle.suit_cards.specs.Cards.{ClassLayout, Indices}
 use Rattle.suit_classes.specs.declared.class_moves.ClassMove.{ClassMove}
 use Rattle.suit_classes.specs.declared.class_view.ClassView.{ClassView}
 use Rattle.suit_classes.specs.ClassPlaces.{class_moves}
-use Rattle.suit_classes.specs.AllowedHistories.{is_among}
+use Rattle.suit_classes.specs.WhatIsAllowed.{is_among}
 use Rattle.suit_tree.specs.declared.offers.Offers.{Offers}
 use Rattle.suit_tree.specs.Growing.{Tells, is_offered, keeping, kept_of}
 use Rattle.suit_tree.specs.Trees.{counts_at}
@@ -106,7 +106,7 @@ kept_either : (b c : Bool) (index : ℕ) (these those : Indices) → b ≡ c →
     → (if b then index ∷ these else these) ≡ cond c (index ∷ those) those
 kept_either b c index these those same alike = rw (same, alike) refl
 
-module _ (layouts : List (Counts × ℕ)) (view : ClassView) (move : ClassMove) where
+module _ (layouts : List (ClassLayout × ℕ)) (view : ClassView) (move : ClassMove) where
   -- with the offers at each index, those are kept at which the move may be made
   pub kept_keeping : (indices : Indices) (offers : List Offers)
       → AllZip (λ index told. Tells told (class_moves view (counts_at layouts index))) indices offers

@@ -3,14 +3,14 @@
 -- that ties it to the tree of a question is grown_is_tree of proofs/GrownTrees.
 use Rattle.std.specs.Prelude.{◌≡◌, ◌≤◌, ◌<◌, ◌+◌, ℕ, zero, suc, Bool, true, false, List, [], ◌∷◌, Some, length, get_or}
 use Rattle.std.specs.Prelude.{map, filter, ◌++◌, sum_by, if◌then◌else◌, nat_lt}
-use Rattle.suit_cards.specs.Cards.{Counts, Indices}
+use Rattle.suit_cards.specs.Cards.{ClassLayout, Indices}
 use Rattle.suit_game.specs.declared.question.Question.{Question}
 use Rattle.suit_game.specs.declared.limits.TheConstants.{MOST_MOVES}
 use Rattle.suit_classes.specs.declared.class_moves.ClassMove.{ClassMove}
 use Rattle.suit_classes.specs.declared.class_moves.ClassMove.TheVariants.{Lead, Follow, ShowOut}
 use Rattle.suit_classes.specs.declared.class_turn.ClassTurn.{ClassTurn}
 use Rattle.suit_classes.specs.declared.class_turn.ClassTurn.TheVariants as turns
-use Rattle.suit_classes.specs.AllowedHistories.{is_among, every_move}
+use Rattle.suit_classes.specs.WhatIsAllowed.{is_among, every_move}
 use Rattle.suit_classes.specs.ClassMoves.{ClassHistory}
 use Rattle.suit_classes.specs.declared.class_view.ClassView.{ClassView}
 use Rattle.suit_classes.specs.ClassPlaces.{class_after, class_decided, class_moves, class_numbers, class_payoff}
@@ -30,16 +30,16 @@ pub record HasRoom (more : ℕ) (view : ClassView) : Type 0 where
   pub after : view ≡ class_after question history
 
 -- of some indices of class layouts, those at which a move may be made
-unfoldable pub keeping : List (Counts × ℕ) → ClassView → Indices → ClassMove → Indices
+unfoldable pub keeping : List (ClassLayout × ℕ) → ClassView → Indices → ClassMove → Indices
 keeping layouts view indices move = filter (λ index. is_among (class_moves view (counts_at layouts index)) move) indices
 
 -- the moves which may be made at some of them, in order, and none where the position is decided
-unfoldable pub moves_from : List (Counts × ℕ) → ClassView → Indices → List ClassMove
+unfoldable pub moves_from : List (ClassLayout × ℕ) → ClassView → Indices → List ClassMove
 moves_from layouts view indices =
     if class_decided view then [] else filter (λ move. nat_lt 0 (length (keeping layouts view indices move))) every_move
 
 -- the same, where at most so many moves more may come
-unfoldable pub moves_within : ℕ → List (Counts × ℕ) → ClassView → Indices → List ClassMove
+unfoldable pub moves_within : ℕ → List (ClassLayout × ℕ) → ClassView → Indices → List ClassMove
 moves_within zero layouts view indices = []
 moves_within (suc more) layouts view indices = moves_from layouts view indices
 
@@ -52,7 +52,7 @@ pub record StandsFor (view : ClassView) (indices : Indices) (node : Node) : Type
   pub payoff : payoff_at node ≡ (if class_decided view then class_payoff view else 0)
 
 -- a node with all below it, cut off after so many moves
-unfoldable pub IsGrown : ℕ → List (Counts × ℕ) → ClassView → Indices → Node → Type 0
+unfoldable pub IsGrown : ℕ → List (ClassLayout × ℕ) → ClassView → Indices → Node → Type 0
 IsGrown zero layouts view indices node = StandsFor view indices node × (children_of node ≡ [])
 IsGrown (suc more) layouts view indices node =
     StandsFor view indices node
@@ -61,7 +61,7 @@ IsGrown (suc more) layouts view indices node =
     (moves_from layouts view indices) (children_of node)
 
 -- how many pairs of a node and an index that it holds there are, cut off after so many moves
-unfoldable pub pairs_from : ℕ → List (Counts × ℕ) → ClassView → Indices → ℕ
+unfoldable pub pairs_from : ℕ → List (ClassLayout × ℕ) → ClassView → Indices → ℕ
 pairs_from zero layouts view indices = length indices
 pairs_from (suc more) layouts view indices =
     length indices
@@ -82,7 +82,7 @@ abbrev pub branch_seen : Branch → ClassMove × Indices
 branch_seen branch = (branch.mv, branch.indices.now)
 
 -- the branches of a position, seen so
-abbrev pub branched : ℕ → List (Counts × ℕ) → ClassView → Indices → List (ClassMove × Indices)
+abbrev pub branched : ℕ → List (ClassLayout × ℕ) → ClassView → Indices → List (ClassMove × Indices)
 branched more layouts view indices =
     map (λ move. (move, keeping layouts view indices move)) (moves_within more layouts view indices)
 

@@ -1,4 +1,4 @@
-pub mod CountedHistories
+pub mod WhatIsCounted
 pub mod Growing
 pub mod Nodes
 pub mod Paths

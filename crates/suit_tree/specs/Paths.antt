@@ -1,7 +1,7 @@
 -- The class histories that are counted, and the nodes at the paths that they are below a node.
 use Rattle.std.specs.Prelude.{◌≡◌, Bool, false, List, [], ◌∷◌, ◌++◌, Option, Some, None, filter}
 use Rattle.std.specs.List.{flat_map}
-use Rattle.suit_cards.specs.Cards.{Counts}
+use Rattle.suit_cards.specs.Cards.{ClassLayout}
 use Rattle.suit_game.specs.declared.question.Question.{Question}
 use Rattle.suit_classes.specs.declared.class_moves.ClassMove.{ClassMove}
 use Rattle.suit_classes.specs.ClassGame.{Allows}
@@ -11,7 +11,7 @@ use Rattle.suit_tree.specs.declared.node.Node.{Node}
 use Rattle.suit_tree.specs.Nodes.{move_to, children_of}
 
 -- a history that counts allow and that goes past no decided position
-pub record IsCounted (question : Question) (counts : Counts) (history : ClassHistory) : Type 0 where
+pub record IsCounted (question : Question) (counts : ClassLayout) (history : ClassHistory) : Type 0 where
   pub allowed : Allows question counts history
   pub undecided : (start rest : ClassHistory) → history ≡ start ++ rest → (rest ≡ [] → ⊥)
       → class_decided (class_after question start) ≡ false

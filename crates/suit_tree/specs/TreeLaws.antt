@@ -1,7 +1,7 @@
 -- What holds of the counted class histories and the tree of every question.
 use Rattle.std.specs.Prelude.{◌≡◌, ◌≢◌, ℕ, ◌<◌, ◌↔◌, true, false, List, [], ◌∷◌, Some, length, map, filter, AllPairs}
 use Rattle.std.specs.Prelude.{Contains}
-use Rattle.suit_cards.specs.Cards.{Cards, Counts}
+use Rattle.suit_cards.specs.Cards.{Cards, ClassLayout}
 use Rattle.suit_game.specs.declared.question.Question.{Question}
 use Rattle.suit_game.specs.Histories.{History}
 use Rattle.suit_game.specs.PlaceViews.{IsPlay}
@@ -13,33 +13,33 @@ use Rattle.suit_classes.specs.MoveOrder.{stands_before}
 use Rattle.suit_classes.specs.declared.class_moves.ClassMove.{ClassMove}
 use Rattle.suit_classes.specs.ClassGame.{Allows, class_turn_at, counts_of, is_decided, merged_moves}
 use Rattle.suit_tree.specs.declared.node.Node.{Node}
-use Rattle.suit_classes.specs.AllowedHistories.{allows}
+use Rattle.suit_classes.specs.WhatIsAllowed.{allows}
 use Rattle.suit_classes.specs.Classes.{hands_of, sizes_of}
-use Rattle.suit_tree.specs.CountedHistories.{counted_histories}
+use Rattle.suit_tree.specs.WhatIsCounted.{counted_histories}
 use Rattle.suit_tree.specs.Nodes.{children_of, holds_index, move_to, payoff_at, turn_at}
 use Rattle.suit_tree.specs.Paths.{IsCounted, nodes_at}
 use Rattle.suit_tree.specs.Trees.{IsTreeAt, StandsAt, allowing, counts_at}
 use Rattle.suit_layouts.specs.ClassLayouts.{class_layouts}
 
 -- West's counts in the class layouts of positive weight
-abbrev pub listed_counts : Question → List Counts
-listed_counts question = map (λ (layout : Counts × ℕ). layout.0) (class_layouts question (sizes_of question))
+abbrev pub listed_counts : Question → List ClassLayout
+listed_counts question = map (λ (layout : ClassLayout × ℕ). layout.0) (class_layouts question (sizes_of question))
 
 -- they are told to allow the class histories that they allow
 abbrev pub AllowsIsAllowed : Type 0
-AllowsIsAllowed = (question : Question) (counts : Counts) (history : ClassHistory) → IsValid question
+AllowsIsAllowed = (question : Question) (counts : ClassLayout) (history : ClassHistory) → IsValid question
     → Contains (listed_counts question) counts
     → (allows question counts history ≡ true) ↔ Allows question counts history
 
 -- exactly the histories that they allow and that go past no decided position are counted for them
 abbrev pub CountedExactly : Type 0
-CountedExactly = (question : Question) (counts : Counts) (history : ClassHistory) → IsValid question
+CountedExactly = (question : Question) (counts : ClassLayout) (history : ClassHistory) → IsValid question
     → Contains (listed_counts question) counts
     → Contains (counted_histories question counts) history ↔ IsCounted question counts history
 
 -- each once
 abbrev pub CountedOnce : Type 0
-CountedOnce = (question : Question) (counts : Counts)
+CountedOnce = (question : Question) (counts : ClassLayout)
     → AllPairs (λ here there. here ≢ there) (counted_histories question counts)
 
 -- the indices that go with a history, which a node at it holds, are those of exactly the class layouts that allow it
@@ -51,7 +51,8 @@ KeptLayouts = (question : Question) (history : ClassHistory) (index : ℕ) → I
 
 -- at the path of each history that is counted for some class layout stands one node
 abbrev pub OneNodeAtEachPath : Type 0
-OneNodeAtEachPath = (question : Question) (counts : Counts) (history : ClassHistory) (root : Node) → IsValid question
+OneNodeAtEachPath = (question : Question) (counts : ClassLayout) (history : ClassHistory) (root : Node)
+    → IsValid question
     → Contains (listed_counts question) counts
     → IsCounted question counts history → IsTreeAt MOST_MOVES question [] root → (node : Node)
     × (nodes_at history root ≡ node ∷ []) × StandsAt question history node
@@ -59,7 +60,7 @@ OneNodeAtEachPath = (question : Question) (counts : Counts) (history : ClassHist
 -- and at no other path any
 abbrev pub NoOtherNode : Type 0
 NoOtherNode = (question : Question) (history : ClassHistory) (root : Node) → IsValid question
-    → ((counts : Counts) → Contains (listed_counts question) counts → IsCounted question counts history → ⊥)
+    → ((counts : ClassLayout) → Contains (listed_counts question) counts → IsCounted question counts history → ⊥)
     → IsTreeAt MOST_MOVES question [] root → nodes_at history root ≡ []
 
 -- what a node says of the play of single cards: of a legal history under a layout that merges to the node's path

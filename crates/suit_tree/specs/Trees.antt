@@ -3,7 +3,7 @@
 use Rattle.std.specs.Prelude.{⊤, ◌≡◌, ℕ, zero, suc, List, [], ◌∷◌, ◌++◌, Some, None, length, filter, get_or}
 use Rattle.std.specs.Prelude.{if◌then◌else◌, nat_lt}
 use Rattle.std.specs.List.{range_with_len}
-use Rattle.suit_cards.specs.Cards.{Counts, Indices}
+use Rattle.suit_cards.specs.Cards.{ClassLayout, Indices}
 use Rattle.suit_game.specs.declared.question.Question.{Question}
 use Rattle.suit_game.specs.declared.limits.TheConstants.{MOST_MOVES}
 use Rattle.suit_classes.specs.declared.class_moves.ClassMove.{ClassMove}
@@ -11,18 +11,18 @@ use Rattle.suit_classes.specs.ClassMoves.{ClassHistory}
 use Rattle.suit_classes.specs.ClassPlaces.{class_after, class_decided, class_turn, class_payoff}
 use Rattle.suit_tree.specs.declared.node.Node.{Node}
 use Rattle.suit_tree.specs.declared.tree.Tree.{Tree}
-use Rattle.suit_classes.specs.AllowedHistories.{allows, every_move}
+use Rattle.suit_classes.specs.WhatIsAllowed.{allows, every_move}
 use Rattle.suit_classes.specs.Classes.{sizes_of}
-use Rattle.suit_tree.specs.CountedHistories.{node_count}
+use Rattle.suit_tree.specs.WhatIsCounted.{node_count}
 use Rattle.suit_tree.specs.Nodes.{move_to, turn_at, layouts_at, payoff_at, children_of}
 use Rattle.suit_layouts.specs.ClassLayouts.{class_layouts}
 
 -- West's counts in the class layout at an index
-abbrev pub counts_at : List (Counts × ℕ) → ℕ → Counts
+abbrev pub counts_at : List (ClassLayout × ℕ) → ℕ → ClassLayout
 counts_at layouts index = (get_or layouts index ([], 0)).0
 
 -- the indices of the class layouts, rising
-abbrev pub layout_indices : List (Counts × ℕ) → Indices
+abbrev pub layout_indices : List (ClassLayout × ℕ) → Indices
 layout_indices layouts = range_with_len 0 (length layouts)
 
 -- the indices of the class layouts of positive weight that allow a class history, rising

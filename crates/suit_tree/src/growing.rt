@@ -4,7 +4,7 @@ ghost use Rattle.std.specs.Prelude.{if◌then◌else◌};
 ghost use Rattle.std.specs.List.{range_with_len};
 ghost use Rattle.suit_tree.specs.declared.tree_end.TreeEnd.TheVariants.{Nodes, Memory};
 ghost use Rattle.suit_game.specs.Validity.{IsValid};
-ghost use Rattle.suit_tree.specs.CountedHistories.{node_count};
+ghost use Rattle.suit_tree.specs.WhatIsCounted.{node_count};
 ghost use Rattle.suit_tree.specs.Growing.{HasRoom, IsGrown, branch_seen, branched, pairs_from};
 ghost use Rattle.suit_tree.specs.Nodes.{move_to};
 ghost use Rattle.suit_tree.specs.Trees.{IsTreeOf};

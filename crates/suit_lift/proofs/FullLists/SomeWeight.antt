@@ -17,11 +17,11 @@ use Rattle.suit_classes.specs.declared.class_moves.ClassMove.{ClassMove}
 use Rattle.suit_classes.specs.Classes.{Hands, hands_of}
 use Rattle.suit_classes.specs.ClassGame.{counts_of, each_once}
 use Rattle.suit_classes.specs.ClassMoves.{merge, merged}
-use Rattle.suit_classes.proofs.AllowedHistories.{each_once-Contains}
+use Rattle.suit_classes.proofs.AllowedMoveByMove.{each_once-Contains}
 use Rattle.suit_plans.specs.declared.plan.Plan.{Plan}
 use Rattle.suit_plans.specs.declared.defence.Defence.{Defence}
 use Rattle.suit_plans.specs.Masses.{defence_shares_at, plan_shares_at}
-use Rattle.suit_classes.proofs.UndecidedMoves.{HasFirst}
+use Rattle.suit_classes.proofs.UndecidedHasAMove.{HasFirst}
 use Rattle.suit_lift.specs.Lifts.{RowCounts, class_share, common, defence_way, is_lowest, plan_way, row_count}
 use Rattle.suit_lift.proofs.FellowsOfAClass.{weights_total}
 use Rattle.suit_lift.proofs.SumsOverMergedMoves.{lowest_sum}

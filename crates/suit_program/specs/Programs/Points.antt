@@ -1,7 +1,7 @@
 -- The columns of a support's program by name, and points, which give each a number.
 use Rattle.std.specs.Prelude.{ℕ, suc, ◌&&◌, Bool, false, List, [], ◌∷◌, ℤ, pos, ◌+ℤ◌, ◌*ℤ◌, ◌≤ℤ◌, bytes_eq}
 use Rattle.std.specs.Prelude.{if◌then◌else◌}
-use Rattle.suit_cards.specs.Cards.{Counts}
+use Rattle.suit_cards.specs.Cards.{ClassLayout}
 use Rattle.suit_classes.specs.declared.class_moves.ClassMove.{ClassMove}
 use Rattle.suit_classes.specs.ClassMoves.{ClassHistory, same_class_move}
 use Rattle.suit_plans.specs.Orders.{same_class_history}
@@ -10,7 +10,7 @@ use Rattle.suit_plans.specs.Orders.{same_class_history}
 -- theirs, where West has these counts
 pub data Column : Type 0 where
   Passed : (history : ClassHistory) (move : ClassMove) → Column
-  Held : (west : Counts) (history : ClassHistory) → Column
+  Held : (west : ClassLayout) (history : ClassHistory) → Column
 
 -- a number for each column, and what stands for the number 1
 pub record Point : Type 0 where

@@ -1,6 +1,6 @@
 -- What holds of the program of every support.
 use Rattle.std.specs.Prelude.{◌≡◌, ◌≢◌, ◌<◌, AllPairs, get_or, length, ℕ, List, ℤ, ◌+ℤ◌, ◌-ℤ◌, ◌*ℤ◌}
-use Rattle.suit_cards.specs.Cards.{Counts}
+use Rattle.suit_cards.specs.Cards.{ClassLayout}
 use Rattle.suit_game.specs.declared.question.Question.{Question}
 use Rattle.suit_game.specs.Validity.{IsValid}
 use Rattle.suit_classes.specs.declared.class_moves.ClassMove.{ClassMove}
@@ -53,7 +53,8 @@ ColumnsAreGiven = (question : Question) (support : Support) (given : ℕ → ℤ
 
 -- and the price of a row of the defence is the one that stands in its place
 abbrev pub PricesAreNamed : Type 0
-PricesAreNamed = (question : Question) (support : Support) (prices : List ℤ) (index : ℕ) (limit : Limit) (west : Counts)
+PricesAreNamed = (question : Question) (support : Support) (prices : List ℤ) (index : ℕ) (limit : Limit)
+    (west : ClassLayout)
     (history : ClassHistory) (move : ClassMove) → length prices ≡ length (limits question support)
     → index < length (limits question support)
     → get_or (limits question support) index limit ≡ Answered west history move

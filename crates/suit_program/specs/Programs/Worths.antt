@@ -1,7 +1,7 @@
 -- What play with the moves of a support comes to at a point.
 use Rattle.std.specs.Prelude.{ℕ, zero, suc, ◌-◌, List, [], ◌∷◌, ◌++◌, length, map, Some, None, if◌then◌else◌}
 use Rattle.std.specs.Prelude.{ℤ, pos, ◌*ℤ◌}
-use Rattle.suit_cards.specs.Cards.{Counts}
+use Rattle.suit_cards.specs.Cards.{ClassLayout}
 use Rattle.suit_game.specs.declared.question.Question.{Question}
 use Rattle.suit_game.specs.declared.limits.TheConstants.{MOST_MOVES}
 use Rattle.suit_classes.specs.ClassMoves.{ClassHistory}
@@ -39,7 +39,7 @@ summed question support point history (worth ∷ worths) = sum_of (worth ∷ wor
 
 -- what a class history is worth in a class layout at a point, which fewer than so many moves follow: its column at a
 -- choice of the defence, and else what the moves of the support make of it
-unfoldable pub worth_within : Question → Support → Point → ℕ → Counts → ClassHistory → ℤ
+unfoldable pub worth_within : Question → Support → Point → ℕ → ClassLayout → ClassHistory → ℤ
 worth_within question support point zero west history = pos 0
 worth_within question support point (suc more) west history =
     if defence_chooses question west history then point.at (Held west history)
@@ -48,12 +48,12 @@ worth_within question support point (suc more) west history =
     (supported_moves question support west history))
 
 -- what it is worth; no class history has more than 52 moves
-abbrev pub worth_at : Question → Support → Point → Counts → ClassHistory → ℤ
+abbrev pub worth_at : Question → Support → Point → ClassLayout → ClassHistory → ℤ
 worth_at question support point west history =
     worth_within question support point (suc MOST_MOVES - length history) west history
 
 -- the worths of all class layouts at the start, each with its weight
 unfoldable pub objective_at : Question → Support → Point → ℤ
 objective_at question support point =
-    sum_of (map (λ (layout : Counts × ℕ). pos layout.1 *ℤ worth_at question support point layout.0 [])
+    sum_of (map (λ (layout : ClassLayout × ℕ). pos layout.1 *ℤ worth_at question support point layout.0 [])
     (layouts_of question))

@@ -3,11 +3,11 @@ use Rattle.std.specs.Prelude.{◌≡◌, ℕ, zero, suc, ◌<◌, ◌&&◌, ◌|
 use Rattle.std.specs.Prelude.{false, List, [], ◌∷◌, ◌++◌, Option, Some, None, All, Contains}
 use Rattle.std.specs.Prelude.{bytes_eq, length, fold, slice_get, if◌then◌else◌}
 use Rattle.std.specs.List.{list_any}
-use Rattle.suit_cards.specs.Cards.{Counts}
+use Rattle.suit_cards.specs.Cards.{ClassLayout}
 use Rattle.suit_game.specs.declared.question.Question.{Question}
 use Rattle.suit_game.specs.Validity.{IsValid}
 use Rattle.suit_classes.specs.declared.class_moves.ClassMove.{ClassMove}
-use Rattle.suit_classes.specs.AllowedHistories.{allows, is_among}
+use Rattle.suit_classes.specs.WhatIsAllowed.{allows, is_among}
 use Rattle.suit_classes.specs.ClassMoves.{ClassHistory, same_class_move}
 use Rattle.suit_classes.specs.ClassPlaces.{class_after, class_decided, class_turn}
 use Rattle.suit_plans.specs.declared.moves.DeclarerMove.{DeclarerMove}
@@ -81,7 +81,7 @@ abbrev pub defence_mark : MarkedSupport → ℕ → Option Mark
 defence_mark support index = slice_get support.defences.items index
 
 -- whether a support names a move of the defence's where West has these counts
-unfoldable pub defence_named : Question → MarkedSupport → Counts → ClassHistory → ClassMove → Bool
+unfoldable pub defence_named : Question → MarkedSupport → ClassLayout → ClassHistory → ClassMove → Bool
 defence_named question support west history move =
     list_any (λ index. bytes_eq (counts_at question index) west && named_on (defence_mark support index) history move)
     (layout_indices (layouts_of question))

@@ -2,7 +2,7 @@
 -- private functions.
 use Rattle.std.specs.Prelude.{◌≡◌, ℕ, ◌<◌, List, [], ◌++◌, get_or, length, Option, ℤ, Vec}
 use Rattle.std.specs.Global.{Global}
-use Rattle.suit_cards.specs.Cards.{Counts}
+use Rattle.suit_cards.specs.Cards.{ClassLayout}
 use Rattle.suit_game.specs.declared.question.Question.{Question}
 use Rattle.suit_classes.specs.ClassMoves.{ClassHistory}
 use Rattle.suit_plans.specs.declared.defence.DefenceRow.{DefenceRow}
@@ -24,14 +24,14 @@ abbrev pub rows_of : RowList → List DefenceRow
 rows_of list = list.items
 
 -- what reads a defence in the class layout at an index
-pub record IsReaderAt (layouts : List (Counts × ℕ)) (prices : List ℤ) (index : ℕ) (reader : DefenceReader) : Type 0
+pub record IsReaderAt (layouts : List (ClassLayout × ℕ)) (prices : List ℤ) (index : ℕ) (reader : DefenceReader) : Type 0
   where
     pub at : reader.index ≡ index
     pub west : reader.west.now ≡ (get_or layouts index ([], 0)).0
     pub priced : reader.prices.now ≡ prices
 
 -- what reads one in each of the first class layouts
-pub record AreReaders (layouts : List (Counts × ℕ)) (prices : List ℤ) (count : ℕ) (readers : List DefenceReader) :
+pub record AreReaders (layouts : List (ClassLayout × ℕ)) (prices : List ℤ) (count : ℕ) (readers : List DefenceReader) :
     Type 0 where
   pub long : length readers ≡ count
   pub each : (index : ℕ) (reader : DefenceReader) → index < count

@@ -1,7 +1,7 @@
 -- How the rows of a defence are read by a walk over what is reached, for the contracts of private functions.
 use Rattle.std.specs.Prelude.{◌≡◌, ℕ, ◌<◌, ◌&&◌, true, All, List, [], ◌∷◌, length, Option, Some, None, ℤ, pos, ◌≤ℤ◌}
 use Rattle.std.specs.Prelude.{if◌then◌else◌}
-use Rattle.suit_cards.specs.Cards.{Counts}
+use Rattle.suit_cards.specs.Cards.{ClassLayout}
 use Rattle.suit_game.specs.declared.question.Question.{Question}
 use Rattle.suit_game.specs.Validity.{IsValid}
 use Rattle.suit_classes.specs.ClassMoves.{ClassHistory}
@@ -35,13 +35,13 @@ pub record IsPricedTree (tree : Tree) (support : MarkedSupport) (prices : List �
   pub few : scale ≤ℤ MOST_DEN
 
 -- the row at a class history of some counts, if it is reached there and has one
-abbrev pub their_row : Question → Support → Counts → Reading → ClassHistory → List DefenceRow
+abbrev pub their_row : Question → Support → ClassLayout → Reading → ClassHistory → List DefenceRow
 their_row question support west reading history =
     if is_reached question support west history && has_row reading history
     then record { west = west; history = history; counts = row_counts reading history } ∷ [] else []
 
 -- the row that shares of a mass make
-abbrev pub their_row_of : Counts → ClassHistory → ℤ → Option Shares → List DefenceRow
+abbrev pub their_row_of : ClassLayout → ClassHistory → ℤ → Option Shares → List DefenceRow
 their_row_of west history mass None = []
 their_row_of west history mass (Some shares) =
     if wants_row mass shares then record { west = west; history = history; counts = without_nothing shares } ∷ []

@@ -1,6 +1,6 @@
 -- How many rows and columns stand at the class histories that are reached, from one of them on.
 use Rattle.std.specs.Prelude.{◌≡◌, ℕ, ◌+◌, ◌-◌, length, sum_by}
-use Rattle.suit_cards.specs.Cards.{Counts}
+use Rattle.suit_cards.specs.Cards.{ClassLayout}
 use Rattle.suit_game.specs.declared.question.Question.{Question}
 use Rattle.suit_game.specs.declared.limits.TheConstants.{MOST_MOVES}
 use Rattle.suit_classes.specs.ClassMoves.{ClassHistory}
@@ -20,7 +20,7 @@ size_from question support history =
     sum_by (size_at question support) (histories_from question support (MOST_MOVES - length history) history)
 
 -- at it, for the defence in a class layout
-abbrev pub layout_size : Question → Support → ClassHistory → Counts × ℕ → ℕ
+abbrev pub layout_size : Question → Support → ClassHistory → ClassLayout × ℕ → ℕ
 layout_size question support history layout =
     length (answered_limits question support history layout) + length (held_column question history layout)
 

@@ -4,12 +4,12 @@ use Rattle.std.specs.Prelude.{◌≡◌, ⊤, ℕ, suc, ◌+◌, ◌-◌, ◌<�
 use Rattle.std.specs.Prelude.{filter}
 use Rattle.std.specs.Prelude.{if◌then◌else◌, true, length, get_or, ℤ, pos, negsuc, ◌+ℤ◌}
 use Rattle.std.specs.List.{flat_map}
-use Rattle.suit_cards.specs.Cards.{Counts}
+use Rattle.suit_cards.specs.Cards.{ClassLayout}
 use Rattle.suit_game.specs.declared.question.Question.{Question}
 use Rattle.suit_game.specs.declared.limits.TheConstants.{MOST_MOVES, MOST_SUPPORT}
 use Rattle.suit_classes.specs.declared.class_moves.ClassMove.{ClassMove}
 use Rattle.suit_classes.specs.declared.class_moves.ClassMove.TheVariants.{ShowOut}
-use Rattle.suit_classes.specs.AllowedHistories.{is_among}
+use Rattle.suit_classes.specs.WhatIsAllowed.{is_among}
 use Rattle.suit_classes.specs.ClassMoves.{ClassHistory, same_class_move}
 use Rattle.suit_classes.specs.ClassPlaces.{class_after, class_turn}
 use Rattle.suit_plans.specs.Masses.{is_defences}
@@ -59,7 +59,7 @@ told number first (limit ∷ limits) row =
 -- ---- accounts
 
 -- the class layout of an account, with its weight
-abbrev pub layout_of : Question → Account → Counts × ℕ
+abbrev pub layout_of : Question → Account → ClassLayout × ℕ
 layout_of question account = get_or (layouts_of question) account.index ([], 0)
 
 -- what accounts add to a row for what their class layouts are worth at a class history

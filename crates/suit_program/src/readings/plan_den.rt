@@ -1,7 +1,7 @@
 //! The denominator of the plan that is read from the optimum of a support's program.
 ghost use Rattle.std.specs.Prelude.{◌≡◌, IfErr, IfOk};
 ghost use Rattle.suit_program.specs.Supports.Marks.{support_seen};
-ghost use Rattle.suit_program.specs.Readings.ReadOptima.{IsEndOf, IsOptimumFor, IsPlanDen};
+ghost use Rattle.suit_program.specs.Readings.ReadingOfAnOptimum.{IsEndOf, IsOptimumFor, IsPlanDen};
 
 use crate::readings::denominators::common_den;
 use crate::walks::columns::passed_columns;

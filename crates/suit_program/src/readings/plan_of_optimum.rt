@@ -2,7 +2,7 @@
 ghost use Rattle.std.specs.Prelude.{◌≡◌, IfErr, IfOk};
 ghost use Rattle.suit_program.specs.declared.readings.plan_end.PlanEnd.TheVariants.{Memory};
 ghost use Rattle.suit_program.specs.Supports.Marks.{support_seen};
-ghost use Rattle.suit_program.specs.Readings.ReadOptima.{IsPlanCase};
+ghost use Rattle.suit_program.specs.Readings.ReadingOfAnOptimum.{IsPlanCase};
 ghost use Rattle.suit_program.specs.Readings.ReadingLaws.{plan_read};
 
 use crate::walks::plan_reader::PlanReader;

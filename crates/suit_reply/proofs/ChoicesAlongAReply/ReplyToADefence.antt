@@ -5,22 +5,22 @@ use Rattle.std.specs.Prelude.{Contains, filter, if◌then◌else◌, pos, ◌≤
 use Rattle.std.proofs.lemmas.Bool.{and_parts, false_from_ne_true}
 use Rattle.std.proofs.lemmas.List.{length-append}
 use Rattle.std.proofs.lemmas.Simd.{map-map}
-use Rattle.suit_cards.specs.Cards.{Counts}
+use Rattle.suit_cards.specs.Cards.{ClassLayout}
 use Rattle.suit_game.specs.declared.question.Question.{Question}
 use Rattle.suit_game.specs.Validity.{IsValid}
 use Rattle.suit_game.proofs.EachElement.{Contains-filter, kept_parts}
 use Rattle.suit_classes.specs.declared.class_moves.ClassMove.{ClassMove}
-use Rattle.suit_classes.specs.AllowedHistories.{allows, every_move, is_among}
+use Rattle.suit_classes.specs.WhatIsAllowed.{allows, every_move, is_among}
 use Rattle.suit_classes.specs.ClassGame.{Allows}
 use Rattle.suit_classes.specs.ClassPlaces.{class_after, class_decided, class_moves}
-use Rattle.suit_classes.proofs.AllowedLayouts.{allows_tells}
-use Rattle.suit_classes.proofs.DecidedPlays.{class_histories_are_short}
+use Rattle.suit_classes.proofs.CountsAllowAsTold.{allows_tells}
+use Rattle.suit_classes.proofs.DecidedStaysDecided.{class_histories_are_short}
 use Rattle.suit_classes.proofs.DistinctMoves.{once_unless}
 use Rattle.suit_game.proofs.DistinctElements.{once_filter}
 use Rattle.suit_classes.proofs.SameMoves.{among-Contains}
-use Rattle.suit_classes.proofs.ToldHistories.{allows-push}
+use Rattle.suit_classes.proofs.AllowsOneMoveMore.{allows-push}
 use Rattle.suit_classes.specs.ClassMoves.{ClassHistory}
-use Rattle.suit_plans.proofs.AllowedWalks.{start_allows}
+use Rattle.suit_plans.proofs.AllowedSoFar.{start_allows}
 use Rattle.suit_plans.specs.declared.moves.DeclarerMove.{DeclarerMove}
 use Rattle.suit_plans.specs.declared.defence.Defence.{Defence}
 use Rattle.suit_plans.specs.BestReplies.{Reply, allowing_layouts, choices, most_reply, reply_to_defence}
@@ -47,7 +47,7 @@ none_passing {X} test (x ∷ xs) none =
 -- ---- class layouts
 
 -- a class layout that is listed allows the histories that it is told to
-layout_allows : (question : Question) (layout : Counts × ℕ) (history : ClassHistory) → IsValid question
+layout_allows : (question : Question) (layout : ClassLayout × ℕ) (history : ClassHistory) → IsValid question
     → Contains (layouts_of question) layout → allows question layout.0 history ≡ true
     → Allows question layout.0 history
 layout_allows question layout history valid found told =
@@ -60,7 +60,8 @@ none_longer : (question : Question) (history : ClassHistory) (move : ClassMove) 
 unfolding some_allows
 none_longer question history move valid full some =
     let layout =
-    some_passing (λ (other : Counts × ℕ). allows question other.0 (history ++ move ∷ [])) (layouts_of question) some in
+    some_passing (λ (other : ClassLayout × ℕ). allows question other.0 (history ++ move ∷ []))
+        (layouts_of question) some in
     let short =
     class_histories_are_short question layout.0.0 (history ++ move ∷ [])
     (layout_allows question layout.0 (history ++ move ∷ []) valid layout.1 layout.2) in
@@ -75,12 +76,12 @@ mass_before : (question : Question) (defence : Defence) (history : ClassHistory)
     → (reply_to_defence question defence).live history ≡ true
 unfolding defence_mass
 mass_before question defence history move valid proper live =
-    let layouts : List (Counts × ℕ) = layouts_of question in
-    let test : ClassHistory → Counts × ℕ → Bool =
+    let layouts : List (ClassLayout × ℕ) = layouts_of question in
+    let test : ClassHistory → ClassLayout × ℕ → Bool =
     λ begun layout. int_lt (pos 0) (defence_mass question defence layout.0 begun) in
-    let told : ClassHistory → Counts × ℕ → Bool = λ begun layout. allows question layout.0 begun in
+    let told : ClassHistory → ClassLayout × ℕ → Bool = λ begun layout. allows question layout.0 begun in
     let some = some_passing (test (history ++ move ∷ [])) (allowing_layouts question (history ++ move ∷ [])) live in
-    let layout : Counts × ℕ = some.0 in
+    let layout : ClassLayout × ℕ = some.0 in
     let kept = kept_parts (told (history ++ move ∷ [])) layouts layout some.1 in
     let parts =
     and_parts (allows question layout.0 history) (is_among (class_moves (class_after question history) layout.0) move)

@@ -6,7 +6,7 @@ use Rattle.std.proofs.lemmas.Bool.{cases_Bool}
 use Rattle.std.proofs.lemmas.Int.{ints}
 use Rattle.std.proofs.lemmas.List.{length-append}
 use Rattle.std.proofs.lemmas.Simd.{map-map}
-use Rattle.suit_cards.specs.Cards.{Counts}
+use Rattle.suit_cards.specs.Cards.{ClassLayout}
 use Rattle.suit_game.specs.declared.question.Question.{Question}
 use Rattle.suit_game.specs.Validity.{IsValid}
 use Rattle.suit_game.proofs.EachElement.{Contains-first}
@@ -14,8 +14,8 @@ use Rattle.suit_classes.specs.declared.class_moves.ClassMove.{ClassMove}
 use Rattle.suit_classes.specs.ClassGame.{Allows}
 use Rattle.suit_classes.specs.declared.class_view.ClassView.{ClassView}
 use Rattle.suit_classes.specs.ClassPlaces.{class_after, class_decided, class_moves}
-use Rattle.suit_classes.proofs.AllowedHistories.{allowed_moves}
-use Rattle.suit_classes.proofs.DecidedPlays.{class_histories_are_short}
+use Rattle.suit_classes.proofs.AllowedMoveByMove.{allowed_moves}
+use Rattle.suit_classes.proofs.DecidedStaysDecided.{class_histories_are_short}
 use Rattle.suit_classes.proofs.DistinctMoves.{once_class_moves, once_unless}
 use Rattle.suit_classes.specs.ClassMoves.{ClassHistory}
 use Rattle.suit_plans.specs.declared.moves.DefenceMove.{DefenceMove}
@@ -25,7 +25,7 @@ use Rattle.suit_plans.specs.Masses.{declarer, plan_mass}
 use Rattle.suit_plans.specs.Properness.{IsProperPlan}
 use Rattle.suit_plans.proofs.MassBounds.{mass_falls}
 use Rattle.suit_plans.proofs.ProperPlans.{plans_are_realised}
-use Rattle.suit_classes.proofs.UndecidedMoves.{some_move}
+use Rattle.suit_classes.proofs.UndecidedHasAMove.{some_move}
 use Rattle.suit_plans.proofs.WorthsAtTurns.{min_picks}
 use Rattle.suit_tree.proofs.MovesOn.{unless_parts}
 use Rattle.suit_reply.specs.declared.chosen_move.ChosenMove.{ChosenMove}
@@ -39,7 +39,7 @@ pub live_rises : (less more : ℤ) → less ≤ℤ more → int_lt (pos 0) less 
 live_rises less more rises live = grind (arith, ints)
 
 -- no class history of 52 moves goes on
-full_decided : (question : Question) (counts : Counts) (history : ClassHistory) → Allows question counts history
+full_decided : (question : Question) (counts : ClassLayout) (history : ClassHistory) → Allows question counts history
     → length history ≡ MOST_MOVES → IsDecided question history
 full_decided question counts history allows full = elim (cases_Bool (class_decided (class_after question history))) [
   | inl decided ↦ decided
@@ -55,7 +55,7 @@ full_decided question counts history allows full = elim (cases_Bool (class_decid
 ]
 
 -- the reply to a proper plan in a class layout is steady
-pub plan_reply_steady : (question : Question) (plan : Plan) (counts : Counts) → IsValid question
+pub plan_reply_steady : (question : Question) (plan : Plan) (counts : ClassLayout) → IsValid question
     → IsProperPlan question plan → Allows question counts []
     → IsSteady (Allows question counts) (reply_to_plan question plan counts)
 unfolding plan_mass
@@ -80,7 +80,7 @@ plan_reply_steady question plan counts valid proper start =
     }
 
 -- so the best reply to it is what one finds walking along it
-pub least_reply_walked : (question : Question) (plan : Plan) (counts : Counts) (index : ℕ) → IsValid question
+pub least_reply_walked : (question : Question) (plan : Plan) (counts : ClassLayout) (index : ℕ) → IsValid question
     → IsProperPlan question plan → Allows question counts []
     → least_reply_in question plan counts index
     ≡ map (λ (choice : ChosenMove). record { layout = index; history = choice.history; mv = choice.mv })

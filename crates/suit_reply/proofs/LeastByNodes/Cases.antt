@@ -4,15 +4,15 @@ use Rattle.std.proofs.Common.{◌∙◌, subst, inl, inr, arith}
 use Rattle.std.specs.Prelude.{Contains, if◌then◌else◌}
 use Rattle.std.proofs.lemmas.Bool.{cases_Bool}
 use Rattle.std.proofs.lemmas.List.{length-append}
-use Rattle.suit_cards.specs.Cards.{Counts}
+use Rattle.suit_cards.specs.Cards.{ClassLayout}
 use Rattle.suit_game.specs.declared.question.Question.{Question}
 use Rattle.suit_game.specs.Validity.{IsValid}
 use Rattle.suit_game.proofs.EachElement.{Contains-first}
 use Rattle.suit_classes.specs.declared.class_moves.ClassMove.{ClassMove}
 use Rattle.suit_classes.specs.ClassGame.{Allows}
 use Rattle.suit_classes.specs.ClassPlaces.{class_after, class_moves}
-use Rattle.suit_classes.proofs.AllowedHistories.{allowed_moves}
-use Rattle.suit_classes.proofs.DecidedPlays.{class_histories_are_short}
+use Rattle.suit_classes.proofs.AllowedMoveByMove.{allowed_moves}
+use Rattle.suit_classes.proofs.DecidedStaysDecided.{class_histories_are_short}
 use Rattle.suit_classes.specs.ClassMoves.{ClassHistory}
 use Rattle.suit_plans.specs.BestReplies.{Reply, reply_to_plan, worth_within}
 use Rattle.suit_plans.specs.Masses.{declarer}
@@ -20,8 +20,8 @@ use Rattle.suit_plans.specs.PlanLaws.{AreRealised}
 use Rattle.suit_plans.specs.Properness.{IsProperPlan}
 use Rattle.suit_plans.specs.declared.plan.Plan.{Plan}
 use Rattle.suit_tree.specs.Trees.{allowing}
-use Rattle.suit_tree.proofs.CountedNodes.{kept_layouts}
-use Rattle.suit_tree.proofs.HeldMoves.{index_goes_on}
+use Rattle.suit_tree.proofs.OneNodeAtEachPath.{kept_layouts}
+use Rattle.suit_tree.proofs.ClassMovesLeadToNodes.{index_goes_on}
 use Rattle.suit_reply.proofs.OwnMovesGoOn.{IsDecided, IsGoing, layout_counts, layout_moves, some_move}
 use Rattle.suit_reply.proofs.ChoicesAlongAReply.WalkOfAReply.{walked, walked_none}
 use Rattle.suit_reply.proofs.WorthAtATurn.{walked_on, worth_on}
@@ -69,7 +69,7 @@ module _ (question : Question) (plan : Plan) (index : ℕ) where
   last_decided history [] is going none =
       some_move question (layout_counts question index) history (case_allows 0 history is) going none
   last_decided history (move ∷ moves) is going some =
-      let counts : Counts = layout_counts question index in
+      let counts : ClassLayout = layout_counts question index in
       let allowed : Allows question counts history = case_allows 0 history is in
       let found : Contains (class_moves (class_after question history) counts) move =
       subst (λ (l : List ClassMove). Contains l move) (sym some) (Contains-first move moves) in

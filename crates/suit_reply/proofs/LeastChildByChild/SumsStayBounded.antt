@@ -29,13 +29,13 @@ use Rattle.suit_reply.specs.declared.turn_rule.TurnRule.TheVariants.{Sum, Least}
 use Rattle.suit_reply.specs.NodeReplies.{NodeReplyView}
 use Rattle.suit_reply.specs.Turns.{TurnView, gathered, joined}
 use Rattle.suit_reply.specs.AgainstPlan.{LeastNode, nodes_for, plan_share}
-use Rattle.suit_tree.proofs.FittedNodes.{map_fitted}
+use Rattle.suit_tree.proofs.NodesFitMoves.{map_fitted}
 use Rattle.suit_reply.proofs.WorthAtATurn.SumOrBest.{results_of, sum_gathered}
 use Rattle.suit_plans.proofs.WhoseTurns.{Declarers, Defences, Over, WhoseTurn, whose_turn}
 use Rattle.suit_reply.proofs.OwnMovesGoOn.{AreBelow, AreChildren, IsDeclarersTurn, IsGoing, NotDefencesTurn}
 use Rattle.suit_reply.proofs.OwnMovesGoOn.{layout_counts, layout_moves, own_moves_on}
 use Rattle.suit_plans.specs.ReplyLaws.{IsPaid}
-use Rattle.suit_plans.proofs.PaidWorths.{paid_most}
+use Rattle.suit_plans.proofs.AtMostThirteenTricks.{paid_most}
 use Rattle.suit_reply.proofs.LeastIsBounded.{sums_paid}
 use Rattle.suit_reply.proofs.LeastByNodes.{child_told, least_by_nodes}
 use Rattle.suit_reply.proofs.LeastByNodes.Cases.{LeastCase, case_allows, case_next, reply_at}

@@ -5,16 +5,16 @@ use Rattle.std.specs.Prelude.{Contains, filter, get_or, nat_lt, if◌then◌else
 use Rattle.std.proofs.lemmas.Bool.{cases_Bool, lt-ltb}
 use Rattle.std.proofs.lemmas.List.{length-append}
 use Rattle.std.proofs.lemmas.List.Elements.{All-contains, All-contains_itself, All-filter, Contains-get_or}
-use Rattle.suit_cards.specs.Cards.{Counts, Indices}
+use Rattle.suit_cards.specs.Cards.{ClassLayout, Indices}
 use Rattle.suit_game.specs.declared.question.Question.{Question}
 use Rattle.suit_game.specs.Validity.{IsValid}
 use Rattle.suit_game.proofs.EachElement.{Contains-first, Contains-map_from, Contains-nil}
 use Rattle.suit_classes.specs.declared.class_moves.ClassMove.{ClassMove}
-use Rattle.suit_classes.specs.AllowedHistories.{allows, every_move}
+use Rattle.suit_classes.specs.WhatIsAllowed.{allows, every_move}
 use Rattle.suit_classes.specs.ClassGame.{Allows}
 use Rattle.suit_classes.specs.ClassPlaces.{class_after, class_moves}
-use Rattle.suit_classes.proofs.AllowedHistories.{allowed_moves}
-use Rattle.suit_classes.proofs.DecidedPlays.{class_histories_are_short}
+use Rattle.suit_classes.proofs.AllowedMoveByMove.{allowed_moves}
+use Rattle.suit_classes.proofs.DecidedStaysDecided.{class_histories_are_short}
 use Rattle.suit_classes.specs.ClassMoves.{ClassHistory}
 use Rattle.suit_plans.specs.BestReplies.{Reply, reply_to_defence, worth_within}
 use Rattle.suit_plans.specs.Masses.{defence_mass, defenders}
@@ -22,14 +22,14 @@ use Rattle.suit_plans.specs.PlanLaws.{AreRealised}
 use Rattle.suit_plans.specs.Properness.{IsProperDefence}
 use Rattle.suit_plans.specs.declared.defence.Defence.{Defence}
 use Rattle.suit_plans.proofs.MassBounds.{mass_falls}
-use Rattle.suit_classes.proofs.UndecidedMoves.{some_move}
+use Rattle.suit_classes.proofs.UndecidedHasAMove.{some_move}
 use Rattle.suit_tree.specs.Trees.{allowing, counts_at, layout_indices, moves_on}
-use Rattle.suit_tree.proofs.CountedNodes.{kept_layouts, some_of}
+use Rattle.suit_tree.proofs.OneNodeAtEachPath.{kept_layouts, some_of}
 use Rattle.suit_tree.proofs.MovesOn.{Contains-moves_on, moves_on-parts}
 use Rattle.suit_reply.specs.NodeReplies.{nothing}
 use Rattle.suit_reply.proofs.MostByNodes.WhichLayoutsAllow.{allowing_at, live_at, mass_at, reply_goes_on, some_allows_at}
 use Rattle.suit_reply.proofs.WorthAtATurn.SumOrBest.{same_found}
-use Rattle.suit_tree.proofs.HeldMoves.{index_goes_on}
+use Rattle.suit_tree.proofs.ClassMovesLeadToNodes.{index_goes_on}
 use Rattle.suit_reply.proofs.OwnMovesGoOn.{IsDecided, IsGoing, layout_counts, layout_moves, layouts_of}
 use Rattle.suit_reply.proofs.MostByNodes.LiveMasses.{any_live, live_masses, none_live, not_above}
 use Rattle.suit_reply.proofs.WorthAtATurn.{found_from, walked_on, worth_on}
@@ -138,7 +138,7 @@ module _ (question : Question) (defence : Defence) where
   going_index more history is going =
       let at = some_index more history is in
       let index : ℕ = at.0 in
-      let counts : Counts = layout_counts question index in
+      let counts : ClassLayout = layout_counts question index in
       let first = some_move question counts history (index_allows question history index is.valid at.1) going in
       let found : Contains (class_moves (class_after question history) counts) first.first =
       subst (λ (l : List ClassMove). Contains l first.first) (sym first.parts)
@@ -214,8 +214,8 @@ module _ (question : Question) (defence : Defence) where
       (some_allows_at question history ∙ lt-ltb 0 (length indices) is.some)
       (λ layout found.
       let from = Contains-map_from (layout_at question) indices layout
-      (subst (λ (l : List (Counts × ℕ)). Contains l layout) (allowing_at question history) found) in
-      ap (λ (other : Counts × ℕ). defence_mass question defence other.0 history) (sym from.2) ∙ none from.0 from.1)
+      (subst (λ (l : List (ClassLayout × ℕ)). Contains l layout) (allowing_at question history) found) in
+      ap (λ (other : ClassLayout × ℕ). defence_mass question defence other.0 history) (sym from.2) ∙ none from.0 from.1)
 
   -- where no mass is above 0 the reply is worth nothing and has no choices
   pub most_empty : (more : ℕ) (history : ClassHistory) → MostCase more question defence history

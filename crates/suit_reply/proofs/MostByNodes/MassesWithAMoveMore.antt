@@ -5,15 +5,15 @@ use Rattle.std.specs.Prelude.{Contains, filter, get_or, int_lt, pos, unwrap_or, 
 use Rattle.std.proofs.lemmas.Int.{ints}
 use Rattle.std.proofs.lemmas.List.{map-id}
 use Rattle.std.proofs.lemmas.List.Elements.{Contains-get_or, filter_agree}
-use Rattle.suit_cards.specs.Cards.{Counts, Indices}
+use Rattle.suit_cards.specs.Cards.{ClassLayout, Indices}
 use Rattle.suit_game.specs.declared.question.Question.{Question}
 use Rattle.suit_game.specs.Validity.{IsValid}
 use Rattle.suit_classes.specs.declared.class_moves.ClassMove.{ClassMove}
-use Rattle.suit_classes.specs.AllowedHistories.{allows, is_among}
+use Rattle.suit_classes.specs.WhatIsAllowed.{allows, is_among}
 use Rattle.suit_classes.specs.declared.class_view.ClassView.{ClassView}
 use Rattle.suit_classes.specs.ClassPlaces.{class_after, class_moves}
 use Rattle.suit_classes.proofs.SameMoves.{among-Contains, among_contained}
-use Rattle.suit_classes.proofs.ToldHistories.{allows-push}
+use Rattle.suit_classes.proofs.AllowsOneMoveMore.{allows-push}
 use Rattle.suit_classes.specs.ClassMoves.{ClassHistory}
 use Rattle.suit_classes.specs.declared.class_moves.ClassMove.TheVariants.{ShowOut}
 use Rattle.suit_plans.specs.Masses.{defence_shares_at, defence_mass, defenders, is_first}
@@ -30,8 +30,8 @@ use Rattle.suit_tree.proofs.MovesOn.{moves_on-parts}
 use Rattle.suit_tree.proofs.NodePaths.{tree_stands}
 use Rattle.suit_reply.specs.AgainstDefence.{is_live, layout_share}
 use Rattle.suit_reply.proofs.MostByNodes.WhichLayoutsAllow.{mass_at}
-use Rattle.suit_tree.proofs.FittedNodes.{map_fitted_kept}
-use Rattle.suit_tree.proofs.HeldMoves.{held_is, held_moves}
+use Rattle.suit_tree.proofs.NodesFitMoves.{map_fitted_kept}
+use Rattle.suit_tree.proofs.ClassMovesLeadToNodes.{held_is, held_moves}
 use Rattle.suit_tree.specs.Nodes.{is_held}
 use Rattle.suit_reply.proofs.OwnMovesGoOn.{AreBelow, AreChildren, IsDeclarersTurn, IsDefencesTurn, IsGoing}
 use Rattle.suit_reply.proofs.OwnMovesGoOn.{NotDefencesTurn, layout_counts, layout_moves, layouts_of}
@@ -60,7 +60,7 @@ all_allow : (question : Question) (history : ClassHistory) (move : ClassMove) �
     → Contains (moves_on question history) move → allowing question (history ++ move ∷ []) ≡ allowing question history
 unfolding allowing
 all_allow question history move valid own found =
-    let layouts : List (Counts × ℕ) = layouts_of question in
+    let layouts : List (ClassLayout × ℕ) = layouts_of question in
     let view : ClassView = class_after question history in
     let kept : Indices = allowing question (history ++ move ∷ []) in
     let some : Contains kept (get_or kept 0 0) =
@@ -127,7 +127,7 @@ module _ (question : Question) (defence : Defence) (history : ClassHistory) (mov
       ≡ held_at (mass_at question defence (history ++ move ∷ [])) index
   unfolding defence_mass
   shares_below more nodes index valid going theirs fit held =
-      let counts : Counts = layout_counts question index in
+      let counts : ClassLayout = layout_counts question index in
       let mass : ℤ = mass_at question defence history index in
       ap (λ (m : ℤ). (index, m))
       (ap (λ (l : List ClassMove). share (defence_shares_at defence.rows counts history) (is_first l move) mass move)

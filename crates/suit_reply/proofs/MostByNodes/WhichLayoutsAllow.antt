@@ -7,10 +7,10 @@ use Rattle.std.proofs.lemmas.Bool.{lt-ltb}
 use Rattle.std.proofs.lemmas.List.{length-map}
 use Rattle.std.proofs.lemmas.List.Elements.{filter_agree}
 use Rattle.std.proofs.lemmas.Simd.{map-map}
-use Rattle.suit_cards.specs.Cards.{Counts}
+use Rattle.suit_cards.specs.Cards.{ClassLayout}
 use Rattle.suit_game.specs.declared.question.Question.{Question}
 use Rattle.suit_classes.specs.declared.class_moves.ClassMove.{ClassMove}
-use Rattle.suit_classes.specs.AllowedHistories.{allows, every_move}
+use Rattle.suit_classes.specs.WhatIsAllowed.{allows, every_move}
 use Rattle.suit_classes.specs.ClassPlaces.{class_after, class_decided, class_payoff}
 use Rattle.suit_classes.specs.Classes.{defence_sizes, hands_of}
 use Rattle.suit_classes.proofs.DefenceSizes.{defence_sizes-some, length-defence_sizes, sum-defence_sizes}
@@ -71,8 +71,8 @@ pub allowing_at : (question : Question) (history : ClassHistory)
     → allowing_layouts question history ≡ map (layout_at question) (allowing question history)
 unfolding allowing
 allowing_at question history =
-    let layouts : List (Counts × ℕ) = layouts_of question in
-    let may : Counts × ℕ → Bool = λ layout. allows question layout.0 history in
+    let layouts : List (ClassLayout × ℕ) = layouts_of question in
+    let may : ClassLayout × ℕ → Bool = λ layout. allows question layout.0 history in
     ap (filter may) (sym (by_indices layouts ([], 0))) ∙ filter_of_map may (layout_at question) (layout_indices layouts)
 
 -- some class layout allows a class history where some index does
@@ -80,8 +80,8 @@ pub some_allows_at : (question : Question) (history : ClassHistory)
     → some_allows question history ≡ nat_lt 0 (length (allowing question history))
 unfolding some_allows
 some_allows_at question history =
-    any_kept (λ (layout : Counts × ℕ). allows question layout.0 history) (layouts_of question)
-    ∙ ap (λ (l : List (Counts × ℕ)). nat_lt 0 (length l)) (allowing_at question history)
+    any_kept (λ (layout : ClassLayout × ℕ). allows question layout.0 history) (layouts_of question)
+    ∙ ap (λ (l : List (ClassLayout × ℕ)). nat_lt 0 (length l)) (allowing_at question history)
     ∙ ap (nat_lt 0) (length-map (allowing question history) (layout_at question))
 
 -- ---- the reply to a defence
@@ -105,15 +105,15 @@ module _ (question : Question) (defence : Defence) (history : ClassHistory) wher
       ≡ sum_of (map (λ index. pos (class_payoff (class_after question history))
       *ℤ mass_at question defence history index) (allowing question history))
   earned_at =
-      let earns : Counts × ℕ → ℤ =
+      let earns : ClassLayout × ℕ → ℤ =
       λ layout. pos (class_payoff (class_after question history)) *ℤ defence_mass question defence layout.0 history in
-      ap (λ (l : List (Counts × ℕ)). sum_of (map earns l)) (allowing_at question history)
+      ap (λ (l : List (ClassLayout × ℕ)). sum_of (map earns l)) (allowing_at question history)
       ∙ ap sum_of (map-map earns (layout_at question) (allowing question history))
 
   -- some mass comes to a class history where some does at an index
   pub live_at : (reply_to_defence question defence).live history ≡ list_any
       (λ index. int_lt (pos 0) (mass_at question defence history index)) (allowing question history)
   live_at =
-      let some : Counts × ℕ → Bool = λ layout. int_lt (pos 0) (defence_mass question defence layout.0 history) in
+      let some : ClassLayout × ℕ → Bool = λ layout. int_lt (pos 0) (defence_mass question defence layout.0 history) in
       ap (list_any some) (allowing_at question history)
       ∙ any_of_map some (layout_at question) (allowing question history)

@@ -6,7 +6,7 @@ use Rattle.std.proofs.lemmas.Bool.{false≢true}
 use Rattle.std.proofs.lemmas.List.{length-append}
 use Rattle.std.proofs.lemmas.List.Elements.{All-contains_itself, All-filter, All-map, All-same, All-weaker}
 use Rattle.std.proofs.lemmas.List.Elements.{Contains-get_or}
-use Rattle.suit_cards.specs.Cards.{Counts, Indices}
+use Rattle.suit_cards.specs.Cards.{ClassLayout, Indices}
 use Rattle.suit_game.specs.declared.question.Question.{Question}
 use Rattle.suit_classes.specs.declared.class_moves.ClassMove.{ClassMove}
 use Rattle.suit_classes.specs.declared.class_turn.ClassTurn.{ClassTurn}
@@ -23,7 +23,7 @@ use Rattle.suit_plans.proofs.ProperOrders.{defence_in_order}
 use Rattle.suit_tree.specs.declared.node.Node.{Node}
 use Rattle.suit_tree.specs.Nodes.{children_of, holds_index, move_of, payoff_at, turn_at}
 use Rattle.suit_tree.specs.Trees.{IsTreeAt, StandsAt, allowing, moves_on}
-use Rattle.suit_tree.proofs.CountedNodes.{kept_layouts}
+use Rattle.suit_tree.proofs.OneNodeAtEachPath.{kept_layouts}
 use Rattle.suit_tree.proofs.NodePaths.{tree_stands}
 use Rattle.suit_reply.specs.declared.turn_rule.TurnRule.{TurnRule}
 use Rattle.suit_reply.specs.AgainstDefence.{LayoutMasses, MostNode, is_live, layout_share, most_gathers, shared_masses}
@@ -31,7 +31,7 @@ use Rattle.suit_reply.proofs.MostByNodes.WhichLayoutsAllow.{mass_at}
 use Rattle.suit_reply.proofs.MostAtTheRoot.MassesBeforeAnyMove.{index_weighs}
 use Rattle.suit_plans.proofs.WhoseTurns.{Declarers, Defences, Over, WhoseTurn, whose_turn}
 use Rattle.suit_reply.proofs.OwnMovesGoOn.{AreBelow, AreChildren, layout_counts, layouts_of}
-use Rattle.suit_tree.proofs.FittedNodes.{fitted_at}
+use Rattle.suit_tree.proofs.NodesFitMoves.{fitted_at}
 use Rattle.suit_reply.proofs.MostByNodes.LiveMasses.{held_at}
 use Rattle.suit_reply.proofs.MostByNodes.MassesWithAMoveMore.{masses_pass, masses_stay}
 use Rattle.suit_reply.proofs.MostIsBounded.{live_positive, mass_sum, node_pays, sum_falls}
@@ -55,7 +55,7 @@ has_below zero question history node i tree below =
     absurd (omega (arith, below, ap (λ (l : List Node). length l) tree.1))
 has_below (suc more) question history node i tree below = record { less = more; is = refl; fit = tree.1 }
 
-kept_masses : (turn : ClassTurn) (layouts : List (Counts × ℕ)) (rows : List DefenceRow) (nodes : List Node)
+kept_masses : (turn : ClassTurn) (layouts : List (ClassLayout × ℕ)) (rows : List DefenceRow) (nodes : List Node)
     (history : ClassHistory) (masses : LayoutMasses) (child : Node)
     → is_declarers turn ≡ true → shared_masses turn layouts rows nodes history masses child ≡ masses
 kept_masses turns.Lead layouts rows nodes history masses child own = refl
@@ -63,7 +63,7 @@ kept_masses (turns.Declarer seat) layouts rows nodes history masses child own = 
 kept_masses (turns.Defence seat) layouts rows nodes history masses child own = absurd (false≢true own)
 kept_masses turns.Decided layouts rows nodes history masses child own = absurd (false≢true own)
 
-passed_masses : (turn : ClassTurn) (layouts : List (Counts × ℕ)) (rows : List DefenceRow) (nodes : List Node)
+passed_masses : (turn : ClassTurn) (layouts : List (ClassLayout × ℕ)) (rows : List DefenceRow) (nodes : List Node)
     (history : ClassHistory) (masses : LayoutMasses) (child : Node)
     → is_defences turn ≡ true
     → shared_masses turn layouts rows nodes history masses child
@@ -82,7 +82,7 @@ none_gathered rule turn over gathers = absurd (nothing_some (sym (ap most_gather
     nothing_some same = cc
 
 -- a step to the node below at an index: the history with the move to it, and what the masses become there
-pub record IsStep (layouts : List (Counts × ℕ)) (rows : List DefenceRow) (history : ClassHistory)
+pub record IsStep (layouts : List (ClassLayout × ℕ)) (rows : List DefenceRow) (history : ClassHistory)
     (masses : LayoutMasses) (node : Node) (i : ℕ) (child : Node) (next : ClassHistory)
     (passed : LayoutMasses) : Type 0 where
   pub within : i < length (children_of node)
@@ -91,7 +91,8 @@ pub record IsStep (layouts : List (Counts × ℕ)) (rows : List DefenceRow) (his
   pub share : passed ≡ shared_masses (turn_at node) layouts rows (children_of node) history masses child
 
 -- a step, by what is known of its parts
-pub step_from : (layouts : List (Counts × ℕ)) (rows : List DefenceRow) (history : ClassHistory) (masses : LayoutMasses)
+pub step_from : (layouts : List (ClassLayout × ℕ)) (rows : List DefenceRow) (history : ClassHistory)
+    (masses : LayoutMasses)
     (node : Node) (i : ℕ) (child : Node) (next : ClassHistory)
     (passed : LayoutMasses) (nodes : List Node) (begun shown : ClassHistory) (move : ClassMove)
     → nodes ≡ children_of node → i < length nodes → child ≡ get_or nodes i child → begun ≡ history → shown ≡ begun
@@ -108,7 +109,7 @@ step_from layouts rows history masses node i child next passed nodes begun shown
           (seen ∙ kept);
     }
 
-module _ (layouts : List (Counts × ℕ)) (rows : List DefenceRow) (history : ClassHistory) (masses : LayoutMasses)
+module _ (layouts : List (ClassLayout × ℕ)) (rows : List DefenceRow) (history : ClassHistory) (masses : LayoutMasses)
     (node : Node) (is : MostNode layouts rows history masses node) where
   -- a node is asked for the reply from a class history on that some class layout allows
   pub node_case : MostCase (MOST_MOVES - length history) is.question is.defence history
@@ -135,7 +136,7 @@ module _ (layouts : List (Counts × ℕ)) (rows : List DefenceRow) (history : Cl
       (All-filter is_live within (map (held_at (mass_at is.question is.defence history)) indices)
       (All-map within (held_at (mass_at is.question is.defence history)) indices
       (All-weaker (Contains indices) (λ index. index < length layouts)
-      (λ index found. subst (λ (l : List (Counts × ℕ)). index < length l) is.is_layouts
+      (λ index found. subst (λ (l : List (ClassLayout × ℕ)). index < length l) is.is_layouts
       ((kept_layouts is.question history index is.valid).0 found).0)
       indices (All-contains_itself indices))))
 
@@ -172,7 +173,7 @@ module _ (layouts : List (Counts × ℕ)) (rows : List DefenceRow) (history : Cl
       case : MostCase (suc below.less) is.question is.defence history
       case = subst (λ (more : ℕ). MostCase more is.question is.defence history) below.is (node_case)
 
-      pass_on : List (Counts × ℕ) → List DefenceRow → ClassMove → LayoutMasses → LayoutMasses
+      pass_on : List (ClassLayout × ℕ) → List DefenceRow → ClassMove → LayoutMasses → LayoutMasses
       pass_on all given by before =
           filter is_live (map (layout_share all given (children_of node) history by)
           (filter (λ held. holds_index held.0 child) before))
@@ -189,7 +190,7 @@ module _ (layouts : List (Counts × ℕ)) (rows : List DefenceRow) (history : Cl
       at (Defences going not_own theirs) =
           passed_masses (turn_at node) layouts rows (children_of node) history masses child
           (ap is_defences stands.turn ∙ theirs)
-          ∙ ap (λ (l : List (Counts × ℕ)). pass_on l rows (move_of child) masses) (sym is.is_layouts)
+          ∙ ap (λ (l : List (ClassLayout × ℕ)). pass_on l rows (move_of child) masses) (sym is.is_layouts)
           ∙ ap (λ (l : List DefenceRow). pass_on (layouts_of is.question) l (move_of child) masses) (sym is.is_rows)
           ∙ ap (λ (m : ClassMove). pass_on (layouts_of is.question) is.defence.rows m masses)
           (ap (λ to. unwrap_or to ShowOut) fits.0)

@@ -6,10 +6,10 @@ use Rattle.std.specs.List.{take-map}
 use Rattle.std.proofs.lemmas.Int.{ints}
 use Rattle.std.proofs.lemmas.List.Elements.{All-contains, Contains-get_or}
 use Rattle.suit_plans.specs.Properness.{sum_of}
-use Rattle.suit_plans.proofs.SharedSums.{within_sum}
+use Rattle.suit_plans.proofs.SharesAddUpToTheMass.{within_sum}
 use Rattle.suit_plans.specs.ReplyLaws.{IsPaid}
 use Rattle.suit_plans.proofs.NumberSums.{first_sums}
-use Rattle.suit_plans.proofs.PaidWorths.{product_paid, sum_paid}
+use Rattle.suit_plans.proofs.AtMostThirteenTricks.{product_paid, sum_paid}
 use Rattle.suit_reply.specs.AgainstDefence.{LayoutMasses}
 use Rattle.suit_reply.proofs.OneMoreAdded.{le_through}
 use Rattle.suit_game.specs.declared.limits.TheConstants.{HAND_SIZE}

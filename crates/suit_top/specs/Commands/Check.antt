@@ -2,7 +2,7 @@
 use Rattle.std.specs.Prelude.{◌≡◌, Bool, List, codes, nat_lt, if◌then◌else◌}
 use Rattle.suit_cards.specs.Cards.{Text}
 use Rattle.suit_game.specs.declared.question.Question.{Question}
-use Rattle.suit_tree.specs.CountedHistories.{node_count}
+use Rattle.suit_tree.specs.WhatIsCounted.{node_count}
 use Rattle.suit_answer.specs.declared.answer.Answer.{Answer}
 use Rattle.suit_check.specs.Verdicts.{Finding, Valid, Plan, Defence, Least, Most, verdict_of}
 use Rattle.suit_top.specs.declared.status.Status.TheVariants.{NotValid, Nodes}

@@ -1,7 +1,7 @@
 -- `weigh`: the class layouts of positive weight of a question, each with its weight, and the total.
 use Rattle.std.specs.Prelude.{◌≡◌, ℕ, Bool, List, ◌++◌, codes, decimal, length, sum_by}
 use Rattle.std.specs.List.{flat_map}
-use Rattle.suit_cards.specs.Cards.{Counts, Text}
+use Rattle.suit_cards.specs.Cards.{ClassLayout, Text}
 use Rattle.suit_game.specs.declared.question.Question.{Question}
 use Rattle.suit_game.specs.Layouts.{total}
 use Rattle.suit_classes.specs.Classes.{sizes_of}
@@ -18,11 +18,11 @@ unfoldable pub count_text : ℕ → Text
 count_text count = codes " " ++ decimal count
 
 -- the line of one class layout: West's counts, and the weight
-unfoldable pub layout_line : Counts × ℕ → Text
+unfoldable pub layout_line : ClassLayout × ℕ → Text
 layout_line layout = codes "west" ++ flat_map count_text layout.0 ++ codes " : " ++ decimal layout.1 ++ codes "\n"
 
 -- the text of some class layouts, each with its weight, and of a total
-unfoldable pub weights_text : List (Counts × ℕ) → ℕ → Text
+unfoldable pub weights_text : List (ClassLayout × ℕ) → ℕ → Text
 weights_text layouts all =
     codes "weights " ++ decimal (length layouts) ++ codes "\n"
     ++ flat_map layout_line layouts

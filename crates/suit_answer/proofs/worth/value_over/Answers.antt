@@ -3,9 +3,9 @@ use Rattle.std.proofs.Common.{subst}
 use Rattle.std.specs.Int.{w128}
 use Rattle.std.proofs.lemmas.Int.{to_z-of_z, to_z_pos}
 use Rattle.suit_game.specs.Layouts.{total}
-use Rattle.suit_game.proofs.FilledPlaces.{total_at_most}
+use Rattle.suit_game.proofs.WhatAllLayoutsWeigh.{total_at_most}
 use Rattle.suit_game.specs.declared.limits.TheConstants.{MOST_TOTAL}
-use Rattle.suit_answer.proofs.ReducedFractions.{made_fraction, some_from_one, whole_fits, whole_over}
+use Rattle.suit_answer.proofs.OneFractionInLowestTerms.{made_fraction, some_from_one, whole_fits, whole_over}
 use Rattle.suit_answer.proofs.worth.value_over.Goals as goal
 
 pub overflow_mul-den : goal.overflow_mul-den

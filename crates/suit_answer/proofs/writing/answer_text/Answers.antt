@@ -2,7 +2,7 @@ use Rattle.std.proofs.Common.{◌≡◌, ◌∙◌, List, ℕ, ap, subst}
 use Rattle.std.specs.List.{flat_map}
 use Rattle.suit_answer.specs.Reading.{answer_read}
 use Rattle.suit_answer.specs.Writing.{line_text, answer_lines, text_of}
-use Rattle.suit_answer.proofs.SpacedWords.{wrote_lines}
+use Rattle.suit_answer.proofs.WordsInARow.{wrote_lines}
 use Rattle.suit_answer.proofs.TextBack.{text_back}
 use Rattle.suit_answer.proofs.writing.answer_text.Goals as goal
 

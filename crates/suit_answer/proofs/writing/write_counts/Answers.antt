@@ -1,6 +1,6 @@
 use Rattle.std.proofs.Common.{sym, decimal}
 use Rattle.std.proofs.lemmas.List.{append-nil}
-use Rattle.suit_answer.proofs.SpacedWords.{spaced_none, wrote_word}
+use Rattle.suit_answer.proofs.WordsInARow.{spaced_none, wrote_word}
 use Rattle.suit_answer.proofs.writing.write_counts.Goals as goal
 
 pub loop-count-init : goal.loop-count-init

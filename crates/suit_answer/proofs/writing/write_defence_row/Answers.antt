@@ -1,4 +1,4 @@
-use Rattle.suit_answer.proofs.SpacedWords.{wrote_defence}
+use Rattle.suit_answer.proofs.WordsInARow.{wrote_defence}
 use Rattle.suit_answer.proofs.writing.write_defence_row.Goals as goal
 
 pub returns : goal.returns

@@ -3,7 +3,7 @@ use Rattle.std.proofs.lemmas.List.{append-nil}
 use Rattle.suit_cards.specs.declared.seats.Seat.TheVariants.{N}
 use Rattle.suit_classes.specs.declared.class_moves.ClassMove.TheVariants.{Lead}
 use Rattle.suit_answer.specs.Letters.{move_word}
-use Rattle.suit_answer.proofs.SpacedWords.{spaced_none, wrote_word}
+use Rattle.suit_answer.proofs.WordsInARow.{spaced_none, wrote_word}
 use Rattle.suit_answer.proofs.writing.write_history.Goals as goal
 
 pub loop-mv-init : goal.loop-mv-init

@@ -8,7 +8,7 @@ use Rattle.suit_cards.specs.declared.seats.Seat.TheVariants.{N}
 use Rattle.suit_classes.specs.declared.class_moves.ClassMove.TheVariants.{Lead}
 use Rattle.suit_num.specs.Narrow.{IsNarrow}
 use Rattle.suit_answer.specs.Letters.{move_word}
-use Rattle.suit_answer.proofs.SpacedWords.{spaced_none, wrote_words}
+use Rattle.suit_answer.proofs.WordsInARow.{spaced_none, wrote_words}
 use Rattle.suit_answer.proofs.writing.write_shares.Goals as goal
 
 narrow_fits : (z : ℤ) → IsNarrow z → FitsSigned w128 z

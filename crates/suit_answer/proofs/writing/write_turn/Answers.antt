@@ -1,5 +1,5 @@
 use Rattle.std.proofs.Common.{append_assoc}
-use Rattle.suit_answer.proofs.SpacedWords.{turn_spaced}
+use Rattle.suit_answer.proofs.WordsInARow.{turn_spaced}
 use Rattle.suit_answer.proofs.writing.write_turn.Goals as goal
 
 pub returns : goal.returns

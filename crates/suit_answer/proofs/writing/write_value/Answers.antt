@@ -3,7 +3,7 @@ use Rattle.std.specs.Fmt.{signed_decimal}
 use Rattle.std.specs.Prelude.{FitsSigned}
 use Rattle.std.specs.Int.{w128}
 use Rattle.std.proofs.lemmas.Int.{to_z-of_z}
-use Rattle.suit_answer.proofs.SpacedWords.{wrote_value}
+use Rattle.suit_answer.proofs.WordsInARow.{wrote_value}
 use Rattle.suit_answer.proofs.writing.write_value.Goals as goal
 
 pub returns : goal.returns

@@ -1,4 +1,4 @@
-use Rattle.suit_base_tests.proofs.BoundedPrograms.{one_wide_row_bounded, two_wide_rows_bounded}
+use Rattle.suit_base_tests.proofs.TestProgramsAreBounded.{one_wide_row_bounded, two_wide_rows_bounded}
 use Rattle.suit_base_tests.proofs.simplex.programs_of_wide_numbers.Goals as goal
 
 pub optimum-requires-clause-bounded : goal.optimum-requires-clause-bounded

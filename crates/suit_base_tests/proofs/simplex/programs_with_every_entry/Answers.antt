@@ -1,4 +1,4 @@
-use Rattle.suit_base_tests.proofs.BoundedPrograms.{two_columns_bounded, nothing_gained_bounded, tied_bounded}
+use Rattle.suit_base_tests.proofs.TestProgramsAreBounded.{two_columns_bounded, nothing_gained_bounded, tied_bounded}
 use Rattle.suit_base_tests.proofs.simplex.programs_with_every_entry.Goals as goal
 
 pub optimum-requires-clause-bounded : goal.optimum-requires-clause-bounded

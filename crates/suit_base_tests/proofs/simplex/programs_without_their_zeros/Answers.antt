@@ -1,4 +1,5 @@
-use Rattle.suit_base_tests.proofs.BoundedPrograms.{scattered_bounded, scattered_formed, wide_bounded, wide_formed}
+use Rattle.suit_base_tests.proofs.TestProgramsAreBounded.{scattered_bounded, scattered_formed, wide_bounded}
+use Rattle.suit_base_tests.proofs.TestProgramsAreBounded.{wide_formed}
 use Rattle.suit_base_tests.proofs.simplex.programs_without_their_zeros.Goals as goal
 
 pub fast-requires : goal.fast-requires

@@ -2,13 +2,14 @@ use Rattle.std.proofs.Common.{rules, ◌≡◌, ◌^◌, ℤ, pos, ◌≤ℤ◌,
 use Rattle.std.proofs.Common.{subst}
 use Rattle.std.specs.Int.{w128}
 use Rattle.std.proofs.lemmas.Int.{to_z-of_z}
-use Rattle.suit_plans.proofs.BoundedReplies.{leasts_bounded, mosts_bounded}
+use Rattle.suit_plans.proofs.RepliesAreBounded.{leasts_bounded, mosts_bounded}
 use Rattle.suit_plans.specs.BestReplies.{least, most}
 use Rattle.suit_plans.specs.Properness.{IsProperDefence, IsProperPlan}
 use Rattle.suit_plans.specs.declared.plan.TheConstants.{MOST_DEN, WORTH_BOUND}
 use Rattle.suit_check.specs.Verdicts.{Least, Most, parts_of, same_parts, value_of}
-use Rattle.suit_check.proofs.ToldFindings.{denied, earned, given_up, granted, told_defence, told_least, told_most}
-use Rattle.suit_check.proofs.ToldFindings.{told_plan, told_valid}
+use Rattle.suit_check.proofs.FindingByTheFirstTest.{denied, earned, given_up, granted, told_defence, told_least}
+use Rattle.suit_check.proofs.FindingByTheFirstTest.{told_most}
+use Rattle.suit_check.proofs.FindingByTheFirstTest.{told_plan, told_valid}
 use Rattle.suit_check.proofs.VerdictsMet.{defence_bounds, plan_bounds}
 use Rattle.suit_check.proofs.checking.check.Goals as goal
 

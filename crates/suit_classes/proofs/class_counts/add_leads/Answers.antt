@@ -3,7 +3,7 @@ use Rattle.std.specs.Prelude.{map, filter, nat_lt, slice_index}
 use Rattle.std.specs.List.{range_with_len}
 use Rattle.std.proofs.lemmas.List.{length-append}
 use Rattle.suit_classes.specs.declared.class_moves.ClassMove.TheVariants.{Lead}
-use Rattle.suit_classes.proofs.CountedLists.{moves_next, moves_room, class_numbers-all, counts_some, counts_none}
+use Rattle.suit_classes.proofs.CountedClassByClass.{moves_next, moves_room, class_numbers-all, counts_some, counts_none}
 use Rattle.suit_classes.proofs.class_counts.add_leads.Goals as goal
 use Rattle.suit_classes.proofs.class_counts.add_leads.Goals.{then-left-class-gt0, else-left-class-gt0}
 

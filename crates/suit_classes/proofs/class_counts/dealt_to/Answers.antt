@@ -3,7 +3,7 @@ use Rattle.std.specs.Prelude.{if◌then◌else◌, Bool}
 use Rattle.suit_classes.specs.declared.classes.Owner.{Owner}
 use Rattle.suit_classes.specs.Classes.{class_owner, class_size, same_owner}
 use Rattle.suit_classes.specs.ClassPlaces.{held_by}
-use Rattle.suit_classes.proofs.CountedLists.{filled_none, filled_next, filled_kept, filled_dealt}
+use Rattle.suit_classes.proofs.CountedClassByClass.{filled_none, filled_next, filled_kept, filled_dealt}
 use Rattle.suit_classes.proofs.class_counts.dealt_to.Goals as goal
 use Rattle.suit_classes.proofs.class_counts.dealt_to.Goals.{then-is, else-is}
 

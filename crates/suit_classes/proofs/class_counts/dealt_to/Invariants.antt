@@ -1,5 +1,5 @@
 use Rattle.suit_classes.specs.ClassPlaces.{held_by}
-use Rattle.suit_classes.proofs.CountedLists.{Filled}
+use Rattle.suit_classes.proofs.CountedClassByClass.{Filled}
 use Rattle.suit_classes.proofs.class_counts.dealt_to.Given as goal
 
 abbrev pub invariant-loop-class : goal.invariant-loop-class

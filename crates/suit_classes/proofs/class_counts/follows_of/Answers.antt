@@ -4,8 +4,8 @@ use Rattle.std.proofs.lemmas.Bool.{eqb-true, eqb-false}
 use Rattle.suit_classes.specs.declared.class_moves.ClassMove.{ClassMove}
 use Rattle.suit_classes.specs.declared.class_moves.ClassMove.TheVariants.{Follow, ShowOut}
 use Rattle.suit_classes.specs.ClassPlaces.{counted_classes}
-use Rattle.suit_classes.proofs.CountedLists.{moves_next, moves_room, class_numbers-all, counts_some, counts_none}
-use Rattle.suit_classes.proofs.CountedLists.{counted_classes-most, or_show_out-none, or_show_out-some}
+use Rattle.suit_classes.proofs.CountedClassByClass.{moves_next, moves_room, class_numbers-all, counts_some, counts_none}
+use Rattle.suit_classes.proofs.CountedClassByClass.{counted_classes-most, or_show_out-none, or_show_out-some}
 use Rattle.suit_classes.proofs.class_counts.follows_of.Goals as goal
 use Rattle.suit_classes.proofs.class_counts.follows_of.Goals.{then-left-class-gt0, else-left-class-gt0}
 

@@ -1,4 +1,4 @@
-use Rattle.suit_classes.proofs.AllowedHistories.{allowed_moves}
+use Rattle.suit_classes.proofs.AllowedMoveByMove.{allowed_moves}
 use Rattle.suit_classes.proofs.laws.allowed_moves.Goals as goal
 
 pub returns : goal.returns

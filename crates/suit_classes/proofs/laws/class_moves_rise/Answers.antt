@@ -1,4 +1,4 @@
-use Rattle.suit_classes.proofs.RisingMoves.{class_moves_rise}
+use Rattle.suit_classes.proofs.ClassMovesRise.{class_moves_rise}
 use Rattle.suit_classes.proofs.laws.class_moves_rise.Goals as goal
 
 pub returns : goal.returns

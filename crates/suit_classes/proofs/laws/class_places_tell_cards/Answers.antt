@@ -1,4 +1,4 @@
-use Rattle.suit_classes.proofs.AgreedPlaces.{class_places_tell_cards}
+use Rattle.suit_classes.proofs.ClassGameAgrees.{class_places_tell_cards}
 use Rattle.suit_classes.proofs.laws.class_places_tell_cards.Goals as goal
 
 pub returns : goal.returns

@@ -1,4 +1,4 @@
-use Rattle.suit_classes.proofs.AllowedHistories.{classes_are_runs}
+use Rattle.suit_classes.proofs.AllowedMoveByMove.{classes_are_runs}
 use Rattle.suit_classes.proofs.laws.classes_are_runs.Goals as goal
 
 pub returns : goal.returns

@@ -1,4 +1,4 @@
-use Rattle.suit_classes.proofs.AllowedLayouts.{counts_alike}
+use Rattle.suit_classes.proofs.CountsAllowAsTold.{counts_alike}
 use Rattle.suit_classes.proofs.laws.counts_alike.Goals as goal
 
 pub returns : goal.returns

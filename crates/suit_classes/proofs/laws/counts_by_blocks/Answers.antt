@@ -1,4 +1,4 @@
-use Rattle.suit_classes.proofs.DealtClasses.{counts_by_blocks}
+use Rattle.suit_classes.proofs.OneSideHoldsAClass.{counts_by_blocks}
 use Rattle.suit_classes.proofs.laws.counts_by_blocks.Goals as goal
 
 pub returns : goal.returns

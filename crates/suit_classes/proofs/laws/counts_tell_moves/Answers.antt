@@ -1,4 +1,4 @@
-use Rattle.suit_classes.proofs.AllowedHistories.{counts_tell_moves}
+use Rattle.suit_classes.proofs.AllowedMoveByMove.{counts_tell_moves}
 use Rattle.suit_classes.proofs.laws.counts_tell_moves.Goals as goal
 
 pub returns : goal.returns

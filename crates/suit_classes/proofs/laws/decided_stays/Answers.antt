@@ -1,4 +1,4 @@
-use Rattle.suit_classes.proofs.DecidedPlays.{decided_stays}
+use Rattle.suit_classes.proofs.DecidedStaysDecided.{decided_stays}
 use Rattle.suit_classes.proofs.laws.decided_stays.Goals as goal
 
 pub returns : goal.returns

@@ -1,4 +1,4 @@
-use Rattle.suit_classes.proofs.RisingMoves.{every_move_rises}
+use Rattle.suit_classes.proofs.ClassMovesRise.{every_move_rises}
 use Rattle.suit_classes.proofs.laws.every_move_rises.Goals as goal
 
 pub returns : goal.returns

@@ -1,4 +1,4 @@
-use Rattle.suit_classes.proofs.AllowedHistories.{layouts_allow_none}
+use Rattle.suit_classes.proofs.AllowedMoveByMove.{layouts_allow_none}
 use Rattle.suit_classes.proofs.laws.layouts_allow_none.Goals as goal
 
 pub returns : goal.returns

@@ -1,4 +1,4 @@
-use Rattle.suit_game.proofs.ReachedPlaces.{thirteen_tricks}
+use Rattle.suit_game.proofs.EachPlaceIsReached.{thirteen_tricks}
 use Rattle.suit_game.proofs.laws.thirteen_tricks.Goals as goal
 
 pub returns : goal.returns

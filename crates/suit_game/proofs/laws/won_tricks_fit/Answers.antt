@@ -1,4 +1,4 @@
-use Rattle.suit_game.proofs.ReachedPlaces.{won_tricks_fit}
+use Rattle.suit_game.proofs.EachPlaceIsReached.{won_tricks_fit}
 use Rattle.suit_game.proofs.laws.won_tricks_fit.Goals as goal
 
 pub returns : goal.returns

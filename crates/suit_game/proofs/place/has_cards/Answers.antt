@@ -1,4 +1,4 @@
-use Rattle.suit_game.proofs.SeenPlaces.{is_empty_told}
+use Rattle.suit_game.proofs.PlaceSeenAfterAMove.{is_empty_told}
 use Rattle.suit_game.proofs.place.has_cards.Goals as goal
 
 pub returns : goal.returns

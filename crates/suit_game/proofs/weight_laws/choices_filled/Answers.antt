@@ -1,4 +1,4 @@
-use Rattle.suit_game.proofs.FilledPlaces.{choices_filled}
+use Rattle.suit_game.proofs.WhatAllLayoutsWeigh.{choices_filled}
 use Rattle.suit_game.proofs.weight_laws.choices_filled.Goals as goal
 
 pub returns : goal.returns

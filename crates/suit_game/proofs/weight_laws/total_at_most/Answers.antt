@@ -1,4 +1,4 @@
-use Rattle.suit_game.proofs.FilledPlaces.{total_at_most}
+use Rattle.suit_game.proofs.WhatAllLayoutsWeigh.{total_at_most}
 use Rattle.suit_game.proofs.weight_laws.total_at_most.Goals as goal
 
 pub returns : goal.returns

@@ -1,4 +1,4 @@
-use Rattle.suit_game.proofs.FilledPlaces.{total_of_all}
+use Rattle.suit_game.proofs.WhatAllLayoutsWeigh.{total_of_all}
 use Rattle.suit_game.proofs.weight_laws.total_of_all.Goals as goal
 
 pub returns : goal.returns

@@ -1,5 +1,5 @@
 use Rattle.std.proofs.Common.{length, ap, ◌∙◌, arith}
-use Rattle.suit_game.proofs.FilledPlaces.{term-small, total_more, total_whole}
+use Rattle.suit_game.proofs.WhatAllLayoutsWeigh.{term-small, total_more, total_whole}
 use Rattle.suit_game.proofs.weights.total_within.Goals as goal
 
 pub overflow_mul-total : goal.overflow_mul-total

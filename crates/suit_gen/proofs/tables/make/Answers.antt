@@ -1,4 +1,4 @@
-use Rattle.suit_gen.proofs.MadeRecords.{texts_more, texts_done}
+use Rattle.suit_gen.proofs.RecordNamesItsQuestion.{texts_more, texts_done}
 use Rattle.suit_gen.proofs.tables.make.Goals as goal
 
 pub loop-preserved : goal.loop-preserved

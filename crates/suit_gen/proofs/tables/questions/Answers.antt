@@ -1,4 +1,4 @@
-use Rattle.suit_gen.proofs.MadeRecords.{
+use Rattle.suit_gen.proofs.RecordNamesItsQuestion.{
   more_questions,
   all_questions,
   questions_count,

@@ -1,4 +1,4 @@
-use Rattle.suit_layouts.proofs.ListedCounts.{class_layouts_exact}
+use Rattle.suit_layouts.proofs.WhatHasWeightIsListed.{class_layouts_exact}
 use Rattle.suit_layouts.proofs.laws.class_layouts_exact.Goals as goal
 
 pub returns : goal.returns

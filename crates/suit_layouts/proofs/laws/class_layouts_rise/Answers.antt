@@ -1,4 +1,4 @@
-use Rattle.suit_layouts.proofs.RisingCounts.{class_layouts_rise}
+use Rattle.suit_layouts.proofs.ClassLayoutsRise.{class_layouts_rise}
 use Rattle.suit_layouts.proofs.laws.class_layouts_rise.Goals as goal
 
 pub returns : goal.returns

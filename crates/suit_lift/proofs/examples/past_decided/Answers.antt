@@ -2,7 +2,7 @@ use Rattle.std.proofs.Common.{refl}
 use Rattle.suit_cards.specs.Holdings.{suit}
 use Rattle.suit_game.specs.Question.{plain}
 use Rattle.suit_game.specs.Positions.{without, legal_in, step_in}
-use Rattle.suit_classes.specs.AllowedHistories.{is_among}
+use Rattle.suit_classes.specs.WhatIsAllowed.{is_among}
 use Rattle.suit_classes.specs.Classes.{class_below}
 use Rattle.suit_plans.specs.Masses.{count_of, plan_shares_at, defence_shares_at}
 use Rattle.suit_plans.specs.Orders.{same_class_history}

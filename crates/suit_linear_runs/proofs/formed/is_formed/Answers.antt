@@ -5,7 +5,7 @@ use Rattle.std.proofs.lemmas.Int.{to_z-of_z}
 use Rattle.suit_num.specs.Narrow.{IsNarrow}
 use Rattle.suit_linear.specs.Sparse.{dense_entries}
 use Rattle.suit_linear.specs.declared.sparse.Entry.{Entry}
-use Rattle.suit_linear_runs.proofs.FormedRows.{row_formed}
+use Rattle.suit_linear_runs.proofs.WellFormedRowByRow.{row_formed}
 use Rattle.suit_linear_runs.proofs.formed.is_formed.Goals as goal
 
 pub returns : goal.returns

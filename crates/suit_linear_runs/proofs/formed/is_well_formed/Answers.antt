@@ -2,7 +2,7 @@ use Rattle.std.proofs.Common.{◌≡◌, subst, ap, List, length, arith}
 use Rattle.std.specs.Prelude.{All, ℤ}
 use Rattle.suit_num.specs.Narrow.{IsNarrow}
 use Rattle.suit_linear.specs.declared.sparse.SparseRow.{SparseRow}
-use Rattle.suit_linear_runs.proofs.FormedRows.{all_formed}
+use Rattle.suit_linear_runs.proofs.WellFormedRowByRow.{all_formed}
 use Rattle.suit_linear_runs.proofs.formed.is_well_formed.Goals as goal
 
 pub returns : goal.returns

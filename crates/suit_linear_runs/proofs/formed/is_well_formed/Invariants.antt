@@ -1,5 +1,5 @@
 use Rattle.std.specs.Prelude.{length}
-use Rattle.suit_linear_runs.proofs.FormedRows.{AreFormed}
+use Rattle.suit_linear_runs.proofs.WellFormedRowByRow.{AreFormed}
 use Rattle.suit_linear_runs.proofs.formed.is_well_formed.Given as goal
 
 abbrev pub invariant-loop-index : goal.invariant-loop-index

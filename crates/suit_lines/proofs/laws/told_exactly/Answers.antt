@@ -1,4 +1,4 @@
-use Rattle.suit_lines.proofs.ToldHistories.{told_exactly}
+use Rattle.suit_lines.proofs.WhichHistoriesAreTold.{told_exactly}
 use Rattle.suit_lines.proofs.laws.told_exactly.Goals as goal
 
 pub returns : goal.returns

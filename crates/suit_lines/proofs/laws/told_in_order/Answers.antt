@@ -1,4 +1,4 @@
-use Rattle.suit_lines.proofs.ToldHistories.{told_in_order}
+use Rattle.suit_lines.proofs.WhichHistoriesAreTold.{told_in_order}
 use Rattle.suit_lines.proofs.laws.told_in_order.Goals as goal
 
 pub returns : goal.returns

@@ -3,10 +3,10 @@ use Rattle.std.proofs.lemmas.List.{length-append}
 use Rattle.suit_cards.specs.declared.seats.Seat.TheVariants.{N, S}
 use Rattle.suit_classes.specs.declared.class_moves.ClassMove.{ClassMove}
 use Rattle.suit_classes.specs.declared.class_moves.ClassMove.TheVariants.{Lead, Follow, ShowOut}
-use Rattle.suit_classes.specs.AllowedHistories.{every_move}
+use Rattle.suit_classes.specs.WhatIsAllowed.{every_move}
 use Rattle.suit_classes.specs.ClassPlaces.{class_numbers}
 use Rattle.suit_classes.specs.declared.classes.TheConstants.{MOST_CLASSES}
-use Rattle.suit_lines.proofs.ListedMoves.{class_more, class_none}
+use Rattle.suit_lines.proofs.MovesClassByClass.{class_more, class_none}
 use Rattle.suit_lines.proofs.moves.every_move.Goals as goal
 
 pub loop-north-preserved : goal.loop-north-preserved

@@ -4,9 +4,9 @@ use Rattle.std.specs.List.{list_any}
 use Rattle.std.proofs.lemmas.List.{take_all}
 use Rattle.suit_cards.specs.declared.seats.Seat.TheVariants.{N}
 use Rattle.suit_classes.specs.declared.class_moves.ClassMove.TheVariants.{Lead}
-use Rattle.suit_classes.specs.AllowedHistories.{is_among}
+use Rattle.suit_classes.specs.WhatIsAllowed.{is_among}
 use Rattle.suit_lines.specs.Walks.{some_have}
-use Rattle.suit_lines.proofs.FoundMoves.{filter_next, moves_decided, moves_going, offered}
+use Rattle.suit_lines.proofs.LookingForMoves.{filter_next, moves_decided, moves_going, offered}
 use Rattle.suit_lines.proofs.moves.moves_for.Goals as goal
 use Rattle.suit_lines.proofs.moves.moves_for.Goals.{then-is_offered+in_ok-push, else-is_offered}
 

@@ -7,7 +7,7 @@ use Rattle.suit_classes.specs.declared.class_moves.ClassMove.{ClassMove}
 use Rattle.suit_classes.specs.declared.class_moves.ClassMove.TheVariants.{Lead}
 use Rattle.suit_cards.specs.declared.seats.Seat.TheVariants.{N}
 use Rattle.suit_lines.specs.Sentences.{joined, share_words}
-use Rattle.suit_lines.proofs.JoinedTexts.{joined_none, words_more}
+use Rattle.suit_lines.proofs.OneMoreTextJoined.{joined_none, words_more}
 use Rattle.suit_lines.proofs.sentences.write_choice.Goals as goal
 
 pub loop-index-init : goal.loop-index-init

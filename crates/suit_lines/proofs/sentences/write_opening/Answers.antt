@@ -9,7 +9,7 @@ use Rattle.suit_classes.specs.declared.class_turn.ClassTurn.{ClassTurn}
 use Rattle.suit_classes.specs.ClassPlaces.{class_after, class_start}
 use Rattle.suit_game.specs.declared.limits.TheConstants.{MOST_MOVES}
 use Rattle.suit_lines.specs.Sentences.{joined, move_words, words_from}
-use Rattle.suit_lines.proofs.JoinedTexts.{moves_more, opening_some, then_written}
+use Rattle.suit_lines.proofs.OneMoreTextJoined.{moves_more, opening_some, then_written}
 use Rattle.suit_lines.proofs.sentences.write_opening.Goals as goal
 
 pub loop-index-init : goal.loop-index-init

@@ -4,7 +4,7 @@ use Rattle.std.specs.Prelude.{FitsSigned}
 use Rattle.std.specs.Int.{w128}
 use Rattle.std.proofs.lemmas.Int.{to_z-of_z}
 use Rattle.suit_lines.specs.Values.{decimals, hundredths, unit}
-use Rattle.suit_lines.proofs.JoinedTexts.{then_written}
+use Rattle.suit_lines.proofs.OneMoreTextJoined.{then_written}
 use Rattle.suit_lines.proofs.value.write_value.Goals as goal
 
 pub returns : goal.returns

@@ -1,9 +1,9 @@
 use Rattle.std.proofs.Common.{◌∙◌, sym, ap, false, take}
 use Rattle.suit_cards.specs.declared.seats.Seat.TheVariants.{N}
 use Rattle.suit_classes.specs.declared.class_moves.ClassMove.TheVariants.{Lead}
-use Rattle.suit_classes.specs.AllowedHistories.{allows_from}
+use Rattle.suit_classes.specs.WhatIsAllowed.{allows_from}
 use Rattle.suit_classes.specs.declared.class_view.ClassView.{ClassView}
-use Rattle.suit_plans.proofs.AllowedWalks.{start_allows, walk_first, walk_last, walk_next, walk_on, walked_short}
+use Rattle.suit_plans.proofs.AllowedSoFar.{start_allows, walk_first, walk_last, walk_next, walk_on, walked_short}
 use Rattle.suit_plans.proofs.allowed.allows_from.Goals as goal
 
 pub loop-index-init : goal.loop-index-init

@@ -1,5 +1,5 @@
 use Rattle.suit_plans.specs.Starts.{IsStart}
-use Rattle.suit_plans.proofs.AllowedWalks.{IsAllowedWalk}
+use Rattle.suit_plans.proofs.AllowedSoFar.{IsAllowedWalk}
 use Rattle.suit_plans.proofs.allowed.allows_from.Given as goal
 
 abbrev pub invariant-loop-index : goal.invariant-loop-index

@@ -1,6 +1,6 @@
 use Rattle.std.proofs.Common.{◌∙◌, ◌<◌, sym, ap, subst}
-use Rattle.suit_cards.specs.Cards.{Counts}
-use Rattle.suit_classes.specs.AllowedHistories.{allows, allows_from}
+use Rattle.suit_cards.specs.Cards.{ClassLayout}
+use Rattle.suit_classes.specs.WhatIsAllowed.{allows, allows_from}
 use Rattle.suit_classes.specs.declared.class_view.ClassView.{ClassView}
 use Rattle.suit_classes.specs.Classes.{defence_sizes}
 use Rattle.suit_layouts.specs.ClassLayouts.{class_layouts}
@@ -23,7 +23,7 @@ allows_from-requires c =
     record {
       question = c.args.question.now;
       valid = c.requires;
-      weighs = subst (λ (counts : Counts). 0 < weight_of c.args.question.now counts) (sym c.counts.ensures.value)
+      weighs = subst (λ (counts : ClassLayout). 0 < weight_of c.args.question.now counts) (sym c.counts.ensures.value)
           come.weigh.0;
       first = c.start-start.ensures;
     }
@@ -34,7 +34,7 @@ returns-then-allows_from c =
     let come = subst (StillToCome c.args.question.now c.args.history.now) c.in-Some.ensures.steps
     c.loop-layout.invariant in
     found_to_come c.args.question.now c.args.history.now (c.in-Some.layout, c.in-Some.field-0-1) c.next.new.self come
-    (c.if-allows_from.ensures ∙ ap (λ (counts : Counts). allows_from counts c.start-start.result c.args.history.now)
+    (c.if-allows_from.ensures ∙ ap (λ (counts : ClassLayout). allows_from counts c.start-start.result c.args.history.now)
     c.counts.ensures.value
     ∙ ap (λ (v : ClassView). allows_from c.in-Some.layout v c.args.history.now) c.start-start.ensures)
 
@@ -44,7 +44,7 @@ loop-layout-preserved c =
     let come = subst (StillToCome c.args.question.now c.args.history.now) c.in-Some.ensures.steps
     c.loop-layout.invariant in
     next_to_come c.args.question.now c.args.history.now (c.in-Some.layout, c.in-Some.field-0-1) c.next.new.self come
-    (c.if-allows_from.ensures ∙ ap (λ (counts : Counts). allows_from counts c.start-start.result c.args.history.now)
+    (c.if-allows_from.ensures ∙ ap (λ (counts : ClassLayout). allows_from counts c.start-start.result c.args.history.now)
     c.counts.ensures.value
     ∙ ap (λ (v : ClassView). allows_from c.in-Some.layout v c.args.history.now) c.start-start.ensures)
 

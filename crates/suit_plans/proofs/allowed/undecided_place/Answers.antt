@@ -2,7 +2,7 @@ use Rattle.std.proofs.Common.{sym, ap, true, take, length, length-take, arith, â
 use Rattle.suit_cards.specs.declared.seats.Seat.TheVariants.{N}
 use Rattle.suit_classes.specs.declared.class_moves.ClassMove.TheVariants.{Lead}
 use Rattle.suit_plans.specs.Properness.{goes_undecided}
-use Rattle.suit_plans.proofs.AllowedWalks.{undecided_last, undecided_next, undecided_on}
+use Rattle.suit_plans.proofs.AllowedSoFar.{undecided_last, undecided_next, undecided_on}
 use Rattle.suit_plans.proofs.allowed.undecided_place.Goals as goal
 use Rattle.suit_game.specs.declared.limits.TheConstants.{MOST_MOVES}
 

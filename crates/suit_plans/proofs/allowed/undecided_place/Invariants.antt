@@ -1,4 +1,4 @@
-use Rattle.suit_plans.proofs.AllowedWalks.{IsUndecidedWalk}
+use Rattle.suit_plans.proofs.AllowedSoFar.{IsUndecidedWalk}
 use Rattle.suit_plans.proofs.allowed.undecided_place.Given as goal
 
 abbrev pub invariant-loop-index : goal.invariant-loop-index

@@ -1,4 +1,4 @@
-use Rattle.suit_plans.proofs.BoundedReplies.{leasts_bounded}
+use Rattle.suit_plans.proofs.RepliesAreBounded.{leasts_bounded}
 use Rattle.suit_plans.proofs.laws.leasts_are_bounded.Goals as goal
 
 pub returns : goal.returns

@@ -1,5 +1,5 @@
 use Rattle.std.proofs.Common.{sym, ap, ◌&&◌, bytes_eq, List, Option, option_map, Bool, true, false}
-use Rattle.suit_cards.specs.Cards.{Counts}
+use Rattle.suit_cards.specs.Cards.{ClassLayout}
 use Rattle.suit_classes.specs.declared.class_moves.ClassMove.{ClassMove}
 use Rattle.suit_plans.specs.declared.defence.DefenceRow.{DefenceRow}
 use Rattle.suit_plans.specs.Masses.{Shares, defence_shares_at}
@@ -12,10 +12,10 @@ use Rattle.suit_classes.specs.ClassMoves.{ClassHistory}
 abbrev counts_of : Option DefenceRow → Option Shares
 counts_of row = option_map (λ (row : DefenceRow). row.counts) row
 
-abbrev earlier : Counts → ClassHistory → DefenceRow → Bool
+abbrev earlier : ClassLayout → ClassHistory → DefenceRow → Bool
 earlier counts history row = key_before row.west row.history counts history
 
-abbrev here : Counts → ClassHistory → DefenceRow → Bool
+abbrev here : ClassLayout → ClassHistory → DefenceRow → Bool
 here counts history row = bytes_eq row.west counts && same_class_history row.history history
 
 pub returns-in_err-row : goal.returns-in_err-row

@@ -1,5 +1,5 @@
 use Rattle.std.proofs.Common.{◌∙◌, sym, ap}
-use Rattle.suit_cards.specs.Cards.{Counts}
+use Rattle.suit_cards.specs.Cards.{ClassLayout}
 use Rattle.suit_plans.specs.declared.defence.DefenceRow.{DefenceRow}
 use Rattle.suit_plans.specs.Orders.{defence_row_before, key_before}
 use Rattle.suit_plans.proofs.RowsBeforeTell.{last_asked}
@@ -7,7 +7,7 @@ use Rattle.suit_plans.proofs.proper.defence_stands_after.Goals as goal
 
 pub returns-in-len1-up : goal.returns-in-len1-up
 returns-in-len1-up c =
-    c.is_row_before.ensures ∙ ap (λ (w : Counts). key_before c.last-item.result.west c.last-item.result.history w
+    c.is_row_before.ensures ∙ ap (λ (w : ClassLayout). key_before c.last-item.result.west c.last-item.result.history w
     c.items.result.now) c.counts.ensures.value
     ∙ ap (key_before c.last-item.result.west c.last-item.result.history c.args.row.now.west) c.items.ensures
     ∙ sym (last_asked (λ (last : DefenceRow). defence_row_before last c.args.row.now) c.args.before.now

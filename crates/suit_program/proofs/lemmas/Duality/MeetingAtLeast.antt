@@ -5,7 +5,7 @@ use Rattle.std.specs.Prelude.{Contains, ℤ, pos, ◌*ℤ◌, ◌≤ℤ◌}
 use Rattle.std.specs.Int.Signed.{≤ℤ_refl}
 use Rattle.std.proofs.lemmas.List.{length-append}
 use Rattle.std.proofs.Math.IntN.{*ℤ_comm}
-use Rattle.suit_cards.specs.Cards.{Counts}
+use Rattle.suit_cards.specs.Cards.{ClassLayout}
 use Rattle.suit_num.proofs.IntegerLaws.{le-mul_right, mul_assoc}
 use Rattle.suit_game.specs.declared.question.Question.{Question}
 use Rattle.suit_game.specs.Validity.{IsValid}
@@ -13,16 +13,16 @@ use Rattle.suit_game.proofs.EachElement.{Contains-map, map_same}
 use Rattle.suit_classes.specs.declared.class_moves.ClassMove.{ClassMove}
 use Rattle.suit_classes.specs.ClassGame.{Allows}
 use Rattle.suit_classes.specs.ClassPlaces.{class_after, class_moves, class_payoff, class_turn}
-use Rattle.suit_classes.proofs.AllowedHistories.{allowed_moves}
-use Rattle.suit_classes.proofs.DecidedPlays.{class_histories_are_short}
+use Rattle.suit_classes.proofs.AllowedMoveByMove.{allowed_moves}
+use Rattle.suit_classes.proofs.DecidedStaysDecided.{class_histories_are_short}
 use Rattle.suit_plans.specs.declared.plan.Plan.{Plan}
 use Rattle.suit_plans.specs.declared.defence.Defence.{Defence}
 use Rattle.suit_plans.specs.BestReplies.{Reply, least, reply_to_plan, worth}
 use Rattle.suit_plans.specs.Masses.{defence_mass, defenders, is_defences, plan_mass, weight_of}
 use Rattle.suit_plans.specs.PlanLaws.{AreRealised}
 use Rattle.suit_plans.specs.Properness.{IsProperDefence, sum_of}
-use Rattle.suit_plans.proofs.AllowedWalks.{start_allows}
-use Rattle.suit_plans.proofs.BoundedReplies.{first_mass_in, weight_listed}
+use Rattle.suit_plans.proofs.AllowedSoFar.{start_allows}
+use Rattle.suit_plans.proofs.RepliesAreBounded.{first_mass_in, weight_listed}
 use Rattle.suit_plans.proofs.NumberSums.{sum_times}
 use Rattle.suit_plans.proofs.PlanWorths.{plans_at_decided, plans_at_declarers, plans_at_defences}
 use Rattle.suit_plans.proofs.ProperDefences.{defences_are_realised}
@@ -34,7 +34,7 @@ use Rattle.suit_program.specs.Supports.{layouts_of}
 use Rattle.suit_program.proofs.lemmas.Duality.MeetingByTurns.{met_on, met_over}
 use Rattle.suit_program.proofs.lemmas.Programs.SumsInOrder.{le_trans, sum_le}
 
-module _ (question : Question) (plan : Plan) (defence : Defence) (west : Counts)
+module _ (question : Question) (plan : Plan) (defence : Defence) (west : ClassLayout)
     (realised : AreRealised question (defenders question defence.den defence.rows west) west) where
   abbrev to_plan : Reply
   to_plan = reply_to_plan question plan west
@@ -135,7 +135,7 @@ module _ (question : Question) (plan : Plan) (defence : Defence) (west : Counts)
       (whose_turn (class_after question history))
 
 -- in one class layout
-one_met : (question : Question) (plan : Plan) (defence : Defence) (layout : Counts × ℕ) → IsValid question
+one_met : (question : Question) (plan : Plan) (defence : Defence) (layout : ClassLayout × ℕ) → IsValid question
     → IsProperDefence question defence → Contains (layouts_of question) layout
     → ((pos layout.1 *ℤ worth (reply_to_plan question plan layout.0) []) *ℤ defence.den)
     ≤ℤ worth (meeting question plan defence layout.0) []
@@ -158,9 +158,9 @@ pub least_met : (question : Question) (plan : Plan) (defence : Defence) → IsVa
     → IsProperDefence question defence → (least question plan *ℤ defence.den) ≤ℤ meets question plan defence
 unfolding least meets
 least_met question plan defence valid proper =
-    let earned : Counts × ℕ → ℤ = λ layout. pos layout.1 *ℤ worth (reply_to_plan question plan layout.0) [] in
-    let met : Counts × ℕ → ℤ = λ layout. worth (meeting question plan defence layout.0) [] in
-    let layouts : List (Counts × ℕ) = layouts_of question in
+    let earned : ClassLayout × ℕ → ℤ = λ layout. pos layout.1 *ℤ worth (reply_to_plan question plan layout.0) [] in
+    let met : ClassLayout × ℕ → ℤ = λ layout. worth (meeting question plan defence layout.0) [] in
+    let layouts : List (ClassLayout × ℕ) = layouts_of question in
     let turned : sum_of (map earned layouts) *ℤ defence.den ≡ sum_of (map (λ layout. earned layout *ℤ defence.den)
     layouts) =
     *ℤ_comm (sum_of (map earned layouts)) defence.den ∙ sum_times defence.den earned layouts

@@ -5,13 +5,13 @@ use Rattle.std.specs.Prelude.{Contains, ℤ, pos, ◌*ℤ◌, ◌≤ℤ◌, if�
 use Rattle.std.specs.Int.Signed.{≤ℤ_refl}
 use Rattle.std.proofs.lemmas.List.{length-append}
 use Rattle.std.proofs.Math.IntN.{*ℤ_comm}
-use Rattle.suit_cards.specs.Cards.{Counts}
+use Rattle.suit_cards.specs.Cards.{ClassLayout}
 use Rattle.suit_num.proofs.IntegerLaws.{le-mul_right, mul_left_comm}
 use Rattle.suit_game.specs.declared.question.Question.{Question}
 use Rattle.suit_game.specs.Validity.{IsValid}
 use Rattle.suit_game.proofs.EachElement.{Contains-map, map_same}
 use Rattle.suit_classes.specs.declared.class_moves.ClassMove.{ClassMove}
-use Rattle.suit_classes.specs.AllowedHistories.{is_among}
+use Rattle.suit_classes.specs.WhatIsAllowed.{is_among}
 use Rattle.suit_classes.specs.ClassPlaces.{class_after, class_decided, class_moves, class_payoff, class_turn}
 use Rattle.suit_plans.specs.declared.plan.Plan.{Plan}
 use Rattle.suit_plans.specs.declared.defence.Defence.{Defence}
@@ -19,7 +19,7 @@ use Rattle.suit_plans.specs.BestReplies.{Reply, allowing_layouts, most, public_m
 use Rattle.suit_plans.specs.Masses.{declarer, defence_mass, is_declarers, plan_mass}
 use Rattle.suit_plans.specs.PlanLaws.{AreRealised}
 use Rattle.suit_plans.specs.Properness.{IsProperPlan, some_allows, sum_of}
-use Rattle.suit_plans.proofs.BoundedReplies.{allowing_none, first_mass, some_allow_none}
+use Rattle.suit_plans.proofs.RepliesAreBounded.{allowing_none, first_mass, some_allow_none}
 use Rattle.suit_plans.proofs.DefenceWorths.{defences_at_declarers, defences_at_defences}
 use Rattle.suit_plans.proofs.MassSteps.{mass_kept}
 use Rattle.suit_plans.proofs.NumberSums.{sum_kept, sum_times, sums_exchanged}
@@ -37,7 +37,7 @@ module _ (question : Question) (plan : Plan) (defence : Defence) (valid : IsVali
   abbrev to_defence : Reply
   to_defence = reply_to_defence question defence
 
-  abbrev met_in : List ClassMove → Counts × ℕ → ℤ
+  abbrev met_in : List ClassMove → ClassLayout × ℕ → ℤ
   met_in history layout = worth (meeting question plan defence layout.0) history
 
   -- what they earn in all class layouts that allow a history
@@ -47,19 +47,20 @@ module _ (question : Question) (plan : Plan) (defence : Defence) (valid : IsVali
   abbrev mass : List ClassMove → ℤ
   mass history = plan_mass question plan history
 
-  abbrev part : List ClassMove → ClassMove → Counts × ℕ → ℤ
+  abbrev part : List ClassMove → ClassMove → ClassLayout × ℕ → ℤ
   part history move layout = if is_among (class_moves (class_after question history) layout.0) move
       then met_in (history ++ move ∷ []) layout else pos 0
 
   goes_on : (history : List ClassMove) (move : ClassMove)
       → met_in_all (history ++ move ∷ []) ≡ sum_of (map (part history move) (allowing_layouts question history))
   goes_on history move =
-      ap (λ (l : List (Counts × ℕ)). sum_of (map (met_in (history ++ move ∷ [])) l))
+      ap (λ (l : List (ClassLayout × ℕ)). sum_of (map (met_in (history ++ move ∷ [])) l))
       (sym (going_with question valid history move))
-      ∙ sum_kept (λ (layout : Counts × ℕ). is_among (class_moves (class_after question history) layout.0) move)
+      ∙ sum_kept (λ (layout : ClassLayout × ℕ). is_among (class_moves (class_after question history) layout.0) move)
       (met_in (history ++ move ∷ [])) (allowing_layouts question history)
 
-  one_shared : (history : List ClassMove) (layout : Counts × ℕ) → Contains (allowing_layouts question history) layout
+  one_shared : (history : List ClassMove) (layout : ClassLayout × ℕ)
+      → Contains (allowing_layouts question history) layout
       → class_decided (class_after question history) ≡ false
       → sum_of (map (λ move. part history move layout) (public_moves question history)) ≡ met_in history layout
   one_shared history layout held going =
@@ -74,14 +75,14 @@ module _ (question : Question) (plan : Plan) (defence : Defence) (valid : IsVali
       → met_in_all history ≡ sum_of (map (λ move. met_in_all (history ++ move ∷ [])) (public_moves question history))
   met_shared history going =
       let moves : List ClassMove = public_moves question history in
-      let layouts : List (Counts × ℕ) = allowing_layouts question history in
+      let layouts : List (ClassLayout × ℕ) = allowing_layouts question history in
       sym (ap sum_of (map_same (λ move. met_in_all (history ++ move ∷ []))
       (λ move. sum_of (map (part history move) layouts)) moves (λ move found. goes_on history move))
       ∙ sums_exchanged (part history) moves layouts
       ∙ ap sum_of (map_same (λ layout. sum_of (map (λ move. part history move layout) moves)) (met_in history) layouts
       (λ layout held. one_shared history layout held going)))
 
-  realised : (west : Counts) → AreRealised question (declarer plan.den plan.rows) west
+  realised : (west : ClassLayout) → AreRealised question (declarer plan.den plan.rows) west
   realised west = plans_are_realised question plan west valid proper
 
   mass_positive : (history : List ClassMove) → some_allows question history ≡ true → pos 0 ≤ℤ mass history
@@ -118,10 +119,10 @@ module _ (question : Question) (plan : Plan) (defence : Defence) (valid : IsVali
   earned_met : (history : List ClassMove) → class_decided (class_after question history) ≡ true
       → met_in_all history ≡ worth to_defence history *ℤ mass history
   earned_met history decided =
-      let layouts : List (Counts × ℕ) = allowing_layouts question history in
+      let layouts : List (ClassLayout × ℕ) = allowing_layouts question history in
       let payoff : ℤ = pos (class_payoff (class_after question history)) in
-      let held : Counts × ℕ → ℤ = λ layout. payoff *ℤ defence_mass question defence layout.0 history in
-      let same : (layout : Counts × ℕ) → met_in history layout ≡ mass history *ℤ held layout =
+      let held : ClassLayout × ℕ → ℤ = λ layout. payoff *ℤ defence_mass question defence layout.0 history in
+      let same : (layout : ClassLayout × ℕ) → met_in history layout ≡ mass history *ℤ held layout =
       λ layout. met_over question plan defence layout.0 history decided
       ∙ mul_left_comm payoff (mass history) (defence_mass question defence layout.0 history) in
       ap sum_of (map_same (met_in history) (λ layout. mass history *ℤ held layout) layouts (λ layout found. same
@@ -185,8 +186,9 @@ pub most_met : (question : Question) (plan : Plan) (defence : Defence) → IsVal
     → IsProperPlan question plan → meets question plan defence ≤ℤ (most question defence *ℤ plan.den)
 unfolding most meets
 most_met question plan defence valid proper =
-    let met : Counts × ℕ → ℤ = λ layout. worth (meeting question plan defence layout.0) [] in
-    subst (λ (l : List (Counts × ℕ)). sum_of (map met l) ≤ℤ (worth (reply_to_defence question defence) [] *ℤ plan.den))
+    let met : ClassLayout × ℕ → ℤ = λ layout. worth (meeting question plan defence layout.0) [] in
+    subst (λ (l : List (ClassLayout × ℕ)). sum_of (map met l) ≤ℤ
+        (worth (reply_to_defence question defence) [] *ℤ plan.den))
     (allowing_none question)
     (subst (λ (z : ℤ). sum_of (map met (allowing_layouts question [])) ≤ℤ (worth (reply_to_defence question defence) []
     *ℤ z)) (first_mass question plan)

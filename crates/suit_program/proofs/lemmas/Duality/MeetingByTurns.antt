@@ -2,7 +2,7 @@
 use Rattle.std.proofs.Common.{◌≡◌, ◌-◌, Bool, true, false, List, [], length, refl}
 use Rattle.std.proofs.Common.{sym, ap, ◌∙◌, subst}
 use Rattle.std.specs.Prelude.{if◌then◌else◌, pos, ◌*ℤ◌}
-use Rattle.suit_cards.specs.Cards.{Counts}
+use Rattle.suit_cards.specs.Cards.{ClassLayout}
 use Rattle.suit_game.specs.declared.question.Question.{Question}
 use Rattle.suit_classes.specs.declared.class_moves.ClassMove.{ClassMove}
 use Rattle.suit_classes.specs.ClassGame.{Allows}
@@ -14,11 +14,11 @@ use Rattle.suit_plans.specs.Masses.{defence_mass, plan_mass}
 use Rattle.suit_plans.specs.Properness.{sum_of}
 use Rattle.suit_plans.specs.ReplyLaws.{worths_with}
 use Rattle.suit_plans.proofs.PlanWorths.{room}
-use Rattle.suit_classes.proofs.UndecidedMoves.{HasFirst, some_move}
+use Rattle.suit_classes.proofs.UndecidedHasAMove.{HasFirst, some_move}
 use Rattle.suit_plans.proofs.WorthsAtTurns.{ended_worth, summed_turn}
 use Rattle.suit_program.specs.Duality.{meeting}
 
-module _ (question : Question) (plan : Plan) (defence : Defence) (west : Counts) where
+module _ (question : Question) (plan : Plan) (defence : Defence) (west : ClassLayout) where
   abbrev met : Reply
   met = meeting question plan defence west
 

@@ -6,13 +6,13 @@ use Rattle.std.specs.Prelude.{Contains, ◌||◌, cond, filter, not, if◌then�
 use Rattle.std.specs.List.{list_any}
 use Rattle.std.proofs.lemmas.Bool.{cases_Bool, or_parts}
 use Rattle.std.proofs.lemmas.Int.{ints}
-use Rattle.suit_cards.specs.Cards.{Counts}
+use Rattle.suit_cards.specs.Cards.{ClassLayout}
 use Rattle.suit_num.proofs.IntegerLaws.{le-mul_right, same_from_mul}
 use Rattle.suit_game.specs.declared.question.Question.{Question}
 use Rattle.suit_game.specs.Validity.{IsValid}
 use Rattle.suit_game.proofs.EachElement.{Contains-first, Contains-later}
 use Rattle.suit_classes.specs.declared.class_moves.ClassMove.{ClassMove}
-use Rattle.suit_classes.specs.AllowedHistories.{is_among}
+use Rattle.suit_classes.specs.WhatIsAllowed.{is_among}
 use Rattle.suit_classes.specs.ClassMoves.{ClassHistory}
 use Rattle.suit_classes.specs.ClassPlaces.{class_after, class_turn}
 use Rattle.suit_classes.proofs.SameMoves.{among_contained}
@@ -122,7 +122,7 @@ all_moves named (first ∷ moves) all = ap (λ (l : List ClassMove). first ∷ l
         ∙ ap (λ (l : List ClassMove). move ∷ l) (kept moves)
 
 -- the support of all moves has the legal moves
-whole_moves : (question : Question) (west : Counts) (history : ClassHistory)
+whole_moves : (question : Question) (west : ClassLayout) (history : ClassHistory)
     → supported_moves question whole_support west history ≡ legal_moves question west history
 unfolding supported_moves
 whole_moves question west history =
@@ -173,7 +173,7 @@ whole_none question plan defence valid =
         ≡ true
     theirs entry found =
         let choice = (least_choices question plan entry valid found).1 in
-        let west : Counts = counts_at question entry.layout in
+        let west : ClassLayout = counts_at question entry.layout in
         let moves = whole_moves question west entry.history
         ∙ legal_going question whole_support west entry.history west choice.going in
         among_contained (supported_moves question whole_support west entry.history) entry.mv

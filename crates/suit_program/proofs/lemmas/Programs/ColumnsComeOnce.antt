@@ -8,13 +8,13 @@ use Rattle.std.proofs.lemmas.Bool.{and_from, and_parts, false≢true, false_from
 use Rattle.std.proofs.lemmas.Int.{ints}
 use Rattle.std.proofs.lemmas.List.Elements.{Contains-get_or}
 use Rattle.std.proofs.lemmas.Slice.Eq.{bytes_eq-Decides}
-use Rattle.suit_cards.specs.Cards.{Counts}
+use Rattle.suit_cards.specs.Cards.{ClassLayout}
 use Rattle.suit_game.specs.declared.question.Question.{Question}
 use Rattle.suit_game.proofs.EachElement.{Contains-cons_cases, Contains-map_from, Contains-nil, each_at}
 use Rattle.suit_classes.specs.declared.class_moves.ClassMove.{ClassMove}
 use Rattle.suit_classes.specs.ClassMoves.{same_class_move}
 use Rattle.suit_game.proofs.DistinctElements.{IsOnce, once_map, once_pairs}
-use Rattle.suit_classes.proofs.RisingMoves.{chained_filter}
+use Rattle.suit_classes.proofs.ClassMovesRise.{chained_filter}
 use Rattle.suit_classes.proofs.SameMoves.{same_move-itself, same_move_is}
 use Rattle.suit_plans.specs.Orders.{counts_before, history_before, same_class_history}
 use Rattle.suit_plans.proofs.HistoryOrder.{same_class_history-itself, same_class_history_is}
@@ -35,7 +35,7 @@ abbrev place_of : Column → List ClassMove
 place_of (Passed history move) = history
 place_of (Held west history) = history
 
-abbrev counts_of : Column → Counts
+abbrev counts_of : Column → ClassLayout
 counts_of (Passed history move) = []
 counts_of (Held west history) = west
 
@@ -48,7 +48,7 @@ once_case true one other first second = first
 once_case false one other first second = second
 
 module _ (question : Question) (support : Support) where
-  held_case : (history : List ClassMove) (layout : Counts × ℕ) (b : Bool) (column : Column)
+  held_case : (history : List ClassMove) (layout : ClassLayout × ℕ) (b : Bool) (column : Column)
       → Contains (if b then Held layout.0 history ∷ [] else []) column
       → (place_of column ≡ history) × (counts_of column ≡ layout.0)
   held_case history layout true column found = elim (Contains-cons_cases (Held layout.0 history) [] column found) [
@@ -57,7 +57,7 @@ module _ (question : Question) (support : Support) where
   ]
   held_case history layout false column found = absurd (Contains-nil column found)
 
-  held_place : (history : List ClassMove) (layout : Counts × ℕ) (column : Column)
+  held_place : (history : List ClassMove) (layout : ClassLayout × ℕ) (column : Column)
       → Contains (held_column question history layout) column
       → (place_of column ≡ history) × (counts_of column ≡ layout.0)
   unfolding held_column
@@ -89,11 +89,11 @@ module _ (question : Question) (support : Support) where
       (once_map (Passed history) (supported_moves question support [] history)
       (λ here there same. ap (move_of here) same) (supported_once question support [] history))
       (once_pieces IsLayoutBefore (held_column question history) (reached_layouts question support history)
-      (chained_filter IsLayoutBefore (λ (other : Counts × ℕ). is_reached question support other.0 history)
+      (chained_filter IsLayoutBefore (λ (other : ClassLayout × ℕ). is_reached question support other.0 history)
       (layouts_of question) (layouts_chained question))
       (λ layout. once_case (defence_chooses question layout.0 history) (Held layout.0 history ∷ []) [] (tt, tt) tt)
       (λ here there before column one other. false≢true (sym (counts-never there.0)
-      ∙ subst (λ (w : Counts). counts_before w there.0 ≡ true)
+      ∙ subst (λ (w : ClassLayout). counts_before w there.0 ≡ true)
       (sym (held_place history here column one).1 ∙ (held_place history there column other).1) before)))
 
   pub columns_once : IsOnce (columns question support)
@@ -130,7 +130,7 @@ column_is (Passed history move) (Passed there next) same =
     ∙ ap (Passed there) (same_move_is move next parts.1)
 column_is (Held west history) (Held counts there) same =
     let parts = and_parts (bytes_eq west counts) (same_class_history history there) same in
-    ap (λ (w : Counts). Held w history) ((bytes_eq-Decides west counts).0 parts.0)
+    ap (λ (w : ClassLayout). Held w history) ((bytes_eq-Decides west counts).0 parts.0)
     ∙ ap (Held counts) (same_class_history_is history there parts.1)
 column_is (Passed history move) (Held counts there) same = absurd (false≢true same)
 column_is (Held west history) (Passed there next) same = absurd (false≢true same)

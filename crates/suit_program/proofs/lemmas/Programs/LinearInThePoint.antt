@@ -4,7 +4,7 @@ use Rattle.std.proofs.Common.{◌∙◌, arith}
 use Rattle.std.specs.Prelude.{◌-◌, length, if◌then◌else◌, ℤ, pos, neg_ℤ, ◌+ℤ◌, ◌-ℤ◌, ◌*ℤ◌}
 use Rattle.std.proofs.lemmas.Int.{ints}
 use Rattle.std.proofs.Math.IntN.{*ℤ_comm}
-use Rattle.suit_cards.specs.Cards.{Counts}
+use Rattle.suit_cards.specs.Cards.{ClassLayout}
 use Rattle.suit_num.proofs.IntegerLaws.{mul-add_left, mul-neg_left, mul_left_comm}
 use Rattle.suit_game.specs.declared.question.Question.{Question}
 use Rattle.suit_classes.specs.declared.class_moves.ClassMove.{ClassMove}
@@ -127,7 +127,7 @@ module _ (question : Question) (support : Support) (k : ℤ) (first second all :
       (mass_at question support second history) (mass_at question support all history) (masses_linear history)
   summed_linear history f g h (move ∷ moves) is = sum_linear k f g h (move ∷ moves) is
 
-  pub within_linear : (more : ℕ) (west : Counts) (history : List ClassMove)
+  pub within_linear : (more : ℕ) (west : ClassLayout) (history : List ClassMove)
       → worth_within question support all more west history
       ≡ k *ℤ worth_within question support first more west history
       +ℤ worth_within question support second more west history
@@ -150,7 +150,7 @@ module _ (question : Question) (support : Support) (k : ℤ) (first second all :
       ≡ k *ℤ objective_at question support first +ℤ objective_at question support second
   unfolding objective_at
   objectives_linear =
-      sum_linear k (λ (layout : Counts × ℕ). pos layout.1 *ℤ worth_at question support first layout.0 [])
+      sum_linear k (λ (layout : ClassLayout × ℕ). pos layout.1 *ℤ worth_at question support first layout.0 [])
       (λ layout. pos layout.1 *ℤ worth_at question support second layout.0 [])
       (λ layout. pos layout.1 *ℤ worth_at question support all layout.0 []) (layouts_of question)
       (λ layout. times_linear (pos layout.1) k (worth_at question support first layout.0 [])

@@ -6,7 +6,7 @@ use Rattle.std.proofs.lemmas.Int.{ints}
 use Rattle.std.proofs.lemmas.List.{length-map}
 use Rattle.std.proofs.lemmas.List.Elements.{All-contains}
 use Rattle.std.proofs.Math.IntN.{*ℤ_comm}
-use Rattle.suit_cards.specs.Cards.{Counts}
+use Rattle.suit_cards.specs.Cards.{ClassLayout}
 use Rattle.suit_num.proofs.IntegerLaws.{le-mul_right, mul-sub_right, mul_not_negative, mul_right_comm}
 use Rattle.suit_game.specs.declared.question.Question.{Question}
 use Rattle.suit_game.specs.Validity.{IsValid}
@@ -15,7 +15,7 @@ use Rattle.suit_plans.specs.Masses.{mass_from, mass_of}
 use Rattle.suit_plans.specs.Properness.{sum_of}
 use Rattle.suit_plans.specs.ReplyLaws.{IsPaid}
 use Rattle.suit_plans.proofs.NumberSums.{sum_times}
-use Rattle.suit_plans.proofs.SharedSums.{count_case}
+use Rattle.suit_plans.proofs.SharesAddUpToTheMass.{count_case}
 use Rattle.suit_linear.specs.Points.{dot}
 use Rattle.suit_linear.specs.Programs.{IsFeasible}
 use Rattle.suit_program.specs.Programs.ProgramLaws.{ProgramsAreBounded}
@@ -49,14 +49,14 @@ given_low (column ∷ all) given wanted low =
     added x y p q = omega (arith, ints, p, q)
 
 -- thirteen tricks in all class layouts
-pub thirteen_each : (question : Question) (worths : Counts × ℕ → ℤ) (den : ℤ)
-    → ((layout : Counts × ℕ) → Contains (layouts_of question) layout → IsPaid den (worths layout))
-    → sum_of (map (λ (layout : Counts × ℕ). pos layout.1 *ℤ worths layout) (layouts_of question))
-    ≤ℤ (sum_of (map (λ (layout : Counts × ℕ). pos layout.1 *ℤ pos 13) (layouts_of question)) *ℤ den)
+pub thirteen_each : (question : Question) (worths : ClassLayout × ℕ → ℤ) (den : ℤ)
+    → ((layout : ClassLayout × ℕ) → Contains (layouts_of question) layout → IsPaid den (worths layout))
+    → sum_of (map (λ (layout : ClassLayout × ℕ). pos layout.1 *ℤ worths layout) (layouts_of question))
+    ≤ℤ (sum_of (map (λ (layout : ClassLayout × ℕ). pos layout.1 *ℤ pos 13) (layouts_of question)) *ℤ den)
 thirteen_each question worths den paid =
-    let layouts : List (Counts × ℕ) = layouts_of question in
-    let thirteen : Counts × ℕ → ℤ = λ layout. pos layout.1 *ℤ pos 13 in
-    subst (λ (z : ℤ). sum_of (map (λ (layout : Counts × ℕ). pos layout.1 *ℤ worths layout) layouts) ≤ℤ z)
+    let layouts : List (ClassLayout × ℕ) = layouts_of question in
+    let thirteen : ClassLayout × ℕ → ℤ = λ layout. pos layout.1 *ℤ pos 13 in
+    subst (λ (z : ℤ). sum_of (map (λ (layout : ClassLayout × ℕ). pos layout.1 *ℤ worths layout) layouts) ≤ℤ z)
     (sym (*ℤ_comm (sum_of (map thirteen layouts)) den ∙ sum_times den thirteen layouts))
     (sum_le (λ layout. pos layout.1 *ℤ worths layout) (λ layout. den *ℤ thirteen layout) layouts
     (λ layout found. weighed (pos layout.1) den (worths layout) (omega (arith, ints)) (paid layout found)))
@@ -103,7 +103,7 @@ module _ (question : Question) (support : Support) (valid : IsValid question) (g
   feasible_within = record { positive = feasible_positive; rows = rows_kept }
 
   -- at the start a class layout is worth no more than thirteen tricks
-  pub start_paid : (layout : Counts × ℕ) → Contains (layouts_of question) layout
+  pub start_paid : (layout : ClassLayout × ℕ) → Contains (layouts_of question) layout
       → IsPaid den (worth_at question support point layout.0 [])
   unfolding mass_of mass_from
   start_paid layout listed =
@@ -112,13 +112,13 @@ module _ (question : Question) (support : Support) (valid : IsValid question) (g
       (reached_none question support layout.0) refl
 
   pub objective_paid : objective_at question support point
-      ≤ℤ (sum_of (map (λ (layout : Counts × ℕ). pos layout.1 *ℤ pos 13) (layouts_of question)) *ℤ den)
+      ≤ℤ (sum_of (map (λ (layout : ClassLayout × ℕ). pos layout.1 *ℤ pos 13) (layouts_of question)) *ℤ den)
   unfolding objective_at
   objective_paid = thirteen_each question (λ layout. worth_at question support point layout.0 []) den start_paid
 
 pub programs_are_bounded : ProgramsAreBounded
 programs_are_bounded question support valid =
-    let most : ℤ = sum_of (map (λ (layout : Counts × ℕ). pos layout.1 *ℤ pos 13) (layouts_of question)) in
+    let most : ℤ = sum_of (map (λ (layout : ClassLayout × ℕ). pos layout.1 *ℤ pos 13) (layouts_of question)) in
     let none : ℤ = objective_at question support no_point in (
       most -ℤ none,
       λ given den feasible.

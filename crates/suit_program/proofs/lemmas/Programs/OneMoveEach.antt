@@ -5,7 +5,7 @@ use Rattle.std.specs.Prelude.{Contains, ◌&&◌, if◌then◌else◌, ℤ, pos,
 use Rattle.std.specs.List.{AllByRecursion, flat_map}
 use Rattle.std.proofs.lemmas.Bool.{and_parts, cases_Bool, false≢true, false_from_ne_true}
 use Rattle.std.proofs.lemmas.Int.{ints}
-use Rattle.suit_cards.specs.Cards.{Counts}
+use Rattle.suit_cards.specs.Cards.{ClassLayout}
 use Rattle.suit_game.specs.declared.question.Question.{Question}
 use Rattle.suit_game.specs.Validity.{IsValid}
 use Rattle.suit_game.proofs.EachElement.{Contains-cons_cases, Contains-flat_map, Contains-map, Contains-nil}
@@ -13,7 +13,7 @@ use Rattle.suit_game.proofs.EachElement.{each_at, map_same}
 use Rattle.suit_classes.specs.declared.class_moves.ClassMove.{ClassMove}
 use Rattle.suit_classes.specs.ClassMoves.{same_class_move}
 use Rattle.suit_game.proofs.DistinctElements.{IsOnce, each_flat_map}
-use Rattle.suit_classes.proofs.RisingMoves.{Chained}
+use Rattle.suit_classes.proofs.ClassMovesRise.{Chained}
 use Rattle.suit_classes.proofs.SameMoves.{same_move-itself, same_move_is}
 use Rattle.suit_plans.specs.Masses.{mass_from, mass_of}
 use Rattle.suit_plans.specs.Orders.{history_before, same_class_history}
@@ -160,7 +160,7 @@ module _ (question : Question) (support : Support) (valid : IsValid question) (t
       (Contains-map (Passed from.0) (supported_moves question support [] from.0) (taken from.0)
       (takes from.0 chooses))))
 
-  held_case : (history : List ClassMove) (b : Bool) (west : Counts) (other : List ClassMove)
+  held_case : (history : List ClassMove) (b : Bool) (west : ClassLayout) (other : List ClassMove)
       → AllByRecursion (λ column. same_column column (Held west other) ≡ false)
       (if b then Passed history (taken history) ∷ [] else [])
   unfolding same_column
@@ -168,7 +168,7 @@ module _ (question : Question) (support : Support) (valid : IsValid question) (t
   held_case history false west other = tt
 
   -- the defence's columns are 0
-  pub taken_held : (west : Counts) (history : List ClassMove) → taken_point.at (Held west history) ≡ pos 0
+  pub taken_held : (west : ClassLayout) (history : List ClassMove) → taken_point.at (Held west history) ≡ pos 0
   taken_held west history =
       given_none taken_columns (Held west history)
       (each_flat_map (λ column. same_column column (Held west history) ≡ false) picked
@@ -256,7 +256,7 @@ module _ (question : Question) (support : Support) (valid : IsValid question) (t
 
   -- ---- masses
 
-  module _ (layout : Counts × ℕ) (listed : Contains (layouts_of question) layout) where
+  module _ (layout : ClassLayout × ℕ) (listed : Contains (layouts_of question) layout) where
     abbrev IsTaken : List ClassMove → Type 0
     IsTaken history = (is_reached question support layout.0 history ≡ true)
         × (mass_at question support taken_point history ≡ number (chosen history))
@@ -374,7 +374,8 @@ module _ (question : Question) (support : Support) (valid : IsValid question) (t
   tight_in limit (AtTheirs layout there move listed reached chooses found) history is =
       absurd (apart layout.0 there move is)
     where
-      apart : (west : Counts) (there : List ClassMove) (move : ClassMove) → Answered west there move ≡ Shared history
+      apart : (west : ClassLayout) (there : List ClassMove) (move : ClassMove)
+          → Answered west there move ≡ Shared history
           → ⊥
       apart west there move same = cc
 

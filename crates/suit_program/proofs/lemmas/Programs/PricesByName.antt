@@ -8,7 +8,7 @@ use Rattle.std.proofs.lemmas.Bool.{and_from, and_parts, false≢true, false_from
 use Rattle.std.proofs.lemmas.Int.{ints}
 use Rattle.std.proofs.lemmas.List.Elements.{Contains-get_or}
 use Rattle.std.proofs.lemmas.Slice.Eq.{bytes_eq-Decides}
-use Rattle.suit_cards.specs.Cards.{Counts}
+use Rattle.suit_cards.specs.Cards.{ClassLayout}
 use Rattle.suit_num.proofs.IntegerLaws.{mul-add_left, mul_left_comm}
 use Rattle.suit_game.proofs.EachElement.{Contains-first, Contains-later, each_at, map_same}
 use Rattle.suit_classes.specs.declared.class_moves.ClassMove.{ClassMove}
@@ -18,7 +18,7 @@ use Rattle.suit_classes.proofs.SameMoves.{same_move-itself, same_move_is}
 use Rattle.suit_plans.specs.Orders.{same_class_history}
 use Rattle.suit_plans.specs.Properness.{sum_of}
 use Rattle.suit_plans.proofs.HistoryOrder.{same_class_history-itself, same_class_history_is}
-use Rattle.suit_plans.proofs.SharedSums.{count_case}
+use Rattle.suit_plans.proofs.SharesAddUpToTheMass.{count_case}
 use Rattle.suit_linear.specs.Points.{dot, number_at}
 use Rattle.suit_program.specs.Programs.{Answered, Limit, Shared}
 use Rattle.suit_program.specs.Readings.{is_answer, price_of}
@@ -63,7 +63,7 @@ abbrev pub price_in : List Limit → List ℤ → Limit → ℤ
 price_in limits prices (Shared history) = pos 0
 price_in limits prices (Answered west history move) = price_of limits prices west history move
 
-answer_itself : (west : Counts) (history : List ClassMove) (move : ClassMove)
+answer_itself : (west : ClassLayout) (history : List ClassMove) (move : ClassMove)
     → is_answer west history move (Answered west history move) ≡ true
 unfolding is_answer
 answer_itself west history move =
@@ -71,14 +71,14 @@ answer_itself west history move =
     (and_from (bytes_eq west west) (same_class_history history history) ((bytes_eq-Decides west west).1 refl)
     (same_class_history-itself history)) (same_move-itself move)
 
-answer_is : (west : Counts) (history : List ClassMove) (move : ClassMove) (limit : Limit)
+answer_is : (west : ClassLayout) (history : List ClassMove) (move : ClassMove) (limit : Limit)
     → is_answer west history move limit ≡ true → limit ≡ Answered west history move
 unfolding is_answer
 answer_is west history move (Shared other) same = absurd (false≢true same)
 answer_is west history move (Answered counts other next) same =
     let parts = and_parts (bytes_eq west counts && same_class_history history other) (same_class_move move next) same in
     let names = and_parts (bytes_eq west counts) (same_class_history history other) parts.0 in
-    ap (λ (w : Counts). Answered w other next) (sym ((bytes_eq-Decides west counts).0 names.0))
+    ap (λ (w : ClassLayout). Answered w other next) (sym ((bytes_eq-Decides west counts).0 names.0))
     ∙ ap (λ (h : List ClassMove). Answered west h next) (sym (same_class_history_is history other names.1))
     ∙ ap (Answered west history) (sym (same_move_is move next parts.1))
 
@@ -126,7 +126,8 @@ priced_by_names (limit ∷ limits) (price ∷ prices) f once long none =
     (each_at (λ next. limit ≡ next → ⊥) limits other once.0 found))))))
 
 -- no price by name is negative, where none is
-pub price_low : (limits : List Limit) (prices : List ℤ) (west : Counts) (history : List ClassMove) (move : ClassMove)
+pub price_low : (limits : List Limit) (prices : List ℤ) (west : ClassLayout) (history : List ClassMove)
+    (move : ClassMove)
     → AllByRecursion (λ price. pos 0 ≤ℤ price) prices → pos 0 ≤ℤ price_of limits prices west history move
 unfolding price_of
 price_low [] prices west history move low = omega (arith, ints)
@@ -136,7 +137,7 @@ price_low (limit ∷ limits) (price ∷ prices) west history move low =
     (price_low limits prices west history move low.1)
 
 -- the price by the name of a row is the one in its place
-pub price_at : (limits : List Limit) (prices : List ℤ) (index : ℕ) (limit : Limit) (west : Counts)
+pub price_at : (limits : List Limit) (prices : List ℤ) (index : ℕ) (limit : Limit) (west : ClassLayout)
     (history : List ClassMove) (move : ClassMove) → IsOnce limits → length prices ≡ length limits
     → index < length limits → get_or limits index limit ≡ Answered west history move
     → price_of limits prices west history move ≡ number_at prices index

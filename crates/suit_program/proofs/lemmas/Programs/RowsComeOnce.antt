@@ -7,15 +7,15 @@ use Rattle.std.specs.Ordering.{nat_cmp, ordering_then}
 use Rattle.std.specs.Cmp.Lexicographic.{slice_cmp}
 use Rattle.std.specs.declared.cmp.Ordering.TheVariants.{Less, Equal, Greater}
 use Rattle.std.proofs.lemmas.Bool.{false≢true}
-use Rattle.suit_cards.specs.Cards.{Counts}
+use Rattle.suit_cards.specs.Cards.{ClassLayout}
 use Rattle.suit_game.specs.declared.question.Question.{Question}
 use Rattle.suit_game.proofs.EachElement.{Contains-cons_cases, Contains-map_from, Contains-nil, each_at, each_gives}
 use Rattle.suit_game.proofs.EachElement.{each_in}
 use Rattle.suit_classes.specs.declared.class_moves.ClassMove.{ClassMove}
 use Rattle.suit_classes.specs.Classes.{sizes_of}
 use Rattle.suit_game.proofs.DistinctElements.{IsOnce, each_flat_map, once_append, once_map}
-use Rattle.suit_classes.proofs.RisingMoves.{Chained, chained_filter}
-use Rattle.suit_layouts.proofs.RisingCounts.{class_layouts_rise}
+use Rattle.suit_classes.proofs.ClassMovesRise.{Chained, chained_filter}
+use Rattle.suit_layouts.proofs.ClassLayoutsRise.{class_layouts_rise}
 use Rattle.suit_plans.specs.Orders.{counts_before, history_before, is_earlier}
 use Rattle.suit_plans.proofs.ChoiceOrder.{pairs_chained}
 use Rattle.suit_plans.proofs.HistoryOrder.{IsStrict-numbers, earlier-never}
@@ -47,7 +47,7 @@ abbrev place_of : Limit → List ClassMove
 place_of (Shared history) = history
 place_of (Answered west history move) = history
 
-abbrev counts_of : Limit → Counts
+abbrev counts_of : Limit → ClassLayout
 counts_of (Shared history) = []
 counts_of (Answered west history move) = west
 
@@ -64,7 +64,7 @@ step_before false true rest later gives less = gives less
 step_before false false rest later gives less = absurd (cc)
 
 -- counts that compare as less stand before
-pub less_before : (here there : Counts) → slice_cmp nat_cmp here there ≡ Less → counts_before here there ≡ true
+pub less_before : (here there : ClassLayout) → slice_cmp nat_cmp here there ≡ Less → counts_before here there ≡ true
 unfolding is_earlier
 less_before [] [] less = absurd (cc)
 less_before [] (other ∷ others) less = refl
@@ -73,16 +73,16 @@ less_before (first ∷ rest) (other ∷ others) less =
     step_before (nat_lt first other) (first == other) (is_earlier nat_lt (λ a b. a == b) rest others)
     (slice_cmp nat_cmp rest others) (less_before rest others) less
 
-abbrev pub IsLayoutBefore : Counts × ℕ → Counts × ℕ → Type 0
+abbrev pub IsLayoutBefore : ClassLayout × ℕ → ClassLayout × ℕ → Type 0
 IsLayoutBefore here there = counts_before here.0 there.0 ≡ true
 
-before_layouts : (layouts : List (Counts × ℕ))
-    → Chained (λ (here there : Counts × ℕ). slice_cmp nat_cmp here.0 there.0 ≡ Less) layouts
+before_layouts : (layouts : List (ClassLayout × ℕ))
+    → Chained (λ (here there : ClassLayout × ℕ). slice_cmp nat_cmp here.0 there.0 ≡ Less) layouts
     → Chained IsLayoutBefore layouts
 unfolding Chained
 before_layouts [] chain = tt
 before_layouts (layout ∷ layouts) chain = (
-  each_gives (λ (there : Counts × ℕ). slice_cmp nat_cmp layout.0 there.0 ≡ Less) (IsLayoutBefore layout) layouts
+  each_gives (λ (there : ClassLayout × ℕ). slice_cmp nat_cmp layout.0 there.0 ≡ Less) (IsLayoutBefore layout) layouts
       (λ there less. less_before layout.0 there.0 less) chain.0,
   before_layouts layouts chain.1,
 )
@@ -91,30 +91,30 @@ before_layouts (layout ∷ layouts) chain = (
 pub layouts_chained : (question : Question) → Chained IsLayoutBefore (layouts_of question)
 layouts_chained question =
     before_layouts (layouts_of question)
-    (pairs_chained (λ (here there : Counts × ℕ). slice_cmp nat_cmp here.0 there.0 ≡ Less) (layouts_of question)
+    (pairs_chained (λ (here there : ClassLayout × ℕ). slice_cmp nat_cmp here.0 there.0 ≡ Less) (layouts_of question)
     (class_layouts_rise question (sizes_of question)))
 
 -- no counts stand before themselves
-pub counts-never : (counts : Counts) → counts_before counts counts ≡ false
+pub counts-never : (counts : ClassLayout) → counts_before counts counts ≡ false
 counts-never counts = earlier-never nat_lt (λ a b. a == b) counts IsStrict-numbers
 
 -- ---- rows
 
-answered_place : (west : Counts) (history : List ClassMove) (moves : List ClassMove) (limit : Limit)
+answered_place : (west : ClassLayout) (history : List ClassMove) (moves : List ClassMove) (limit : Limit)
     → Contains (map (Answered west history) moves) limit → (place_of limit ≡ history) × (counts_of limit ≡ west)
 answered_place west history moves limit found =
     let from = Contains-map_from (Answered west history) moves limit found in
     (sym (ap place_of from.2), sym (ap counts_of from.2))
 
 module _ (question : Question) (support : Support) where
-  layout_case : (history : List ClassMove) (layout : Counts × ℕ) (b : Bool) (limit : Limit)
+  layout_case : (history : List ClassMove) (layout : ClassLayout × ℕ) (b : Bool) (limit : Limit)
       → Contains (if b then map (Answered layout.0 history) (supported_moves question support layout.0 history) else [])
       limit → (place_of limit ≡ history) × (counts_of limit ≡ layout.0)
   layout_case history layout true limit found =
       answered_place layout.0 history (supported_moves question support layout.0 history) limit found
   layout_case history layout false limit found = absurd (Contains-nil limit found)
 
-  layout_place : (history : List ClassMove) (layout : Counts × ℕ) (limit : Limit)
+  layout_place : (history : List ClassMove) (layout : ClassLayout × ℕ) (limit : Limit)
       → Contains (answered_limits question support history layout) limit
       → (place_of limit ≡ history) × (counts_of limit ≡ layout.0)
   unfolding answered_limits
@@ -143,7 +143,7 @@ module _ (question : Question) (support : Support) where
   once_case true one other first second = first
   once_case false one other first second = second
 
-  layout_once : (history : List ClassMove) (layout : Counts × ℕ)
+  layout_once : (history : List ClassMove) (layout : ClassLayout × ℕ)
       → IsOnce (answered_limits question support history layout)
   unfolding answered_limits IsOnce
   layout_once history layout =
@@ -159,10 +159,10 @@ module _ (question : Question) (support : Support) where
       (flat_map (answered_limits question support history) (reached_layouts question support history)) (tt, tt)
       (once_pieces IsLayoutBefore (answered_limits question support history)
       (reached_layouts question support history)
-      (chained_filter IsLayoutBefore (λ (other : Counts × ℕ). is_reached question support other.0 history)
+      (chained_filter IsLayoutBefore (λ (other : ClassLayout × ℕ). is_reached question support other.0 history)
       (layouts_of question) (layouts_chained question)) (layout_once history)
       (λ here there before limit one other. false≢true (sym (counts-never there.0)
-      ∙ subst (λ (w : Counts). counts_before w there.0 ≡ true)
+      ∙ subst (λ (w : ClassLayout). counts_before w there.0 ≡ true)
       (sym (layout_place history here limit one).1 ∙ (layout_place history there limit other).1) before)))
 
   pub limits_once : IsOnce (limits question support)

@@ -4,15 +4,15 @@ use Rattle.std.proofs.Common.{◌≡◌, ℕ, true, List, [], ◌∷◌, ◌++�
 use Rattle.std.proofs.Common.{arith}
 use Rattle.std.specs.Prelude.{Contains, ℤ, pos, ◌+ℤ◌, ◌-ℤ◌, ◌*ℤ◌, ◌≤ℤ◌, ◌-◌, length}
 use Rattle.std.proofs.lemmas.Int.{ints}
-use Rattle.suit_cards.specs.Cards.{Counts}
+use Rattle.suit_cards.specs.Cards.{ClassLayout}
 use Rattle.suit_game.specs.declared.question.Question.{Question}
 use Rattle.suit_game.specs.Validity.{IsValid}
 use Rattle.suit_game.proofs.EachElement.{Contains-cons_cases, Contains-nil}
 use Rattle.suit_classes.specs.declared.class_moves.ClassMove.{ClassMove}
 use Rattle.suit_plans.specs.Masses.{mass_from, mass_of}
 use Rattle.suit_plans.specs.ReplyLaws.{IsPaid}
-use Rattle.suit_plans.proofs.PaidWorths.{paid_most}
-use Rattle.suit_plans.proofs.SharedSums.{sum_positive}
+use Rattle.suit_plans.proofs.AtMostThirteenTricks.{paid_most}
+use Rattle.suit_plans.proofs.SharesAddUpToTheMass.{sum_positive}
 use Rattle.suit_program.specs.Programs.Points.{IsPositive, Column, Held, Passed, Point}
 use Rattle.suit_program.specs.Programs.{sum_passed}
 use Rattle.suit_program.specs.Supports.{Support, declarer_chooses, is_reached, layouts_of, supported_moves}
@@ -49,14 +49,14 @@ path_positive : (target : List ClassMove) → IsPositive (path target)
 path_positive target = record { at = path_low target; one = omega (arith, ints) }
 
 -- what holds of a class history that is reached along the path
-pub record IsAlong (question : Question) (support : Support) (target : List ClassMove) (west : Counts)
+pub record IsAlong (question : Question) (support : Support) (target : List ClassMove) (west : ClassLayout)
     (history : List ClassMove) : Type 0 where
   pub reached : is_reached question support west history ≡ true
   pub begun : begins history target ≤ℤ mass_at question support (path target) history
   pub most : mass_at question support (path target) history ≤ℤ pos 1
 
 module _ (question : Question) (support : Support) (valid : IsValid question) (target : List ClassMove)
-    (layout : Counts × ℕ) (listed : Contains (layouts_of question) layout) where
+    (layout : ClassLayout × ℕ) (listed : Contains (layouts_of question) layout) where
   abbrev mass_on : List ClassMove → ℤ
   mass_on history = mass_at question support (path target) history
 
@@ -172,7 +172,7 @@ pub record IsBetween (most number : ℤ) : Type 0 where
   pub few : number ≤ℤ most
 
 module _ (question : Question) (support : Support) (valid : IsValid question) (point : Point) (tame : IsTame point)
-    (layout : Counts × ℕ) (listed : Contains (layouts_of question) layout) where
+    (layout : ClassLayout × ℕ) (listed : Contains (layouts_of question) layout) where
   abbrev whole : Point
   whole = path tame.target
 

@@ -7,13 +7,13 @@ use Rattle.std.proofs.lemmas.Bool.{and_parts}
 use Rattle.std.proofs.lemmas.Int.{ints}
 use Rattle.std.proofs.lemmas.List.{length-map}
 use Rattle.std.proofs.lemmas.List.Elements.{All-from_recursion, All-map}
-use Rattle.suit_cards.specs.Cards.{Counts}
+use Rattle.suit_cards.specs.Cards.{ClassLayout}
 use Rattle.suit_num.specs.Narrow.{IsNarrow}
 use Rattle.suit_game.specs.declared.question.Question.{Question}
 use Rattle.suit_game.specs.Layouts.{total}
 use Rattle.suit_game.specs.Validity.{IsValid}
 use Rattle.suit_game.proofs.EachElement.{each_in}
-use Rattle.suit_game.proofs.FilledPlaces.{total_at_most}
+use Rattle.suit_game.proofs.WhatAllLayoutsWeigh.{total_at_most}
 use Rattle.suit_game.specs.declared.limits.TheConstants.{MOST_TOTAL}
 use Rattle.suit_classes.specs.declared.class_moves.ClassMove.{ClassMove}
 use Rattle.suit_classes.specs.ClassMoves.{same_class_move}
@@ -21,7 +21,7 @@ use Rattle.suit_classes.proofs.SameMoves.{same_move_is}
 use Rattle.suit_plans.specs.Orders.{same_class_history}
 use Rattle.suit_plans.specs.Properness.{sum_of}
 use Rattle.suit_plans.specs.ReplyLaws.{IsPaid}
-use Rattle.suit_plans.proofs.BoundedReplies.{sum_weighed, weights_add}
+use Rattle.suit_plans.proofs.RepliesAreBounded.{sum_weighed, weights_add}
 use Rattle.suit_plans.proofs.HistoryOrder.{same_class_history_is}
 use Rattle.suit_plans.proofs.NumberSums.{sum_nothing}
 use Rattle.suit_linear.specs.declared.program.ProgramRow.{ProgramRow}
@@ -162,7 +162,7 @@ module _ (question : Question) (support : Support) (valid : IsValid question) wh
       → objective_at question support point ≤ℤ pos 135207800
   unfolding objective_at
   objective_few point tame =
-      let most : ℤ = sum_of (map (λ (layout : Counts × ℕ). pos layout.1 *ℤ pos 13) (layouts_of question)) in
+      let most : ℤ = sum_of (map (λ (layout : ClassLayout × ℕ). pos layout.1 *ℤ pos 13) (layouts_of question)) in
       let all = thirteen_each question (λ layout. worth_at question support point layout.0 []) (pos 1)
       (λ layout found. paid (worth_at question support point layout.0 [])
       (tame_worths question support valid point tame layout found []

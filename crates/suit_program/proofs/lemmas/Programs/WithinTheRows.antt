@@ -4,7 +4,7 @@ use Rattle.std.proofs.Common.{sym, ap, ◌∙◌, subst, arith}
 use Rattle.std.specs.Prelude.{Contains, ◌&&◌, nat_lt, ℤ, pos, ◌-ℤ◌, ◌*ℤ◌, ◌≤ℤ◌}
 use Rattle.std.proofs.lemmas.Bool.{and_parts, false≢true}
 use Rattle.std.proofs.lemmas.Int.{ints}
-use Rattle.suit_cards.specs.Cards.{Counts}
+use Rattle.suit_cards.specs.Cards.{ClassLayout}
 use Rattle.suit_game.specs.declared.question.Question.{Question}
 use Rattle.suit_game.specs.Validity.{IsValid}
 use Rattle.suit_game.proofs.EachElement.{Contains-first}
@@ -12,8 +12,8 @@ use Rattle.suit_classes.specs.declared.class_moves.ClassMove.{ClassMove}
 use Rattle.suit_classes.specs.ClassPlaces.{class_after, class_turn}
 use Rattle.suit_plans.specs.Masses.{is_defences}
 use Rattle.suit_plans.specs.ReplyLaws.{IsPaid}
-use Rattle.suit_plans.proofs.PaidWorths.{paid_most}
-use Rattle.suit_classes.proofs.UndecidedMoves.{HasFirst}
+use Rattle.suit_plans.proofs.AtMostThirteenTricks.{paid_most}
+use Rattle.suit_classes.proofs.UndecidedHasAMove.{HasFirst}
 use Rattle.suit_plans.proofs.WhoseTurns.{their_turn}
 use Rattle.suit_program.specs.Programs.Points.{Held, IsPositive, Point}
 use Rattle.suit_program.specs.Programs.{Answered, Limit, Shared, excess, limits, sum_passed}
@@ -29,12 +29,13 @@ use Rattle.suit_program.proofs.lemmas.Programs.WorthWithinMass.{AreKept}
 -- ---- choices of the defence
 
 -- a choice of the defence has a first move, and its moves keep the masses
-pub record IsTheirs (question : Question) (support : Support) (west : Counts) (history : List ClassMove) : Type 0 where
+pub record IsTheirs (question : Question) (support : Support) (west : ClassLayout)
+    (history : List ClassMove) : Type 0 where
   pub some : HasFirst (supported_moves question support west history)
   pub same : (point : Point) (move : ClassMove)
       → mass_at question support point (history ++ move ∷ []) ≡ mass_at question support point history
 
-pub their_choice : (question : Question) (support : Support) (west : Counts) (history : List ClassMove)
+pub their_choice : (question : Question) (support : Support) (west : ClassLayout) (history : List ClassMove)
     → defence_chooses question west history ≡ true → IsTheirs question support west history
 their_choice question support west history chooses = at (turn_at question support west history)
   where
@@ -45,7 +46,7 @@ their_choice question support west history chooses = at (turn_at question suppor
     at (Theirs theirs some same) = record { some = some; same = same }
 
 -- it is none of declarer's
-pub their_only : (question : Question) (west : Counts) (history : List ClassMove)
+pub their_only : (question : Question) (west : ClassLayout) (history : List ClassMove)
     → defence_chooses question west history ≡ true → declarer_chooses question history ≡ false
 unfolding declarer_chooses defence_chooses
 their_only question west history chooses =
@@ -63,7 +64,7 @@ pub record IsWithin (question : Question) (support : Support) (point : Point) : 
 
 module _ (question : Question) (support : Support) (valid : IsValid question) (point : Point)
     (within : IsWithin question support point) where
-  module _ (layout : Counts × ℕ) (listed : Contains (layouts_of question) layout) where
+  module _ (layout : ClassLayout × ℕ) (listed : Contains (layouts_of question) layout) where
     abbrev pub Reached : List ClassMove → Type 0
     Reached history = is_reached question support layout.0 history ≡ true
 

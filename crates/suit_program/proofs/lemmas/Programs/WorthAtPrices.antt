@@ -10,7 +10,7 @@ use Rattle.std.proofs.lemmas.Bool.{false≢true}
 use Rattle.std.proofs.lemmas.Int.{ints}
 use Rattle.std.proofs.lemmas.List.{length-map}
 use Rattle.std.proofs.Math.IntN.{*ℤ_comm}
-use Rattle.suit_cards.specs.Cards.{Counts}
+use Rattle.suit_cards.specs.Cards.{ClassLayout}
 use Rattle.suit_num.proofs.IntegerLaws.{mul-add_left}
 use Rattle.suit_game.specs.declared.question.Question.{Question}
 use Rattle.suit_game.proofs.EachElement.{Contains-first, Contains-later, map_same}
@@ -185,7 +185,7 @@ module _ (question : Question) (support : Support) (prices : List ℤ) (scale : 
   -- ---- by the play
 
   -- what it exceeds the rows by at a choice of the defence
-  abbrev pub part_of : Point → List ClassMove → Counts × ℕ → ℤ
+  abbrev pub part_of : Point → List ClassMove → ClassLayout × ℕ → ℤ
   part_of point history layout =
       if defence_chooses question layout.0 history
       then sum_of (map (λ move. price_of (limits question support) prices layout.0 history move
@@ -198,7 +198,7 @@ module _ (question : Question) (support : Support) (prices : List ℤ) (scale : 
     abbrev by_name : Limit → ℤ
     by_name limit = price_in (limits question support) prices limit *ℤ excess question support point limit
 
-    layout_part : (history : List ClassMove) (layout : Counts × ℕ)
+    layout_part : (history : List ClassMove) (layout : ClassLayout × ℕ)
         → sum_of (map by_name (answered_limits question support history layout)) ≡ part_of point history layout
     unfolding answered_limits excess sum_of
     layout_part history layout = at (defence_chooses question layout.0 history)
@@ -219,7 +219,7 @@ module _ (question : Question) (support : Support) (prices : List ℤ) (scale : 
     unfolding limits_at sum_of
     history_part history = at (declarer_chooses question history) refl
       where
-        none : (layout : Counts × ℕ) → declarer_chooses question history ≡ true
+        none : (layout : ClassLayout × ℕ) → declarer_chooses question history ≡ true
             → part_of point history layout ≡ pos 0
         none layout own = choose (defence_chooses question layout.0 history) refl
           where
@@ -256,6 +256,7 @@ module _ (question : Question) (support : Support) (prices : List ℤ) (scale : 
         (λ history. sum_of (map (part_of point history) (reached_layouts question support history)))
         (reached_histories question support) (λ history found. history_part history))
         ∙ rows_by_play question support (part_of point)
-        ∙ ap (λ (l : List (Counts × ℕ)). sum_of (map (λ layout. play_sum question support (part_of point) 52 layout [])
-        l)) (filter_all (λ (layout : Counts × ℕ). is_reached question support layout.0 []) (layouts_of question)
+        ∙ ap (λ (l : List (ClassLayout × ℕ)). sum_of (map (λ layout. play_sum question support
+            (part_of point) 52 layout [])
+        l)) (filter_all (λ (layout : ClassLayout × ℕ). is_reached question support layout.0 []) (layouts_of question)
         (λ layout. reached_none question support layout.0))

@@ -6,18 +6,18 @@ use Rattle.std.specs.Prelude.{Contains, ◌&&◌, filter, nat_lt, ℤ, pos, ◌*
 use Rattle.std.specs.List.{flat_map}
 use Rattle.std.proofs.lemmas.List.{length-append}
 use Rattle.std.proofs.lemmas.List.Elements.{filter_agree}
-use Rattle.suit_cards.specs.Cards.{Counts}
+use Rattle.suit_cards.specs.Cards.{ClassLayout}
 use Rattle.suit_game.specs.declared.question.Question.{Question}
 use Rattle.suit_game.specs.Validity.{IsValid}
 use Rattle.suit_game.proofs.EachElement.{Contains-first, Contains-flat_map, map_same}
 use Rattle.std.proofs.lemmas.Bool.{false≢true}
 use Rattle.suit_classes.specs.declared.class_moves.ClassMove.{ClassMove}
-use Rattle.suit_classes.specs.AllowedHistories.{every_move, is_among}
+use Rattle.suit_classes.specs.WhatIsAllowed.{every_move, is_among}
 use Rattle.suit_classes.specs.ClassPlaces.{class_after, class_decided, class_payoff, class_turn}
-use Rattle.suit_classes.proofs.DecidedPlays.{class_histories_are_short}
+use Rattle.suit_classes.proofs.DecidedStaysDecided.{class_histories_are_short}
 use Rattle.suit_classes.proofs.EveryMove.{filter_none}
 use Rattle.suit_classes.proofs.SameMoves.{among-Contains, among_contained}
-use Rattle.suit_classes.proofs.UndecidedMoves.{HasFirst}
+use Rattle.suit_classes.proofs.UndecidedHasAMove.{HasFirst}
 use Rattle.suit_plans.specs.Masses.{is_declarers, is_defences}
 use Rattle.suit_plans.proofs.WhoseTurns.{Declarers, Defences, Over, WhoseTurn, whose_turn}
 use Rattle.suit_plans.specs.Properness.{sum_of}
@@ -43,7 +43,7 @@ fuel_here history short = omega arith
 fuel_next : (history : List ClassMove) (move : ClassMove) → 52 - length history ≡ 53 - length (history ++ move ∷ [])
 fuel_next history move = omega (arith, length-append history (move ∷ []))
 
-module _ (question : Question) (support : Support) (point : Point) (west : Counts) (history : List ClassMove)
+module _ (question : Question) (support : Support) (point : Point) (west : ClassLayout) (history : List ClassMove)
     (short : length history ≤ 52) where
   here_within : worth_at question support point west history
       ≡ worth_within question support point (suc (52 - length history)) west history
@@ -75,7 +75,7 @@ module _ (question : Question) (support : Support) (point : Point) (west : Count
       (fuel_next history move)))
 
 -- what is reached is short
-pub reached_short : (question : Question) (support : Support) → IsValid question → (layout : Counts × ℕ)
+pub reached_short : (question : Question) (support : Support) → IsValid question → (layout : ClassLayout × ℕ)
     → Contains (layouts_of question) layout → (history : List ClassMove)
     → is_reached question support layout.0 history ≡ true → length history ≤ 52
 reached_short question support valid layout listed history reached =
@@ -90,7 +90,7 @@ flat_none {Y = Y} f (x ∷ xs) none = ap (λ (l : List Y). l ++ flat_map f xs) (
 
 module _ (question : Question) (support : Support) (history : List ClassMove) where
   -- none where play is decided
-  pub over_supported : class_decided (class_after question history) ≡ true → (west : Counts)
+  pub over_supported : class_decided (class_after question history) ≡ true → (west : ClassLayout)
       → supported_moves question support west history ≡ []
   over_supported over west = none (supported_moves question support west history)
       (λ move found. supported_going question support west history move found)
@@ -105,21 +105,21 @@ module _ (question : Question) (support : Support) (history : List ClassMove) wh
   unfolding next_moves is_among
   over_next over =
       ap (λ (l : List ClassMove). filter (is_among l) every_move)
-      (flat_none (λ (layout : Counts × ℕ). supported_moves question support layout.0 history)
+      (flat_none (λ (layout : ClassLayout × ℕ). supported_moves question support layout.0 history)
       (reached_layouts question support history) (λ layout. over_supported over layout.0))
       ∙ filter_none every_move
 
   -- at a turn of declarer's those of his
   pub own_next : class_decided (class_after question history) ≡ false
       → is_declarers (class_turn (class_after question history)) ≡ true
-      → (layout : Counts × ℕ) → Contains (reached_layouts question support history) layout
+      → (layout : ClassLayout × ℕ) → Contains (reached_layouts question support history) layout
       → next_moves question support history ≡ supported_moves question support [] history
   unfolding next_moves
   own_next not_over own layout held =
-      let moves : Counts × ℕ → List ClassMove = λ other. supported_moves question support other.0 history in
+      let moves : ClassLayout × ℕ → List ClassMove = λ other. supported_moves question support other.0 history in
       let mine : List ClassMove = supported_moves question support [] history in
-      let layouts : List (Counts × ℕ) = reached_layouts question support history in
-      let same : (other : Counts × ℕ) → moves other ≡ mine =
+      let layouts : List (ClassLayout × ℕ) = reached_layouts question support history in
+      let same : (other : ClassLayout × ℕ) → moves other ≡ mine =
       λ other. own_supported question support other.0 history not_over own in
       filter_agree (is_among (flat_map moves layouts)) (is_among mine)
       (λ move. same_bools (is_among (flat_map moves layouts) move) (is_among mine move)
@@ -149,7 +149,7 @@ over_turn question history over = at (whose_turn (class_after question history))
 
 -- the defence has no choice where it is not on turn
 pub defence_waits : (question : Question) (history : List ClassMove)
-    → is_defences (class_turn (class_after question history)) ≡ false → (west : Counts)
+    → is_defences (class_turn (class_after question history)) ≡ false → (west : ClassLayout)
     → defence_chooses question west history ≡ false
 unfolding defence_chooses
 defence_waits question history not west =

@@ -6,7 +6,7 @@ use Rattle.std.proofs.Common.{refl, sym, ap, ◌∙◌, subst, arith}
 use Rattle.std.specs.Prelude.{Contains, if◌then◌else◌, ℤ, pos, ◌*ℤ◌, ◌≤ℤ◌}
 use Rattle.std.proofs.lemmas.Int.{ints}
 use Rattle.std.proofs.lemmas.List.{length-append}
-use Rattle.suit_cards.specs.Cards.{Counts}
+use Rattle.suit_cards.specs.Cards.{ClassLayout}
 use Rattle.suit_num.proofs.IntegerLaws.{mul_not_negative}
 use Rattle.suit_game.specs.declared.question.Question.{Question}
 use Rattle.suit_game.proofs.EachElement.{Contains-first, map_same}
@@ -16,9 +16,9 @@ use Rattle.suit_classes.specs.ClassPlaces.{class_after, class_moves, class_payof
 use Rattle.suit_plans.specs.Masses.{count_of, is_declarers, is_first, let_through, mass_from, mass_of, share}
 use Rattle.suit_plans.specs.Properness.{sum_of}
 use Rattle.suit_plans.specs.ReplyLaws.{IsPaid}
-use Rattle.suit_plans.proofs.PaidWorths.{product_paid, sum_paid}
-use Rattle.suit_plans.proofs.SharedSums.{count_case, sum_positive}
-use Rattle.suit_classes.proofs.UndecidedMoves.{HasFirst}
+use Rattle.suit_plans.proofs.AtMostThirteenTricks.{product_paid, sum_paid}
+use Rattle.suit_plans.proofs.SharesAddUpToTheMass.{count_case, sum_positive}
+use Rattle.suit_classes.proofs.UndecidedHasAMove.{HasFirst}
 use Rattle.suit_program.specs.Programs.Points.{IsPositive, Held, Passed, Point}
 use Rattle.suit_program.specs.Programs.{sum_passed}
 use Rattle.suit_program.specs.Supports.{Support, declarer_chooses, defence_chooses, layouts_of, supported_moves}
@@ -74,7 +74,7 @@ module _ (question : Question) (support : Support) (point : Point) (positive : I
       (omega (arith, ints)) (masses_low history)
   summed_low history f (move ∷ moves) low = sum_positive f (move ∷ moves) (λ other found. low other)
 
-  pub within_low : (more : ℕ) (west : Counts) (history : List ClassMove)
+  pub within_low : (more : ℕ) (west : ClassLayout) (history : List ClassMove)
       → pos 0 ≤ℤ worth_within question support point more west history
   unfolding worth_within
   within_low zero west history = zero_low
@@ -89,7 +89,7 @@ module _ (question : Question) (support : Support) (point : Point) (positive : I
   pub objective_low : pos 0 ≤ℤ objective_at question support point
   unfolding objective_at
   objective_low =
-      sum_positive (λ (layout : Counts × ℕ). pos layout.1 *ℤ worth_at question support point layout.0 [])
+      sum_positive (λ (layout : ClassLayout × ℕ). pos layout.1 *ℤ worth_at question support point layout.0 [])
       (layouts_of question)
       (λ layout found. mul_not_negative (pos layout.1) (worth_at question support point layout.0 [])
       (omega (arith, ints)) (within_low 53 layout.0 []))
@@ -122,7 +122,7 @@ pub left_next : (history : List ClassMove) (move : ClassMove) (more : ℕ) → s
 left_next history move more left = omega (arith, left, length-append history (move ∷ []))
 
 -- what keeps within the rows in one class layout
-pub record AreKept (question : Question) (support : Support) (point : Point) (west : Counts)
+pub record AreKept (question : Question) (support : Support) (point : Point) (west : ClassLayout)
     (Fits : List ClassMove → Type 0) : Type 0 where
   pub goes : (history : List ClassMove) (move : ClassMove) → Fits history
       → Contains (supported_moves question support west history) move → Fits (history ++ move ∷ [])
@@ -134,7 +134,7 @@ pub record AreKept (question : Question) (support : Support) (point : Point) (we
       → IsPaid (mass_at question support point history) (worth_at question support point west (history ++ move ∷ [])))
       → IsPaid (mass_at question support point history) (point.at (Held west history))
 
-module _ (question : Question) (support : Support) (point : Point) (west : Counts) where
+module _ (question : Question) (support : Support) (point : Point) (west : ClassLayout) where
   abbrev next_in : ℕ → List ClassMove → ClassMove → ℤ
   next_in more history move = worth_within question support point more west (history ++ move ∷ [])
 
@@ -158,7 +158,7 @@ module _ (question : Question) (support : Support) (point : Point) (west : Count
       else summed question support point history
       (map (next_in more history) (supported_moves question support west history))) theirs
 
-module _ (question : Question) (support : Support) (point : Point) (west : Counts) (Fits : List ClassMove → Type 0)
+module _ (question : Question) (support : Support) (point : Point) (west : ClassLayout) (Fits : List ClassMove → Type 0)
     (positive : IsPositive point) (kept : AreKept question support point west Fits) where
   abbrev mass : List ClassMove → ℤ
   mass history = mass_at question support point history

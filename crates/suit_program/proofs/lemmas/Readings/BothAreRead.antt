@@ -14,7 +14,7 @@ use Rattle.suit_program.specs.declared.supports.support.Support.{Support as Mark
 use Rattle.suit_program.specs.Walks.DefenceWalks.{IsPricedTree}
 use Rattle.suit_program.specs.Supports.Marks.{support_seen}
 use Rattle.suit_program.specs.Programs.{columns, limits, program_of, row_of}
-use Rattle.suit_program.specs.Readings.ReadOptima.{IsOptimumFor, IsPlanCase, IsPlanDen}
+use Rattle.suit_program.specs.Readings.ReadingOfAnOptimum.{IsOptimumFor, IsPlanCase, IsPlanDen}
 use Rattle.suit_program.specs.Readings.{is_too_wide, parts_of, plan_den}
 use Rattle.suit_program.specs.Supports.{Support}
 

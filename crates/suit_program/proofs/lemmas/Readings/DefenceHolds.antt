@@ -12,15 +12,15 @@ use Rattle.std.proofs.lemmas.Int.{ints}
 use Rattle.std.proofs.lemmas.List.{length-append}
 use Rattle.std.proofs.lemmas.List.Elements.{filter_agree}
 use Rattle.std.proofs.Math.IntN.{*ℤ_comm}
-use Rattle.suit_cards.specs.Cards.{Counts}
+use Rattle.suit_cards.specs.Cards.{ClassLayout}
 use Rattle.suit_num.proofs.IntegerLaws.{int_lt-false, int_lt-true, le-mul_right, mul_assoc}
-use Rattle.suit_cards.proofs.SuitRuns.{filter-filter}
+use Rattle.suit_lists.proofs.Filters.{filter-filter}
 use Rattle.suit_game.specs.declared.question.Question.{Question}
 use Rattle.suit_game.specs.Validity.{IsValid}
 use Rattle.suit_game.proofs.EachElement.{Contains-first}
 use Rattle.suit_game.proofs.EachElement.{Contains-map_from, map_same}
 use Rattle.suit_classes.specs.declared.class_moves.ClassMove.{ClassMove}
-use Rattle.suit_classes.specs.AllowedHistories.{every_move, is_among}
+use Rattle.suit_classes.specs.WhatIsAllowed.{every_move, is_among}
 use Rattle.suit_classes.specs.ClassMoves.{same_class_move}
 use Rattle.suit_classes.specs.ClassPlaces.{class_after, class_decided, class_moves, class_turn}
 use Rattle.suit_classes.proofs.SameMoves.{among-Contains, among_contained, same_move-itself}
@@ -30,7 +30,7 @@ use Rattle.suit_plans.specs.BestReplies.{most, most_reply, public_moves, reply_m
 use Rattle.suit_plans.specs.BestReplies.{reply_to_defence, worth}
 use Rattle.suit_plans.specs.Masses.{defence_mass, defenders, is_declarers, is_defences, weight_of}
 use Rattle.suit_plans.specs.Properness.{IsProperDefence, some_allows, sum_of}
-use Rattle.suit_plans.proofs.BoundedReplies.{some_allow_none, weight_listed}
+use Rattle.suit_plans.proofs.RepliesAreBounded.{some_allow_none, weight_listed}
 use Rattle.suit_plans.proofs.DefenceWorths.{defences_at_declarers, defences_at_defences}
 use Rattle.suit_plans.proofs.DefenceWorths.{mass_positive}
 use Rattle.suit_plans.proofs.DefenceWorths.{room}
@@ -43,7 +43,7 @@ use Rattle.suit_plans.proofs.PublicMoves.{HasFirst-found}
 use Rattle.suit_plans.proofs.PublicMoves.{layout_weighs, own_moves_on, passing_some, public_allowed, public_going}
 use Rattle.suit_plans.proofs.PublicMoves.{some_passing, some_public}
 use Rattle.suit_plans.proofs.ReplyChoices.{reply_move_found}
-use Rattle.suit_plans.proofs.SharedSums.{within_sum}
+use Rattle.suit_plans.proofs.SharesAddUpToTheMass.{within_sum}
 use Rattle.suit_plans.proofs.TurnMoves.{declarers_moves}
 use Rattle.suit_plans.proofs.WhoseTurns.{Declarers, Defences, Over, WhoseTurn, whose_turn}
 use Rattle.suit_plans.proofs.WorthsAtTurns.{max_picks}
@@ -99,11 +99,11 @@ module _ (question : Question) (support : Support) (valid : IsValid question) (p
   is_chosen history = chosen question support valid taken (takes question support valid prices scale dual proper all)
       history
 
-  abbrev price : Counts → List ClassMove → ClassMove → ℤ
+  abbrev price : ClassLayout → List ClassMove → ClassMove → ℤ
   price west history move = price_of (limits question support) prices west history move
 
   -- a reading by the prices alone, not cut to the mass
-  abbrev uncut : Counts → Reading
+  abbrev uncut : ClassLayout → Reading
   uncut west = record {
     chooses = defence_chooses question west;
     shares = λ history mass. map (λ move. (move, price west history move))
@@ -111,35 +111,35 @@ module _ (question : Question) (support : Support) (valid : IsValid question) (p
     whole = pos (weight_of question west) *ℤ scale;
   }
 
-  abbrev bound : Counts → List ClassMove → ℤ
+  abbrev bound : ClassLayout → List ClassMove → ℤ
   bound west history = read_mass (uncut west) history
 
-  abbrev mass : Counts → List ClassMove → ℤ
+  abbrev mass : ClassLayout → List ClassMove → ℤ
   mass west history = defence_mass question read west history
 
-  abbrev read_in : Counts → List ClassMove → ℤ
+  abbrev read_in : ClassLayout → List ClassMove → ℤ
   read_in west history = read_mass (defence_reading question support prices scale west) history
 
-  abbrev IsBounded : Counts → List ClassMove → Type 0
+  abbrev IsBounded : ClassLayout → List ClassMove → Type 0
   IsBounded west history = (is_reached question support west history ≡ true) × (pos 0 ≤ℤ bound west history)
       × (read_in west history ≤ℤ bound west history)
 
-  abbrev worth_z : ℕ → Counts → List ClassMove → ℤ
+  abbrev worth_z : ℕ → ClassLayout → List ClassMove → ℤ
   worth_z more west history = worth_within question support point more west history
 
-  abbrev part : List ClassMove → Counts × ℕ → ℤ
+  abbrev part : List ClassMove → ClassLayout × ℕ → ℤ
   part history layout = part_of question support prices scale dual point history layout
 
-  abbrev play : ℕ → Counts × ℕ → List ClassMove → ℤ
+  abbrev play : ℕ → ClassLayout × ℕ → List ClassMove → ℤ
   play more layout history = play_sum question support part more layout history
 
-  abbrev held : ℕ → List ClassMove → Counts × ℕ → ℤ
+  abbrev held : ℕ → List ClassMove → ClassLayout × ℕ → ℤ
   held more history layout = bound layout.0 history *ℤ worth_z (suc more) layout.0 history -ℤ play more layout history
 
   -- a class history to which the reply and the moves taken go, and in other class layouts than those in which it is
   -- reached nothing comes to it
   abbrev IsTraced : List ClassMove → Type 0
-  IsTraced history = (layout : Counts × ℕ) → Contains (allowing_layouts question history) layout
+  IsTraced history = (layout : ClassLayout × ℕ) → Contains (allowing_layouts question history) layout
       → (is_reached question support layout.0 history ≡ true) ⊎ (mass layout.0 history ≡ pos 0)
 
   abbrev held_in_all : ℕ → List ClassMove → ℤ
@@ -161,13 +161,13 @@ module _ (question : Question) (support : Support) (valid : IsValid question) (p
   -- ---- a turn of declarer's
 
   -- what is left of a class layout after a move at a turn without a choice of the defence
-  held_falls : (more : ℕ) (history : List ClassMove) (move : ClassMove) (layout : Counts × ℕ)
+  held_falls : (more : ℕ) (history : List ClassMove) (move : ClassMove) (layout : ClassLayout × ℕ)
       → is_reached question support layout.0 history ≡ true → defence_chooses question layout.0 history ≡ false
       → Contains (supported_moves question support layout.0 history) move
       → held more (history ++ move ∷ []) layout ≤ℤ held (suc more) history layout
   unfolding play_sum
   held_falls more history move layout reached waits found =
-      let west : Counts = layout.0 in
+      let west : ClassLayout = layout.0 in
       let moves : List ClassMove = supported_moves question support west history in
       let worths : ClassMove → ℤ = λ other. worth_z (suc more) west (history ++ other ∷ []) in
       let plays : ClassMove → ℤ = λ other. play more layout (history ++ other ∷ []) in
@@ -204,7 +204,7 @@ module _ (question : Question) (support : Support) (valid : IsValid question) (p
   NextUnder more history = (move : ClassMove) → IsGoing (history ++ move ∷ []) → IsUnder more (history ++ move ∷ [])
 
   -- a move of the other side keeps the mass of the defence
-  mass_stays : (layout : Counts × ℕ) (history : List ClassMove) (move : ClassMove)
+  mass_stays : (layout : ClassLayout × ℕ) (history : List ClassMove) (move : ClassMove)
       → is_defences (class_turn (class_after question history)) ≡ false
       → mass layout.0 (history ++ move ∷ []) ≡ mass layout.0 history
   unfolding defence_mass
@@ -212,7 +212,7 @@ module _ (question : Question) (support : Support) (valid : IsValid question) (p
       mass_kept question (defenders question read.den read.rows layout.0) history move not_theirs
 
   -- where nothing came nothing goes on
-  none_next : (layout : Counts × ℕ) → Contains (layouts_of question) layout → (history : List ClassMove)
+  none_next : (layout : ClassLayout × ℕ) → Contains (layouts_of question) layout → (history : List ClassMove)
       (move : ClassMove) → Contains (allowing_layouts question history) layout
       → Contains (class_moves (class_after question history) layout.0) move
       → Contains (allowing_layouts question (history ++ move ∷ [])) layout
@@ -261,7 +261,7 @@ module _ (question : Question) (support : Support) (valid : IsValid question) (p
       found
 
   -- so the move of the reply is, where it is alive, and it is the one that is taken
-  own_move : (layout : Counts × ℕ) → Contains (layouts_of question) layout → (history : List ClassMove)
+  own_move : (layout : ClassLayout × ℕ) → Contains (layouts_of question) layout → (history : List ClassMove)
       → is_reached question support layout.0 history ≡ true → class_decided (class_after question history) ≡ false
       → is_declarers (class_turn (class_after question history)) ≡ true → some_allows question history ≡ true
       → follows reply [] history ≡ true → reply.live history ≡ true
@@ -299,7 +299,7 @@ module _ (question : Question) (support : Support) (valid : IsValid question) (p
       → reached_layouts question support (history ++ move ∷ []) ≡ reached_layouts question support history
   layouts_kept history move not_over own found =
       sym (layouts_next question support history move)
-      ∙ filter_all (λ (layout : Counts × ℕ). is_among (supported_moves question support layout.0 history) move)
+      ∙ filter_all (λ (layout : ClassLayout × ℕ). is_among (supported_moves question support layout.0 history) move)
       (reached_layouts question support history)
       (λ layout. among_contained (supported_moves question support layout.0 history) move
       (subst (λ (l : List ClassMove). Contains l move)
@@ -309,7 +309,7 @@ module _ (question : Question) (support : Support) (valid : IsValid question) (p
       → class_decided (class_after question history) ≡ false
       → is_declarers (class_turn (class_after question history)) ≡ true
       → is_defences (class_turn (class_after question history)) ≡ false
-      → (layout : Counts × ℕ) → Contains (layouts_of question) layout
+      → (layout : ClassLayout × ℕ) → Contains (layouts_of question) layout
       → is_reached question support layout.0 history ≡ true
       → NextUnder more history → IsUnder (suc more) history
   own_under more history fits live not_over own not_theirs layout listed reached next =
@@ -321,7 +321,7 @@ module _ (question : Question) (support : Support) (valid : IsValid question) (p
       let found : Contains (public_moves question history) move =
       reply_move_found reply history max_picks short some own in
       let moved = own_move layout listed history reached not_over own fits.0 fits.1 live found in
-      let each : (other : Counts × ℕ) → Contains (supported_moves question support other.0 history) move =
+      let each : (other : ClassLayout × ℕ) → Contains (supported_moves question support other.0 history) move =
       λ other. subst (λ (l : List ClassMove). Contains l move)
       (sym (own_supported question support other.0 history not_over own)) moved.0 in
       let on : IsGoing (history ++ move ∷ []) = (
@@ -341,7 +341,7 @@ module _ (question : Question) (support : Support) (valid : IsValid question) (p
       subst (λ (z : ℤ). z ≤ℤ held_in_all (suc more) history) (own_worth history fits.0 own)
       (le_trans (worth reply (history ++ move ∷ [])) (held_in_all more (history ++ move ∷ []))
       (held_in_all (suc more) history) (next move on)
-      (subst (λ (l : List (Counts × ℕ)). sum_of (map (held more (history ++ move ∷ [])) l)
+      (subst (λ (l : List (ClassLayout × ℕ)). sum_of (map (held more (history ++ move ∷ [])) l)
       ≤ℤ held_in_all (suc more) history) (sym (layouts_kept history move not_over own moved.0))
       (sum_le (held more (history ++ move ∷ [])) (held (suc more) history) (reached_layouts question support history)
       (λ other there. held_falls more history move other
@@ -351,7 +351,7 @@ module _ (question : Question) (support : Support) (valid : IsValid question) (p
   -- ---- a turn of the defence
 
   -- the moves of a class layout among those with which a class history goes on
-  public_kept : (history : List ClassMove) (layout : Counts × ℕ)
+  public_kept : (history : List ClassMove) (layout : ClassLayout × ℕ)
       → Contains (reached_layouts question support history) layout
       → class_decided (class_after question history) ≡ false
       → filter (is_among (supported_moves question support layout.0 history)) (public_moves question history)
@@ -372,23 +372,23 @@ module _ (question : Question) (support : Support) (valid : IsValid question) (p
   -- what the moves hold declarer to, class layout by class layout
   held_shared : (more : ℕ) (history : List ClassMove) → class_decided (class_after question history) ≡ false
       → sum_of (map (λ move. held_in_all more (history ++ move ∷ [])) (public_moves question history))
-      ≡ sum_of (map (λ (layout : Counts × ℕ). sum_of (map (λ move. held more (history ++ move ∷ []) layout)
+      ≡ sum_of (map (λ (layout : ClassLayout × ℕ). sum_of (map (λ move. held more (history ++ move ∷ []) layout)
       (supported_moves question support layout.0 history))) (reached_layouts question support history))
   held_shared more history not_over =
       let moves : List ClassMove = public_moves question history in
-      let layouts : List (Counts × ℕ) = reached_layouts question support history in
-      let goes : ClassMove → Counts × ℕ → ℤ = λ move layout.
+      let layouts : List (ClassLayout × ℕ) = reached_layouts question support history in
+      let goes : ClassMove → ClassLayout × ℕ → ℤ = λ move layout.
       if is_among (supported_moves question support layout.0 history) move
       then held more (history ++ move ∷ []) layout else pos 0 in
       ap sum_of (map_same (λ move. held_in_all more (history ++ move ∷ []))
       (λ move. sum_of (map (goes move) layouts)) moves
-      (λ move found. ap (λ (l : List (Counts × ℕ)). sum_of (map (held more (history ++ move ∷ [])) l))
+      (λ move found. ap (λ (l : List (ClassLayout × ℕ)). sum_of (map (held more (history ++ move ∷ [])) l))
       (sym (layouts_next question support history move))
-      ∙ sum_kept (λ (layout : Counts × ℕ). is_among (supported_moves question support layout.0 history) move)
+      ∙ sum_kept (λ (layout : ClassLayout × ℕ). is_among (supported_moves question support layout.0 history) move)
       (held more (history ++ move ∷ [])) layouts))
       ∙ sums_exchanged goes moves layouts
       ∙ ap sum_of (map_same (λ layout. sum_of (map (λ move. goes move layout) moves))
-      (λ (layout : Counts × ℕ). sum_of (map (λ move. held more (history ++ move ∷ []) layout)
+      (λ (layout : ClassLayout × ℕ). sum_of (map (λ move. held more (history ++ move ∷ []) layout)
       (supported_moves question support layout.0 history))) layouts
       (λ layout there. sym (sum_kept (is_among (supported_moves question support layout.0 history))
       (λ move. held more (history ++ move ∷ []) layout) moves)
@@ -396,13 +396,13 @@ module _ (question : Question) (support : Support) (valid : IsValid question) (p
       (public_kept history layout there not_over)))
 
   -- in a class layout at a choice of the defence
-  choice_held : (more : ℕ) (history : List ClassMove) (layout : Counts × ℕ) → suc more ≡ 52 - length history
+  choice_held : (more : ℕ) (history : List ClassMove) (layout : ClassLayout × ℕ) → suc more ≡ 52 - length history
       → defence_chooses question layout.0 history ≡ true
       → sum_of (map (λ move. held more (history ++ move ∷ []) layout)
       (supported_moves question support layout.0 history)) ≡ held (suc more) history layout
   unfolding play_sum
   choice_held more history layout left chooses =
-      let west : Counts = layout.0 in
+      let west : ClassLayout = layout.0 in
       let moves : List ClassMove = supported_moves question support west history in
       let worths : ClassMove → ℤ = λ move. price west history move *ℤ worth_z (suc more) west (history ++ move ∷ []) in
       let plays : ClassMove → ℤ = λ move. play more layout (history ++ move ∷ []) in
@@ -426,7 +426,7 @@ module _ (question : Question) (support : Support) (valid : IsValid question) (p
           let product : b *ℤ v ≡ b *ℤ pos 0 = ap (λ (z : ℤ). b *ℤ z) none in
           omega (arith, ints, each, parted, product, turned)
 
-  turn_held : (more : ℕ) (history : List ClassMove) (layout : Counts × ℕ) → suc more ≡ 52 - length history
+  turn_held : (more : ℕ) (history : List ClassMove) (layout : ClassLayout × ℕ) → suc more ≡ 52 - length history
       → is_reached question support layout.0 history ≡ true
       → is_declarers (class_turn (class_after question history)) ≡ false
       → TurnAt question support layout.0 history
@@ -494,7 +494,7 @@ module _ (question : Question) (support : Support) (valid : IsValid question) (p
         traced_next history move fits.3 not_over theirs,
       )))
       (subst (λ (z : ℤ). z ≤ℤ held_in_all (suc more) history) (sym (held_shared more history not_over))
-      (sum_le (λ (layout : Counts × ℕ). sum_of (map (λ move. held more (history ++ move ∷ []) layout)
+      (sum_le (λ (layout : ClassLayout × ℕ). sum_of (map (λ move. held more (history ++ move ∷ []) layout)
       (supported_moves question support layout.0 history))) (held (suc more) history)
       (reached_layouts question support history)
       (λ layout there. turn_held more history layout left
@@ -503,12 +503,13 @@ module _ (question : Question) (support : Support) (valid : IsValid question) (p
 
   -- ---- all turns
 
-  dead_masses : (history : List ClassMove) → reply.live history ≡ false → (layout : Counts × ℕ)
+  dead_masses : (history : List ClassMove) → reply.live history ≡ false → (layout : ClassLayout × ℕ)
       → Contains (allowing_layouts question history) layout → mass layout.0 history ≡ pos 0
   dead_masses history dead layout there =
       let low = mass_positive question read valid proper history layout there in
       nothing (mass layout.0 history) low (int_lt-false (pos 0) (mass layout.0 history)
-      (none_there (λ (other : Counts × ℕ). int_lt (pos 0) (mass other.0 history)) (allowing_layouts question history)
+      (none_there (λ (other : ClassLayout × ℕ). int_lt (pos 0) (mass other.0 history))
+          (allowing_layouts question history)
       layout dead there))
     where
       nothing : (x : ℤ) → pos 0 ≤ℤ x → x ≤ℤ pos 0 → x ≡ pos 0
@@ -528,7 +529,7 @@ module _ (question : Question) (support : Support) (valid : IsValid question) (p
   turn_under more history fits left next live (Defences not_over not_own_turn theirs) =
       theirs_under more history fits left not_over not_own_turn theirs next
   turn_under more history fits left next live (Declarers not_over own not_theirs) =
-      let some = some_passing (λ (layout : Counts × ℕ). int_lt (pos 0) (mass layout.0 history))
+      let some = some_passing (λ (layout : ClassLayout × ℕ). int_lt (pos 0) (mass layout.0 history))
       (allowing_layouts question history) live in
       let lives = int_lt-true (pos 0) (mass some.0.0 history) some.2 in
       own_under more history fits live not_over own not_theirs some.0
@@ -566,9 +567,9 @@ module _ (question : Question) (support : Support) (valid : IsValid question) (p
       → most question read ≤ℤ supported_worth question support value scale
   unfolding most follows read_mass read_from objective_at reached_layouts
   defence_holds value is =
-      let layouts : List (Counts × ℕ) = layouts_of question in
-      let worths : Counts × ℕ → ℤ = λ layout. pos layout.1 *ℤ worth_z 53 layout.0 [] in
-      let plays : Counts × ℕ → ℤ = λ layout. play 52 layout [] in
+      let layouts : List (ClassLayout × ℕ) = layouts_of question in
+      let worths : ClassLayout × ℕ → ℤ = λ layout. pos layout.1 *ℤ worth_z 53 layout.0 [] in
+      let plays : ClassLayout × ℕ → ℤ = λ layout. play 52 layout [] in
       let under = all_under 52 [] (
         some_allow_none question valid,
         refl,
@@ -576,8 +577,8 @@ module _ (question : Question) (support : Support) (valid : IsValid question) (p
         λ layout there. inl (reached_none question support layout.0),
       ) refl in
       let start : held_in_all 52 [] ≡ sum_of (map (λ layout. scale *ℤ worths layout -ℤ plays layout) layouts) =
-      ap (λ (l : List (Counts × ℕ)). sum_of (map (held 52 []) l))
-      (filter_all (λ (layout : Counts × ℕ). is_reached question support layout.0 []) layouts
+      ap (λ (l : List (ClassLayout × ℕ)). sum_of (map (held 52 []) l))
+      (filter_all (λ (layout : ClassLayout × ℕ). is_reached question support layout.0 []) layouts
       (λ layout. reached_none question support layout.0))
       ∙ ap sum_of (map_same (held 52 []) (λ layout. scale *ℤ worths layout -ℤ plays layout) layouts
       (λ layout found. ap (λ (z : ℤ). z -ℤ plays layout)

@@ -11,7 +11,7 @@ use Rattle.std.proofs.lemmas.Int.{ints}
 use Rattle.std.proofs.lemmas.List.{map-append}
 use Rattle.std.proofs.lemmas.List.Elements.{Contains-append_right, recursion_from_All}
 use Rattle.std.proofs.lemmas.Slice.Eq.{bytes_eq-Decides}
-use Rattle.suit_cards.specs.Cards.{Counts}
+use Rattle.suit_cards.specs.Cards.{ClassLayout}
 use Rattle.suit_num.proofs.IntegerLaws.{mul_not_negative}
 use Rattle.suit_game.specs.declared.question.Question.{Question}
 use Rattle.suit_game.specs.Validity.{IsValid}
@@ -20,12 +20,12 @@ use Rattle.suit_game.proofs.EachElement.{kept_parts}
 use Rattle.suit_game.proofs.EachElement.{Contains-nil, each_append}
 use Rattle.suit_game.proofs.EachElement.{each_at, each_gives, each_map, each_of}
 use Rattle.suit_classes.specs.declared.class_moves.ClassMove.{ClassMove}
-use Rattle.suit_classes.specs.AllowedHistories.{allows}
+use Rattle.suit_classes.specs.WhatIsAllowed.{allows}
 use Rattle.suit_classes.specs.ClassMoves.{same_class_move}
 use Rattle.suit_classes.specs.MoveOrder.{stands_before}
 use Rattle.suit_classes.specs.ClassPlaces.{class_after, class_decided, class_moves, class_turn}
 use Rattle.suit_game.proofs.DistinctElements.{IsOnce, each_flat_map}
-use Rattle.suit_classes.proofs.RisingMoves.{Chained}
+use Rattle.suit_classes.proofs.ClassMovesRise.{Chained}
 use Rattle.suit_classes.proofs.SameMoves.{same_move_is}
 use Rattle.suit_plans.specs.declared.faults.PlanKind.{PlanKind}
 use Rattle.suit_plans.specs.declared.faults.PlanKind.TheVariants.{Den, Layout}
@@ -40,7 +40,7 @@ use Rattle.suit_plans.proofs.FirstFaults.{IsFaultless}
 use Rattle.suit_plans.proofs.HistoryOrder.{IsStrict-moves, earlier-start, same_class_history_is}
 use Rattle.suit_plans.proofs.MassSteps.{mass_kept, mass_of_same, mass_shared}
 use Rattle.suit_plans.proofs.PublicMoves.{layout_tells, layout_weighs}
-use Rattle.suit_plans.proofs.SharedSums.{count_case}
+use Rattle.suit_plans.proofs.SharesAddUpToTheMass.{count_case}
 use Rattle.suit_plans.specs.declared.plan.TheConstants.{MOST_DEN}
 use Rattle.suit_linear.specs.Programs.{IsDualFeasible}
 use Rattle.suit_program.specs.Programs.{limits, program_of}
@@ -141,17 +141,17 @@ back_after R (first ∷ front) x back chain = back_after R front x back chain.1
 
 -- ---- rows of a class layout
 
-abbrev pub rows_for : Counts → (List ClassMove → Shares) → List (List ClassMove) → List DefenceRow
+abbrev pub rows_for : ClassLayout → (List ClassMove → Shares) → List (List ClassMove) → List DefenceRow
 rows_for west counts histories =
     map (λ history. record { west = west; history = history; counts = counts history }) histories
 
-abbrev is_at : Counts → List ClassMove → DefenceRow → Bool
+abbrev is_at : ClassLayout → List ClassMove → DefenceRow → Bool
 is_at west history row = bytes_eq row.west west && same_class_history row.history history
 
-counts_itself : (west : Counts) → bytes_eq west west ≡ true
+counts_itself : (west : ClassLayout) → bytes_eq west west ≡ true
 counts_itself west = (bytes_eq-Decides west west).1 refl
 
-own_case : (b : Bool) (west : Counts) (history other : List ClassMove) (counts : List ClassMove → Shares)
+own_case : (b : Bool) (west : ClassLayout) (history other : List ClassMove) (counts : List ClassMove → Shares)
     (later : Option DefenceRow) (rest : Bool) → same_class_history history other ≡ b
     → option_map (λ (row : DefenceRow). row.counts) later ≡ cond rest (Some (counts other)) None
     → option_map (λ (row : DefenceRow). row.counts)
@@ -162,7 +162,7 @@ own_case true west history other counts later rest same is =
 own_case false west history other counts later rest same is = is
 
 -- the row at a class history is that of the history, if it is one of them
-own_rows : (west : Counts) (counts : List ClassMove → Shares) (histories : List (List ClassMove))
+own_rows : (west : ClassLayout) (counts : List ClassMove → Shares) (histories : List (List ClassMove))
     (other : List ClassMove)
     → option_map (λ (row : DefenceRow). row.counts) (find (is_at west other) (rows_for west counts histories))
     ≡ cond (list_any (λ history. same_class_history history other) histories) (Some (counts other)) None
@@ -177,7 +177,8 @@ own_rows west counts (history ∷ histories) other =
     (list_any (λ next. same_class_history next other) histories) refl (own_rows west counts histories other)
 
 -- a move without a choice is the first
-forced_first : (question : Question) (support : Support) (west : Counts) (history : List ClassMove) (move : ClassMove)
+forced_first : (question : Question) (support : Support) (west : ClassLayout) (history : List ClassMove)
+    (move : ClassMove)
     → is_defences (class_turn (class_after question history)) ≡ true → defence_chooses question west history ≡ false
     → Contains (supported_moves question support west history) move
     → is_first (class_moves (class_after question history) west) move ≡ true
@@ -191,7 +192,7 @@ forced_first question support west history move theirs waits found =
     only_first moves move few (supported_class_move question support west history move found)
 
 -- the defence chooses at no turn of declarer's
-pub none_theirs : (question : Question) (west : Counts) (history : List ClassMove)
+pub none_theirs : (question : Question) (west : ClassLayout) (history : List ClassMove)
     → is_defences (class_turn (class_after question history)) ≡ false → defence_chooses question west history ≡ false
 unfolding defence_chooses
 none_theirs question west history own =
@@ -222,7 +223,7 @@ few_all named (move ∷ next ∷ moves) few = absurd (false≢true (sym few
     ∙ lt-ltb 1 (suc (suc (length moves))) (omega arith)))
 
 -- where there is no choice the legal move is in the support
-alone_supported : (question : Question) (support : Support) (west : Counts) (history : List ClassMove)
+alone_supported : (question : Question) (support : Support) (west : ClassLayout) (history : List ClassMove)
     (move : ClassMove) → is_defences (class_turn (class_after question history)) ≡ true
     → class_decided (class_after question history) ≡ false → defence_chooses question west history ≡ false
     → Contains (class_moves (class_after question history) west) move
@@ -240,27 +241,27 @@ alone_supported question support west history move theirs going waits found =
 
 module _ (question : Question) (support : Support) (valid : IsValid question) (prices : List ℤ) (scale : ℤ)
     (dual : IsDualFeasible (program_of question support) prices scale) where
-  abbrev reading_in : Counts → Reading
+  abbrev reading_in : ClassLayout → Reading
   reading_in west = defence_reading question support prices scale west
 
-  abbrev has_in : Counts → List ClassMove → Bool
+  abbrev has_in : ClassLayout → List ClassMove → Bool
   has_in west history = is_reached question support west history && has_row (reading_in west) history
 
-  abbrev kept_in : Counts → List (List ClassMove)
+  abbrev kept_in : ClassLayout → List (List ClassMove)
   kept_in west = filter (has_in west) (reached_histories question support)
 
-  abbrev counts_in : Counts → List ClassMove → Shares
+  abbrev counts_in : ClassLayout → List ClassMove → Shares
   counts_in west history = row_counts (reading_in west) history
 
-  abbrev rows_in : Counts × ℕ → List DefenceRow
+  abbrev rows_in : ClassLayout × ℕ → List DefenceRow
   rows_in layout = rows_for layout.0 (counts_in layout.0) (kept_in layout.0)
 
   abbrev all_rows : List DefenceRow
   all_rows = flat_map rows_in (layouts_of question)
 
   -- rows of other counts are none of these
-  others_fail : (west : Counts) (history : List ClassMove) (layouts : List (Counts × ℕ))
-      → AllByRecursion (λ (other : Counts × ℕ). other.0 ≡ west → ⊥) layouts
+  others_fail : (west : ClassLayout) (history : List ClassMove) (layouts : List (ClassLayout × ℕ))
+      → AllByRecursion (λ (other : ClassLayout × ℕ). other.0 ≡ west → ⊥) layouts
       → AllByRecursion (λ row. is_at west history row ≡ false) (flat_map rows_in layouts)
   others_fail west history layouts apart =
       each_flat_map (λ row. is_at west history row ≡ false) rows_in layouts
@@ -268,13 +269,13 @@ module _ (question : Question) (support : Support) (valid : IsValid question) (p
       (λ next. record { west = other.0; history = next; counts = counts_in other.0 next }) (kept_in other.0)
       (each_of (λ next. (bytes_eq other.0 west && same_class_history next history) ≡ false) (kept_in other.0)
       (λ next. ap (λ (b : Bool). b && same_class_history next history)
-      (false_from_ne_true (bytes_eq other.0 west) (λ same. each_at (λ (layout : Counts × ℕ). layout.0 ≡ west → ⊥)
+      (false_from_ne_true (bytes_eq other.0 west) (λ same. each_at (λ (layout : ClassLayout × ℕ). layout.0 ≡ west → ⊥)
       layouts other apart found ((bytes_eq-Decides other.0 west).0 same))))))
 
   -- what rows of one class layout among those of others have
-  among_others : (west : Counts) (front back : List (Counts × ℕ)) (histories : List (List ClassMove))
-      (history : List ClassMove) → AllByRecursion (λ (other : Counts × ℕ). other.0 ≡ west → ⊥) front
-      → AllByRecursion (λ (other : Counts × ℕ). other.0 ≡ west → ⊥) back
+  among_others : (west : ClassLayout) (front back : List (ClassLayout × ℕ)) (histories : List (List ClassMove))
+      (history : List ClassMove) → AllByRecursion (λ (other : ClassLayout × ℕ). other.0 ≡ west → ⊥) front
+      → AllByRecursion (λ (other : ClassLayout × ℕ). other.0 ≡ west → ⊥) back
       → defence_shares_at (flat_map rows_in front ++ (rows_for west (counts_in west) histories
       ++ flat_map rows_in back)) west history
       ≡ cond (list_any (λ other. same_class_history other history) histories) (Some (counts_in west history)) None
@@ -288,9 +289,9 @@ module _ (question : Question) (support : Support) (valid : IsValid question) (p
       (find_none (is_at west history) (flat_map rows_in back) (others_fail west history back after)))
       ∙ own_rows west (counts_in west) histories history
 
-  module _ (layout : Counts × ℕ) (front back : List (Counts × ℕ))
+  module _ (layout : ClassLayout × ℕ) (front back : List (ClassLayout × ℕ))
       (parts : layouts_of question ≡ front ++ layout ∷ back) where
-    abbrev west : Counts
+    abbrev west : ClassLayout
     west = layout.0
 
     abbrev reading : Reading
@@ -306,24 +307,24 @@ module _ (question : Question) (support : Support) (valid : IsValid question) (p
     side = defenders question scale all_rows west
 
     listed : Contains (layouts_of question) layout
-    listed = subst (λ (l : List (Counts × ℕ)). Contains l layout) (sym parts)
+    listed = subst (λ (l : List (ClassLayout × ℕ)). Contains l layout) (sym parts)
         (Contains-append_right front (layout ∷ back) layout (Contains-first layout back))
 
     chain : Chained IsLayoutBefore (front ++ layout ∷ back)
     chain = subst (Chained IsLayoutBefore) parts (layouts_chained question)
 
-    apart_before : (one other : Counts) → counts_before one other ≡ true → one ≡ other → ⊥
+    apart_before : (one other : ClassLayout) → counts_before one other ≡ true → one ≡ other → ⊥
     apart_before one other before same = false≢true (sym (counts-never other)
-        ∙ subst (λ (w : Counts). counts_before w other ≡ true) same before)
+        ∙ subst (λ (w : ClassLayout). counts_before w other ≡ true) same before)
 
-    front_apart : AllByRecursion (λ (other : Counts × ℕ). other.0 ≡ west → ⊥) front
-    front_apart = each_gives (λ (other : Counts × ℕ). IsLayoutBefore other layout)
-        (λ (other : Counts × ℕ). other.0 ≡ west → ⊥) front
+    front_apart : AllByRecursion (λ (other : ClassLayout × ℕ). other.0 ≡ west → ⊥) front
+    front_apart = each_gives (λ (other : ClassLayout × ℕ). IsLayoutBefore other layout)
+        (λ (other : ClassLayout × ℕ). other.0 ≡ west → ⊥) front
         (λ other before. apart_before other.0 west before) (front_before IsLayoutBefore front layout back chain)
 
-    back_apart : AllByRecursion (λ (other : Counts × ℕ). other.0 ≡ west → ⊥) back
-    back_apart = each_gives (λ (other : Counts × ℕ). IsLayoutBefore layout other)
-        (λ (other : Counts × ℕ). other.0 ≡ west → ⊥) back
+    back_apart : AllByRecursion (λ (other : ClassLayout × ℕ). other.0 ≡ west → ⊥) back
+    back_apart = each_gives (λ (other : ClassLayout × ℕ). IsLayoutBefore layout other)
+        (λ (other : ClassLayout × ℕ). other.0 ≡ west → ⊥) back
         (λ other after same. apart_before west other.0 after (sym same))
         (back_after IsLayoutBefore front layout back chain)
 
@@ -560,7 +561,7 @@ module _ (question : Question) (support : Support) (valid : IsValid question) (p
         (λ next. record { west = other.0; history = next; counts = counts_in other.0 next }) (kept_in other.0)
         (each_of (λ next. key_before other.0 next west history ≡ true) (kept_in other.0)
         (λ next. or_left (counts_before other.0 west) (bytes_eq other.0 west && history_before next history)
-        (each_at (λ (y : Counts × ℕ). IsLayoutBefore y layout) front other
+        (each_at (λ (y : ClassLayout × ℕ). IsLayoutBefore y layout) front other
         (front_before IsLayoutBefore front layout back chain) found)))))
         (each_map (λ (last : DefenceRow). defence_row_before last row ≡ true)
         (λ next. record { west = west; history = next; counts = counts_in west next }) done
@@ -627,7 +628,7 @@ module _ (question : Question) (support : Support) (valid : IsValid question) (p
 
   -- ---- all class layouts
 
-  layouts_fine : (front todo : List (Counts × ℕ)) → layouts_of question ≡ front ++ todo
+  layouts_fine : (front todo : List (ClassLayout × ℕ)) → layouts_of question ≡ front ++ todo
       → IsFaultless (defence_row_fault question scale) (flat_map rows_in front) (flat_map rows_in todo)
   unfolding IsFaultless
   layouts_fine front [] parts = tt
@@ -654,7 +655,7 @@ module _ (question : Question) (support : Support) (valid : IsValid question) (p
       ∙ faultless_ok (defence_row_fault question scale) [] all_rows (layouts_fine [] (layouts_of question) refl)
 
   -- its masses are those that were read, and none is negative
-  pub defence_masses : (layout : Counts × ℕ) → Contains (layouts_of question) layout → (history : List ClassMove)
+  pub defence_masses : (layout : ClassLayout × ℕ) → Contains (layouts_of question) layout → (history : List ClassMove)
       → is_reached question support layout.0 history ≡ true
       → (defence_mass question (defence_of question support prices scale) layout.0 history
       ≡ read_mass (reading_in layout.0) history) × (pos 0 ≤ℤ read_mass (reading_in layout.0) history)
@@ -665,7 +666,7 @@ module _ (question : Question) (support : Support) (valid : IsValid question) (p
       (fits.2, fits.1)
 
   -- what is not in the support gets nothing of them
-  pub unsupported_none : (layout : Counts × ℕ) → Contains (layouts_of question) layout → (history : List ClassMove)
+  pub unsupported_none : (layout : ClassLayout × ℕ) → Contains (layouts_of question) layout → (history : List ClassMove)
       (move : ClassMove) → is_reached question support layout.0 history ≡ true
       → is_defences (class_turn (class_after question history)) ≡ true
       → class_decided (class_after question history) ≡ false

@@ -8,7 +8,7 @@ use Rattle.std.proofs.lemmas.Bool.{and_parts, false≢true, lt-ltb, or_parts}
 use Rattle.std.proofs.lemmas.Int.{ints}
 use Rattle.std.proofs.lemmas.List.Elements.{recursion_from_All}
 use Rattle.std.proofs.Math.IntN.{*ℤ_comm}
-use Rattle.suit_cards.specs.Cards.{Counts}
+use Rattle.suit_cards.specs.Cards.{ClassLayout}
 use Rattle.suit_num.proofs.IntegerLaws.{le-mul_right, mul-sub_left}
 use Rattle.suit_num.proofs.IntegerLaws.{mul_not_negative}
 use Rattle.suit_game.specs.declared.question.Question.{Question}
@@ -18,9 +18,9 @@ use Rattle.suit_game.proofs.EachElement.{kept_parts}
 use Rattle.suit_game.proofs.EachElement.{Contains-map}
 use Rattle.suit_game.proofs.EachElement.{Contains-nil, map_same}
 use Rattle.suit_classes.specs.declared.class_moves.ClassMove.{ClassMove}
-use Rattle.suit_classes.specs.AllowedHistories.{allows, is_among}
+use Rattle.suit_classes.specs.WhatIsAllowed.{allows, is_among}
 use Rattle.suit_classes.specs.ClassPlaces.{class_after, class_decided, class_moves, class_payoff, class_turn}
-use Rattle.suit_classes.proofs.DecidedPlays.{class_histories_are_short}
+use Rattle.suit_classes.proofs.DecidedStaysDecided.{class_histories_are_short}
 use Rattle.suit_classes.proofs.SameMoves.{among-Contains}
 use Rattle.suit_plans.specs.declared.defence.Defence.{Defence}
 use Rattle.suit_plans.specs.declared.moves.DeclarerMove.{DeclarerMove}
@@ -35,8 +35,8 @@ use Rattle.suit_plans.proofs.DefenceWorths.{no_masses_no_worth}
 use Rattle.suit_plans.proofs.NumberSums.{sum_kept, sum_times}
 use Rattle.suit_plans.proofs.PublicMoves.{Contains-allowing, Contains-public}
 use Rattle.suit_plans.proofs.PublicMoves.{own_moves_on}
-use Rattle.suit_plans.proofs.SharedSums.{sum_positive}
-use Rattle.suit_classes.proofs.UndecidedMoves.{HasFirst}
+use Rattle.suit_plans.proofs.SharesAddUpToTheMass.{sum_positive}
+use Rattle.suit_classes.proofs.UndecidedHasAMove.{HasFirst}
 use Rattle.suit_plans.proofs.WhoseTurns.{own_turn}
 use Rattle.suit_linear.specs.Programs.{IsDualFeasible}
 use Rattle.suit_program.specs.Programs.Points.{Held, IsPositive, Point}
@@ -150,7 +150,7 @@ module _ (question : Question) (support : Support) (valid : IsValid question) (p
       (or_parts (list_any (λ (other : DeclarerMove). not (is_among (supported_moves question support [] other.history)
       other.mv)) (most_reply question read)) false all).0 found
 
-  pub public_held : (layout : Counts × ℕ) → Contains (layouts_of question) layout → (history : List ClassMove)
+  pub public_held : (layout : ClassLayout × ℕ) → Contains (layouts_of question) layout → (history : List ClassMove)
       (move : ClassMove) → is_reached question support layout.0 history ≡ true
       → Contains (supported_moves question support layout.0 history) move
       → Contains (public_moves question history) move
@@ -161,7 +161,7 @@ module _ (question : Question) (support : Support) (valid : IsValid question) (p
       (supported_class_move question support layout.0 history move found)
 
   -- at a choice of declarer's that is reached and alive it is in the support
-  pub own_named : (layout : Counts × ℕ) → Contains (layouts_of question) layout → (history : List ClassMove)
+  pub own_named : (layout : ClassLayout × ℕ) → Contains (layouts_of question) layout → (history : List ClassMove)
       → is_reached question support layout.0 history ≡ true → declarer_chooses question history ≡ true
       → follows reply [] history ≡ true → reply.live history ≡ true
       → is_among (supported_moves question support [] history) (reply_move reply history) ≡ true
@@ -194,11 +194,11 @@ module _ (question : Question) (support : Support) (valid : IsValid question) (p
 
   -- ---- bounds of the masses
 
-  abbrev pub price : Counts → List ClassMove → ClassMove → ℤ
+  abbrev pub price : ClassLayout → List ClassMove → ClassMove → ℤ
   price west history move = price_of (limits question support) prices west history move
 
   -- a reading by the prices alone, not cut to the mass
-  abbrev pub uncut : Counts → Reading
+  abbrev pub uncut : ClassLayout → Reading
   uncut west = record {
     chooses = defence_chooses question west;
     shares = λ history mass. map (λ move. (move, price west history move))
@@ -206,27 +206,27 @@ module _ (question : Question) (support : Support) (valid : IsValid question) (p
     whole = pos (weight_of question west) *ℤ scale;
   }
 
-  abbrev pub bound : Counts → List ClassMove → ℤ
+  abbrev pub bound : ClassLayout → List ClassMove → ℤ
   bound west history = read_mass (uncut west) history
 
-  abbrev pub mass : Counts → List ClassMove → ℤ
+  abbrev pub mass : ClassLayout → List ClassMove → ℤ
   mass west history = defence_mass question read west history
 
-  abbrev pub read_in : Counts → List ClassMove → ℤ
+  abbrev pub read_in : ClassLayout → List ClassMove → ℤ
   read_in west history = read_mass (defence_reading question support prices scale west) history
 
-  prices_low : (west : Counts) (history : List ClassMove) (move : ClassMove) → pos 0 ≤ℤ price west history move
+  prices_low : (west : ClassLayout) (history : List ClassMove) (move : ClassMove) → pos 0 ≤ℤ price west history move
   prices_low west history move =
       price_low (limits question support) prices west history move
       (recursion_from_All (λ p. pos 0 ≤ℤ p) prices dual.rows)
 
-  pub bound_stays : (west : Counts) (history : List ClassMove) (move : ClassMove)
+  pub bound_stays : (west : ClassLayout) (history : List ClassMove) (move : ClassMove)
       → defence_chooses question west history ≡ false → bound west (history ++ move ∷ []) ≡ bound west history
   bound_stays west history move waits =
       read_mass-push (uncut west) history move
       ∙ ap (λ (b : Bool). if b then count_of (read_shares (uncut west) history) move else bound west history) waits
 
-  pub bound_price : (west : Counts) (history : List ClassMove) (move : ClassMove)
+  pub bound_price : (west : ClassLayout) (history : List ClassMove) (move : ClassMove)
       → defence_chooses question west history ≡ true
       → Contains (supported_moves question support west history) move
       → bound west (history ++ move ∷ []) ≡ price west history move
@@ -235,11 +235,11 @@ module _ (question : Question) (support : Support) (valid : IsValid question) (p
       ∙ ap (λ (b : Bool). if b then count_of (read_shares (uncut west) history) move else bound west history) chooses
       ∙ count_found (price west history) (supported_moves question support west history) move found
 
-  abbrev pub IsBounded : Counts → List ClassMove → Type 0
+  abbrev pub IsBounded : ClassLayout → List ClassMove → Type 0
   IsBounded west history = (is_reached question support west history ≡ true) × (pos 0 ≤ℤ bound west history)
       × (read_in west history ≤ℤ bound west history)
 
-  next_bounded : (west : Counts) (history : List ClassMove) (move : ClassMove)
+  next_bounded : (west : ClassLayout) (history : List ClassMove) (move : ClassMove)
       → pos 0 ≤ℤ bound west history → read_in west history ≤ℤ bound west history
       → Contains (supported_moves question support west history) move → (b : Bool)
       → defence_chooses question west history ≡ b
@@ -266,7 +266,7 @@ module _ (question : Question) (support : Support) (valid : IsValid question) (p
             (subst (λ (z : ℤ). z ≤ℤ bound west history) (sym here) le),
       )
 
-  pub bounded : (west : Counts) (history : List ClassMove) → is_reached question support west history ≡ true
+  pub bounded : (west : ClassLayout) (history : List ClassMove) → is_reached question support west history ≡ true
       → IsBounded west history
   unfolding read_mass read_from
   bounded west history reached =
@@ -286,25 +286,26 @@ module _ (question : Question) (support : Support) (valid : IsValid question) (p
 
   -- ---- what a class layout holds declarer to
 
-  abbrev pub worth_z : ℕ → Counts → List ClassMove → ℤ
+  abbrev pub worth_z : ℕ → ClassLayout → List ClassMove → ℤ
   worth_z more west history = worth_within question support point more west history
 
-  abbrev pub part : List ClassMove → Counts × ℕ → ℤ
+  abbrev pub part : List ClassMove → ClassLayout × ℕ → ℤ
   part history layout = part_of question support prices scale dual point history layout
 
-  abbrev pub play : ℕ → Counts × ℕ → List ClassMove → ℤ
+  abbrev pub play : ℕ → ClassLayout × ℕ → List ClassMove → ℤ
   play more layout history = play_sum question support part more layout history
 
-  abbrev pub held : ℕ → List ClassMove → Counts × ℕ → ℤ
+  abbrev pub held : ℕ → List ClassMove → ClassLayout × ℕ → ℤ
   held more history layout = bound layout.0 history *ℤ worth_z (suc more) layout.0 history -ℤ play more layout history
 
-  pub worth_low : (more : ℕ) (west : Counts) (history : List ClassMove) → pos 0 ≤ℤ worth_z more west history
+  pub worth_low : (more : ℕ) (west : ClassLayout) (history : List ClassMove) → pos 0 ≤ℤ worth_z more west history
   worth_low more west history = within_low question support point point_positive more west history
 
-  pub point_held : (west : Counts) (history : List ClassMove) → point.at (Held west history) ≡ pos 0
+  pub point_held : (west : ClassLayout) (history : List ClassMove) → point.at (Held west history) ≡ pos 0
   point_held west history = taken_held question support valid taken takes west history
 
-  pub part_none : (history : List ClassMove) (layout : Counts × ℕ) → defence_chooses question layout.0 history ≡ false
+  pub part_none : (history : List ClassMove) (layout : ClassLayout × ℕ)
+      → defence_chooses question layout.0 history ≡ false
       → part history layout ≡ pos 0
   part_none history layout waits =
       ap (λ (b : Bool). if b then sum_of (map (λ move. price layout.0 history move *ℤ (point.at (Held layout.0 history)
@@ -312,7 +313,7 @@ module _ (question : Question) (support : Support) (valid : IsValid question) (p
       (supported_moves question support layout.0 history)) else pos 0) waits
 
   -- at a choice: what the prices of its moves are worth, turned
-  pub part_choice : (more : ℕ) (history : List ClassMove) (layout : Counts × ℕ)
+  pub part_choice : (more : ℕ) (history : List ClassMove) (layout : ClassLayout × ℕ)
       → defence_chooses question layout.0 history ≡ true
       → ((move : ClassMove) → 53 - length (history ++ move ∷ []) ≡ more)
       → part history layout ≡ pos 0 -ℤ sum_of (map (λ move. price layout.0 history move
@@ -330,7 +331,7 @@ module _ (question : Question) (support : Support) (valid : IsValid question) (p
       (left move)))
       ∙ negated (price layout.0 history) (λ move. worth_z more layout.0 (history ++ move ∷ [])) moves
 
-  part_low : (history : List ClassMove) (layout : Counts × ℕ) → part history layout ≤ℤ pos 0
+  part_low : (history : List ClassMove) (layout : ClassLayout × ℕ) → part history layout ≤ℤ pos 0
   part_low history layout = at (defence_chooses question layout.0 history)
     where
       each : (p v w : ℤ) → pos 0 ≤ℤ p → v ≡ pos 0 → pos 0 ≤ℤ w → (p *ℤ (v -ℤ w)) ≤ℤ pos 0
@@ -353,7 +354,7 @@ module _ (question : Question) (support : Support) (valid : IsValid question) (p
           (worth_low (53 - length (history ++ move ∷ [])) layout.0 (history ++ move ∷ [])))
       at false = omega (arith, ints)
 
-  pub play_low : (more : ℕ) (layout : Counts × ℕ) (history : List ClassMove) → play more layout history ≤ℤ pos 0
+  pub play_low : (more : ℕ) (layout : ClassLayout × ℕ) (history : List ClassMove) → play more layout history ≤ℤ pos 0
   unfolding play_sum
   play_low zero layout history = part_low history layout
   play_low (suc more) layout history =
@@ -366,7 +367,7 @@ module _ (question : Question) (support : Support) (valid : IsValid question) (p
       both : (x y : ℤ) → x ≤ℤ pos 0 → y ≤ℤ pos 0 → (x +ℤ y) ≤ℤ pos 0
       both x y p q = omega (arith, ints, p, q)
 
-  pub held_low : (more : ℕ) (history : List ClassMove) (layout : Counts × ℕ)
+  pub held_low : (more : ℕ) (history : List ClassMove) (layout : ClassLayout × ℕ)
       → is_reached question support layout.0 history ≡ true → pos 0 ≤ℤ held more history layout
   held_low more history layout reached =
       finish (bound layout.0 history *ℤ worth_z (suc more) layout.0 history) (play more layout history)
@@ -378,18 +379,18 @@ module _ (question : Question) (support : Support) (valid : IsValid question) (p
 
   -- ---- class histories that the reply goes to
 
-  pub layout_parts : (history : List ClassMove) (layout : Counts × ℕ)
+  pub layout_parts : (history : List ClassMove) (layout : ClassLayout × ℕ)
       → Contains (reached_layouts question support history) layout
       → Contains (layouts_of question) layout × (is_reached question support layout.0 history ≡ true)
   unfolding reached_layouts
   layout_parts history layout found =
-      kept_parts (λ (other : Counts × ℕ). is_reached question support other.0 history) (layouts_of question) layout
+      kept_parts (λ (other : ClassLayout × ℕ). is_reached question support other.0 history) (layouts_of question) layout
       found
 
   -- a class history to which the reply and the moves taken go, and in other class layouts than those in which it is
   -- reached nothing comes to it
   abbrev pub IsTraced : List ClassMove → Type 0
-  IsTraced history = (layout : Counts × ℕ) → Contains (allowing_layouts question history) layout
+  IsTraced history = (layout : ClassLayout × ℕ) → Contains (allowing_layouts question history) layout
       → (is_reached question support layout.0 history ≡ true) ⊎ (mass layout.0 history ≡ pos 0)
 
   abbrev pub held_in_all : ℕ → List ClassMove → ℤ
@@ -405,7 +406,8 @@ module _ (question : Question) (support : Support) (valid : IsValid question) (p
 
   -- where nothing comes to it
   pub dead_under : (more : ℕ) (history : List ClassMove) → some_allows question history ≡ true
-      → ((layout : Counts × ℕ) → Contains (allowing_layouts question history) layout → mass layout.0 history ≡ pos 0)
+      → ((layout : ClassLayout × ℕ) → Contains (allowing_layouts question history) layout
+      → mass layout.0 history ≡ pos 0)
       → IsUnder more history
   dead_under more history some none =
       subst (λ (z : ℤ). z ≤ℤ held_in_all more history)
@@ -414,14 +416,15 @@ module _ (question : Question) (support : Support) (valid : IsValid question) (p
 
   -- ---- where play is over
 
-  over_none : (layout : Counts × ℕ) (history : List ClassMove) → class_decided (class_after question history) ≡ true
+  over_none : (layout : ClassLayout × ℕ) (history : List ClassMove)
+      → class_decided (class_after question history) ≡ true
       → supported_moves question support layout.0 history ≡ []
   unfolding supported_moves
   over_none layout history decided =
       ap (λ (b : Bool). first_and (names question support layout.0 history)
       (if b then [] else class_moves (class_after question history) layout.0)) decided
 
-  over_held : (more : ℕ) (history : List ClassMove) (layout : Counts × ℕ) → Contains (layouts_of question) layout
+  over_held : (more : ℕ) (history : List ClassMove) (layout : ClassLayout × ℕ) → Contains (layouts_of question) layout
       → is_reached question support layout.0 history ≡ true → is_chosen history ≡ true
       → class_decided (class_after question history) ≡ true
       → is_defences (class_turn (class_after question history)) ≡ false
@@ -456,9 +459,9 @@ module _ (question : Question) (support : Support) (valid : IsValid question) (p
   unfolding reached_layouts
   over_under more history goes traced decided not_theirs =
       let payoff : ℤ = pos (class_payoff (class_after question history)) in
-      let paid : Counts × ℕ → ℤ = λ layout. payoff *ℤ mass layout.0 history in
-      let allowed : Counts × ℕ → Bool = λ layout. allows question layout.0 history in
-      let reached : Counts × ℕ → Bool = λ layout. is_reached question support layout.0 history in
+      let paid : ClassLayout × ℕ → ℤ = λ layout. payoff *ℤ mass layout.0 history in
+      let allowed : ClassLayout × ℕ → Bool = λ layout. allows question layout.0 history in
+      let reached : ClassLayout × ℕ → Bool = λ layout. is_reached question support layout.0 history in
       let worth_is : worth reply history ≡ sum_of (map (λ layout. if allowed layout then paid layout else pos 0)
       (layouts_of question)) =
       defences_at_decided question read history decided
@@ -476,14 +479,14 @@ module _ (question : Question) (support : Support) (valid : IsValid question) (p
           let product : payoff *ℤ m ≡ payoff *ℤ pos 0 = ap (λ (z : ℤ). payoff *ℤ z) is in
           omega (arith, ints, product)
 
-      one : (layout : Counts × ℕ) → Contains (layouts_of question) layout → (a : Bool)
+      one : (layout : ClassLayout × ℕ) → Contains (layouts_of question) layout → (a : Bool)
           → allows question layout.0 history ≡ a → (r : Bool) → is_reached question support layout.0 history ≡ r
           → (if a then pos (class_payoff (class_after question history)) *ℤ mass layout.0 history else pos 0)
           ≤ℤ (if r then held more history layout else pos 0)
       one layout listed true allowed true reached = over_held more history layout listed reached goes decided not_theirs
       one layout listed true allowed false out =
           none_left (pos (class_payoff (class_after question history))) (mass layout.0 history)
-          (elim (traced layout (Contains-filter (λ (other : Counts × ℕ). allows question other.0 history)
+          (elim (traced layout (Contains-filter (λ (other : ClassLayout × ℕ). allows question other.0 history)
           (layouts_of question) layout listed allowed)) [
             | inl reached ↦ absurd (false≢true (sym out ∙ reached))
             | inr none ↦ none

@@ -16,7 +16,7 @@ use Rattle.suit_game.proofs.DistinctElements.{IsOnce}
 use Rattle.suit_classes.proofs.SameMoves.{same_move_is}
 use Rattle.suit_plans.specs.Masses.{Shares, count_of, is_first, share}
 use Rattle.suit_plans.specs.Properness.{moves_of, sum_of}
-use Rattle.suit_classes.proofs.UndecidedMoves.{HasFirst}
+use Rattle.suit_classes.proofs.UndecidedHasAMove.{HasFirst}
 use Rattle.suit_program.specs.Readings.{all_on_first, filled, sum_counts, topped_up}
 
 -- no count is negative

@@ -9,7 +9,7 @@ use Rattle.std.specs.List.{AllByRecursion, list_any}
 use Rattle.std.proofs.lemmas.Bool.{and_parts, cases_Bool, false≢true, false_from_ne_true, lt-ltb}
 use Rattle.std.proofs.lemmas.List.{map-append}
 use Rattle.std.proofs.lemmas.List.Elements.{Contains-append_right}
-use Rattle.suit_cards.specs.Cards.{Counts}
+use Rattle.suit_cards.specs.Cards.{ClassLayout}
 use Rattle.suit_game.specs.declared.question.Question.{Question}
 use Rattle.suit_game.specs.Validity.{IsValid}
 use Rattle.suit_game.proofs.EachElement.{Contains-cons_cases, Contains-filter, Contains-first, Contains-nil, kept_parts}
@@ -19,7 +19,7 @@ use Rattle.suit_classes.specs.ClassMoves.{same_class_move}
 use Rattle.suit_classes.specs.MoveOrder.{stands_before}
 use Rattle.suit_classes.specs.ClassPlaces.{class_after, class_decided, class_moves, class_start, class_turn}
 use Rattle.suit_game.proofs.DistinctElements.{IsOnce}
-use Rattle.suit_classes.proofs.RisingMoves.{Chained, chained_filter, class_moves_rise}
+use Rattle.suit_classes.proofs.ClassMovesRise.{Chained, chained_filter, class_moves_rise}
 use Rattle.suit_classes.proofs.SameMoves.{same_move-itself}
 use Rattle.suit_plans.specs.declared.faults.PlanKind.TheVariants.{Den}
 use Rattle.suit_plans.specs.declared.plan.Row.{Row}
@@ -107,7 +107,7 @@ found_any histories other any =
 -- ---- the moves of a support at a choice
 
 -- the moves of a support rise
-pub supported_rise : (question : Question) (support : Support) (west : Counts) (history : List ClassMove)
+pub supported_rise : (question : Question) (support : Support) (west : ClassLayout) (history : List ClassMove)
     → IsChoice question support west history
     → Chained (λ here there. stands_before here there ≡ true) (supported_moves question support west history)
 unfolding Chained
@@ -123,7 +123,8 @@ supported_rise question support west history choice =
     )
 
 -- the first of the legal moves is the first of the support
-pub first_same : (question : Question) (support : Support) (west : Counts) (history : List ClassMove) (move : ClassMove)
+pub first_same : (question : Question) (support : Support) (west : ClassLayout) (history : List ClassMove)
+    (move : ClassMove)
     → IsChoice question support west history
     → is_first (class_moves (class_after question history) west) move
     ≡ is_first (supported_moves question support west history) move
@@ -132,7 +133,7 @@ first_same question support west history move choice =
     ∙ sym (ap (λ (l : List ClassMove). is_first l move) choice.supported)
 
 -- what is reached is not decided before
-pub reached_undecided : (question : Question) (support : Support) (west : Counts) (history : List ClassMove)
+pub reached_undecided : (question : Question) (support : Support) (west : ClassLayout) (history : List ClassMove)
     → is_reached question support west history ≡ true → goes_undecided (class_start question) history ≡ true
 unfolding goes_undecided
 reached_undecided question support west history reached =
@@ -158,7 +159,8 @@ only_first (first ∷ next ∷ moves) move few found =
     absurd (false≢true (sym few ∙ lt-ltb 1 (suc (suc (length moves))) (omega arith)))
 
 -- a move without a choice is the first
-forced_first : (question : Question) (support : Support) (west : Counts) (history : List ClassMove) (move : ClassMove)
+forced_first : (question : Question) (support : Support) (west : ClassLayout) (history : List ClassMove)
+    (move : ClassMove)
     → is_declarers (class_turn (class_after question history)) ≡ true → declarer_chooses question history ≡ false
     → Contains (supported_moves question support west history) move
     → is_first (class_moves (class_after question history) []) move ≡ true
@@ -330,7 +332,7 @@ module _ (question : Question) (support : Support) (point : Point) (valid : IsVa
       (some_shares (shares history) (shares_moves history ∙ choice.supported)) (wanted history chooses ∙ none)
       (shares_out history there chooses))
 
-  next_own : (west : Counts) (history : List ClassMove) (move : ClassMove) → IsSomewhere question support history
+  next_own : (west : ClassLayout) (history : List ClassMove) (move : ClassMove) → IsSomewhere question support history
       → Contains (supported_moves question support west history) move
       → is_declarers (class_turn (class_after question history)) ≡ true
       → (chooses : Bool) → declarer_chooses question history ≡ chooses
@@ -344,7 +346,7 @@ module _ (question : Question) (support : Support) (point : Point) (valid : IsVa
       ∙ ap (λ (b : Bool). share None b (mass history) move)
       (forced_first question support west history move own waits found)
 
-  next_mass : (west : Counts) (history : List ClassMove) (move : ClassMove) → IsSomewhere question support history
+  next_mass : (west : ClassLayout) (history : List ClassMove) (move : ClassMove) → IsSomewhere question support history
       → Contains (supported_moves question support west history) move
       → (own : Bool) → is_declarers (class_turn (class_after question history)) ≡ own
       → mass_of question side history ≡ mass history
@@ -361,12 +363,12 @@ module _ (question : Question) (support : Support) (point : Point) (valid : IsVa
       (not_own question support point history theirs))
       ∙ sym (read_mass-push reading history move)
 
-  abbrev IsRead : Counts → List ClassMove → Type 0
+  abbrev IsRead : ClassLayout → List ClassMove → Type 0
   IsRead west history = (is_reached question support west history ≡ true)
       × (mass_of question side history ≡ mass history)
 
   -- the plan's masses are those that were read, wherever they are reached
-  pub plan_masses : (layout : Counts × ℕ) → Contains (layouts_of question) layout → (history : List ClassMove)
+  pub plan_masses : (layout : ClassLayout × ℕ) → Contains (layouts_of question) layout → (history : List ClassMove)
       → is_reached question support layout.0 history ≡ true
       → mass_of question side history ≡ mass history
   unfolding mass_of mass_from read_mass read_from

@@ -11,7 +11,7 @@ use Rattle.std.proofs.lemmas.Bool.Decides.{Decides-int_eq}
 use Rattle.std.proofs.lemmas.Int.{ints}
 use Rattle.std.proofs.lemmas.List.{length-append}
 use Rattle.std.proofs.Math.IntN.{*ℤ_comm}
-use Rattle.suit_cards.specs.Cards.{Counts}
+use Rattle.suit_cards.specs.Cards.{ClassLayout}
 use Rattle.suit_num.proofs.IntegerLaws.{int_lt-false, le-mul_right, le_from_mul, mul_assoc, mul_left_comm}
 use Rattle.suit_num.proofs.IntegerLaws.{mul_not_negative, mul_not_positive}
 use Rattle.suit_game.specs.declared.question.Question.{Question}
@@ -23,8 +23,8 @@ use Rattle.suit_classes.specs.declared.class_moves.ClassMove.{ClassMove}
 use Rattle.suit_classes.specs.ClassMoves.{same_class_move}
 use Rattle.suit_classes.specs.ClassGame.{Allows}
 use Rattle.suit_classes.specs.ClassPlaces.{class_after, class_moves, class_payoff, class_turn}
-use Rattle.suit_classes.proofs.AllowedHistories.{allowed_moves}
-use Rattle.suit_classes.proofs.DecidedPlays.{class_histories_are_short}
+use Rattle.suit_classes.proofs.AllowedMoveByMove.{allowed_moves}
+use Rattle.suit_classes.proofs.DecidedStaysDecided.{class_histories_are_short}
 use Rattle.suit_classes.proofs.SameMoves.{among-Contains, same_move-itself}
 use Rattle.suit_plans.specs.declared.plan.Plan.{Plan}
 use Rattle.suit_plans.specs.BestReplies.{Reply, best_of, first_of, follows, least, least_reply, reply_move}
@@ -37,7 +37,7 @@ use Rattle.suit_plans.proofs.NumberSums.{sum_times}
 use Rattle.suit_plans.proofs.PlanWorths.{plans_at_declarers, plans_at_defences, plans_paid}
 use Rattle.suit_plans.proofs.ReplyChoices.{reply_move_found}
 use Rattle.suit_plans.proofs.TurnMoves.{declarers_moves}
-use Rattle.suit_classes.proofs.UndecidedMoves.{HasFirst}
+use Rattle.suit_classes.proofs.UndecidedHasAMove.{HasFirst}
 use Rattle.suit_plans.proofs.WhoseTurns.{own_turn}
 use Rattle.suit_plans.proofs.WorthsAtTurns.{ended_worth, min_picks, worth_next}
 use Rattle.suit_plans.specs.declared.plan.TheConstants.{MOST_DEN}
@@ -229,8 +229,8 @@ start_mass question support point = refl
 -- ---- one class layout
 
 -- what is reached with the moves of the reply to a plan, and has mass
-record IsLive (question : Question) (support : Support) (read : Plan) (west : Counts) (history : List ClassMove) : Type
-    0 where
+record IsLive (question : Question) (support : Support) (read : Plan) (west : ClassLayout)
+    (history : List ClassMove) : Type 0 where
   reached : is_reached question support west history ≡ true
   followed : follows (reply_to_plan question read west) [] history ≡ true
   live : int_lt (pos 0) (plan_mass question read history) ≡ true
@@ -239,11 +239,11 @@ module _ (question : Question) (support : Support) (point full : Point) (k : ℤ
     (valid : IsValid question) (inside : IsWithin question support full)
     (proper : IsProperPlan question (plan_at question support point))
     (all : are_new question support [] (least_reply question (plan_at question support point)) ≡ false)
-    (layout : Counts × ℕ) (listed : Contains (layouts_of question) layout) where
+    (layout : ClassLayout × ℕ) (listed : Contains (layouts_of question) layout) where
   abbrev read : Plan
   read = plan_at question support point
 
-  abbrev west : Counts
+  abbrev west : ClassLayout
   west = layout.0
 
   abbrev reply : Reply
@@ -539,9 +539,9 @@ module _ (question : Question) (support : Support) (point full : Point) (k : ℤ
       → objective_at question support full ≤ℤ (k *ℤ least question (plan_at question support point))
   unfolding objective_at least
   plan_keeps some =
-      let earned : Counts × ℕ → ℤ =
+      let earned : ClassLayout × ℕ → ℤ =
       λ layout. pos layout.1 *ℤ worth (reply_to_plan question (plan_at question support point) layout.0) [] in
-      subst (λ (z : ℤ). sum_of (map (λ (layout : Counts × ℕ). pos layout.1
+      subst (λ (z : ℤ). sum_of (map (λ (layout : ClassLayout × ℕ). pos layout.1
       *ℤ worth_at question support full layout.0 []) (layouts_of question)) ≤ℤ z)
       (sym (sum_times k earned (layouts_of question)))
       (sum_le (λ layout. pos layout.1 *ℤ worth_at question support full layout.0 []) (λ layout. k *ℤ earned layout)

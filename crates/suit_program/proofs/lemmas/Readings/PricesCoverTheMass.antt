@@ -11,7 +11,7 @@ use Rattle.std.proofs.lemmas.List.{length-append}
 use Rattle.std.proofs.lemmas.List.Elements.{recursion_from_All}
 use Rattle.std.proofs.lemmas.Slice.Eq.{bytes_eq-Decides}
 use Rattle.std.proofs.Math.IntN.{*ℤ_comm}
-use Rattle.suit_cards.specs.Cards.{Counts}
+use Rattle.suit_cards.specs.Cards.{ClassLayout}
 use Rattle.suit_num.proofs.IntegerLaws.{int_lt-false, int_lt-true, mul-sub_left, mul_assoc, mul_not_negative}
 use Rattle.suit_game.specs.declared.question.Question.{Question}
 use Rattle.suit_game.specs.Validity.{IsValid}
@@ -19,19 +19,19 @@ use Rattle.suit_game.proofs.EachElement.{Contains-cons_cases, Contains-first, Co
 use Rattle.suit_game.proofs.EachElement.{Contains-nil}
 use Rattle.suit_game.proofs.EachElement.{map_same}
 use Rattle.suit_classes.specs.declared.class_moves.ClassMove.{ClassMove}
-use Rattle.suit_classes.specs.AllowedHistories.{is_among}
+use Rattle.suit_classes.specs.WhatIsAllowed.{is_among}
 use Rattle.suit_classes.specs.ClassMoves.{same_class_move}
-use Rattle.suit_classes.proofs.DecidedPlays.{class_histories_are_short}
+use Rattle.suit_classes.proofs.DecidedStaysDecided.{class_histories_are_short}
 use Rattle.suit_classes.proofs.SameMoves.{among-Contains, same_move-itself, same_move_is}
 use Rattle.suit_plans.specs.Masses.{count_of, weight_of}
 use Rattle.suit_plans.specs.Orders.{same_class_history}
 use Rattle.suit_plans.specs.Properness.{sum_of}
-use Rattle.suit_plans.proofs.BoundedReplies.{weight_listed}
+use Rattle.suit_plans.proofs.RepliesAreBounded.{weight_listed}
 use Rattle.suit_plans.proofs.HistoryOrder.{same_class_history-itself, same_class_history_is}
 use Rattle.suit_plans.proofs.NumberSums.{sum_nothing, sum_times}
 use Rattle.suit_plans.proofs.PublicMoves.{HasFirst-found}
-use Rattle.suit_plans.proofs.SharedSums.{within_sum}
-use Rattle.suit_classes.proofs.UndecidedMoves.{HasFirst}
+use Rattle.suit_plans.proofs.SharesAddUpToTheMass.{within_sum}
+use Rattle.suit_classes.proofs.UndecidedHasAMove.{HasFirst}
 use Rattle.suit_linear.specs.Programs.{IsDualFeasible}
 use Rattle.suit_program.specs.Programs.Points.{Column, Held, IsPositive, Passed, Point, same_column, unit_point}
 use Rattle.suit_program.specs.Programs.{Shared, columns, columns_at, excess, held_column, limits, program_of}
@@ -129,25 +129,25 @@ longer front move rest same =
 
 -- ---- the point of one column of the defence
 
-abbrev held_point : Counts → List ClassMove → Point
+abbrev held_point : ClassLayout → List ClassMove → Point
 held_point west target = unit_point (Held west target)
 
 one_low : (b : Bool) → pos 0 ≤ℤ (if b then pos 1 else pos 0)
 one_low true = omega (arith, ints)
 one_low false = omega (arith, ints)
 
-held_positive : (west : Counts) (target : List ClassMove) → IsPositive (held_point west target)
+held_positive : (west : ClassLayout) (target : List ClassMove) → IsPositive (held_point west target)
 held_positive west target =
     record { at = λ other. one_low (same_column (Held west target) other); one = omega (arith, ints) }
 
-held_one : (west : Counts) (target : List ClassMove) → (held_point west target).at (Held west target) ≡ pos 1
+held_one : (west : ClassLayout) (target : List ClassMove) → (held_point west target).at (Held west target) ≡ pos 1
 unfolding same_column
 held_one west target =
     ap (λ (b : Bool). if b then pos 1 else pos 0)
     (and_from (bytes_eq west west) (same_class_history target target) ((bytes_eq-Decides west west).1 refl)
     (same_class_history-itself target))
 
-held_none : (west : Counts) (target : List ClassMove) (counts : Counts) (history : List ClassMove)
+held_none : (west : ClassLayout) (target : List ClassMove) (counts : ClassLayout) (history : List ClassMove)
     → (history ≡ target → ⊥) → (held_point west target).at (Held counts history) ≡ pos 0
 unfolding same_column
 held_none west target counts history apart =
@@ -156,7 +156,7 @@ held_none west target counts history apart =
     (λ same. apart (sym (same_class_history_is target history
     (and_parts (bytes_eq west counts) (same_class_history target history) same).1))))
 
-held_elsewhere : (west : Counts) (target : List ClassMove) (counts : Counts) (history : List ClassMove)
+held_elsewhere : (west : ClassLayout) (target : List ClassMove) (counts : ClassLayout) (history : List ClassMove)
     → (counts ≡ west → ⊥) → (held_point west target).at (Held counts history) ≡ pos 0
 unfolding same_column
 held_elsewhere west target counts history apart =
@@ -167,7 +167,7 @@ held_elsewhere west target counts history apart =
 
 module _ (question : Question) (support : Support) where
   -- it keeps declarer's rows exactly
-  held_tight : (west : Counts) (target history : List ClassMove)
+  held_tight : (west : ClassLayout) (target history : List ClassMove)
       → excess question support (held_point west target) (Shared history) ≡ pos 0
   unfolding excess same_column
   held_tight west target history =
@@ -181,7 +181,7 @@ module _ (question : Question) (support : Support) where
       both : (x y : ℤ) → x ≡ pos 0 → y ≡ pos 0 → x -ℤ y ≡ pos 0
       both x y p q = omega (arith, ints, p, q)
 
-  column_listed : (valid : IsValid question) (layout : Counts × ℕ) → Contains (layouts_of question) layout
+  column_listed : (valid : IsValid question) (layout : ClassLayout × ℕ) → Contains (layouts_of question) layout
       → (history : List ClassMove) → is_reached question support layout.0 history ≡ true
       → defence_chooses question layout.0 history ≡ true
       → Contains (columns question support) (Held layout.0 history)
@@ -209,36 +209,36 @@ negated f g (move ∷ moves) =
     omega (arith, ints, later, parts)
 
 module _ (question : Question) (support : Support) (valid : IsValid question) (prices : List ℤ) (scale : ℤ)
-    (dual : IsDualFeasible (program_of question support) prices scale) (layout : Counts × ℕ)
+    (dual : IsDualFeasible (program_of question support) prices scale) (layout : ClassLayout × ℕ)
     (listed : Contains (layouts_of question) layout) (target : List ClassMove) where
-  abbrev west : Counts
+  abbrev west : ClassLayout
   west = layout.0
 
   abbrev point : Point
   point = held_point west target
 
-  abbrev price : Counts → List ClassMove → ClassMove → ℤ
+  abbrev price : ClassLayout → List ClassMove → ClassMove → ℤ
   price counts history move = price_of (limits question support) prices counts history move
 
-  abbrev worth : ℕ → Counts → List ClassMove → ℤ
+  abbrev worth : ℕ → ClassLayout → List ClassMove → ℤ
   worth more counts history = worth_within question support point more counts history
 
-  abbrev part : List ClassMove → Counts × ℕ → ℤ
+  abbrev part : List ClassMove → ClassLayout × ℕ → ℤ
   part history other = part_of question support prices scale dual point history other
 
-  abbrev play : ℕ → Counts × ℕ → List ClassMove → ℤ
+  abbrev play : ℕ → ClassLayout × ℕ → List ClassMove → ℤ
   play more other history = play_sum question support part more other history
 
-  prices_low : (counts : Counts) (history : List ClassMove) (move : ClassMove) → pos 0 ≤ℤ price counts history move
+  prices_low : (counts : ClassLayout) (history : List ClassMove) (move : ClassMove) → pos 0 ≤ℤ price counts history move
   prices_low counts history move =
       price_low (limits question support) prices counts history move
       (recursion_from_All (λ p. pos 0 ≤ℤ p) prices dual.rows)
 
-  worths_low : (more : ℕ) (counts : Counts) (history : List ClassMove) → pos 0 ≤ℤ worth more counts history
+  worths_low : (more : ℕ) (counts : ClassLayout) (history : List ClassMove) → pos 0 ≤ℤ worth more counts history
   worths_low more counts history = within_low question support point (held_positive west target) more counts history
 
   -- a part without the column comes to no more than nothing
-  part_none : (history : List ClassMove) (other : Counts × ℕ) → point.at (Held other.0 history) ≡ pos 0
+  part_none : (history : List ClassMove) (other : ClassLayout × ℕ) → point.at (Held other.0 history) ≡ pos 0
       → part history other ≤ℤ pos 0
   part_none history other none = at (defence_chooses question other.0 history)
     where
@@ -262,7 +262,7 @@ module _ (question : Question) (support : Support) (valid : IsValid question) (p
       at false = omega (arith, ints)
 
   -- nor do those after a class history from which it is not reached
-  off_way : (more : ℕ) (other : Counts × ℕ) (history : List ClassMove)
+  off_way : (more : ℕ) (other : ClassLayout × ℕ) (history : List ClassMove)
       → ((moves : List ClassMove) → point.at (Held other.0 (history ++ moves)) ≡ pos 0)
       → play more other history ≤ℤ pos 0
   unfolding play_sum
@@ -284,15 +284,15 @@ module _ (question : Question) (support : Support) (valid : IsValid question) (p
 
   -- ---- the start
 
-  abbrev start : Counts × ℕ → ℤ
+  abbrev start : ClassLayout × ℕ → ℤ
   start other = scale *ℤ (pos other.1 *ℤ worth 53 other.0 []) -ℤ play 52 other []
 
   start_sum : (defence_chooses question west target ≡ true) → is_reached question support west target ≡ true
       → sum_of (map start (layouts_of question)) ≤ℤ pos 0
   unfolding objective_at
   start_sum chooses reached =
-      let layouts : List (Counts × ℕ) = layouts_of question in
-      let worths : Counts × ℕ → ℤ = λ other. pos other.1 *ℤ worth 53 other.0 [] in
+      let layouts : List (ClassLayout × ℕ) = layouts_of question in
+      let worths : ClassLayout × ℕ → ℤ = λ other. pos other.1 *ℤ worth 53 other.0 [] in
       let bounded = units_bounded question support prices scale dual (Held west target)
       (column_listed question support valid layout listed target reached chooses) in
       let played = exceeds_by_play question support prices scale dual point
@@ -307,7 +307,7 @@ module _ (question : Question) (support : Support) (valid : IsValid question) (p
       finish a e b p x le played times parted = omega (arith, ints, le, played, times, parted)
 
   -- other class layouts are not in the way
-  start_low : (other : Counts × ℕ) → (other.0 ≡ west → ⊥) → pos 0 ≤ℤ start other
+  start_low : (other : ClassLayout × ℕ) → (other.0 ≡ west → ⊥) → pos 0 ≤ℤ start other
   start_low other apart =
       let some = dual.over in
       let none = off_way 52 other [] (λ moves. held_elsewhere west target other.0 moves apart) in
@@ -318,12 +318,12 @@ module _ (question : Question) (support : Support) (valid : IsValid question) (p
       finish : (x y : ℤ) → pos 0 ≤ℤ x → y ≤ℤ pos 0 → pos 0 ≤ℤ (x -ℤ y)
       finish x y p q = omega (arith, ints, p, q)
 
-  layout_same : (other : Counts × ℕ) → Contains (layouts_of question) other → other.0 ≡ west → other ≡ layout
+  layout_same : (other : ClassLayout × ℕ) → Contains (layouts_of question) other → other.0 ≡ west → other ≡ layout
   layout_same other found same =
       let weights : other.1 ≡ layout.1 =
-      weight_listed question other found ∙ ap (λ (w : Counts). weight_of question w) same
+      weight_listed question other found ∙ ap (λ (w : ClassLayout). weight_of question w) same
       ∙ sym (weight_listed question layout listed) in
-      ap (λ (w : Counts). (w, other.1)) same ∙ ap (λ (n : ℕ). (west, n)) weights
+      ap (λ (w : ClassLayout). (w, other.1)) same ∙ ap (λ (n : ℕ). (west, n)) weights
 
   -- so this one comes to no more than nothing
   start_here : defence_chooses question west target ≡ true → is_reached question support west target ≡ true

@@ -11,7 +11,7 @@ use Rattle.suit_plans.specs.declared.plan.TheConstants.{MOST_DEN}
 use Rattle.suit_linear.specs.declared.ends.Optimum.{Optimum}
 use Rattle.suit_program.specs.Programs.Points.{unit_point}
 use Rattle.suit_program.specs.Programs.{columns, program_of}
-use Rattle.suit_program.specs.Readings.ReadOptima.{IsPlanDen}
+use Rattle.suit_program.specs.Readings.ReadingOfAnOptimum.{IsPlanDen}
 use Rattle.suit_program.specs.Readings.{is_passed, is_too_wide, parts_of, plan_den}
 use Rattle.suit_program.specs.Readings.Sharing.{common_of}
 use Rattle.suit_program.specs.Supports.{Support}

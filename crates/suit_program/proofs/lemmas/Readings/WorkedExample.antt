@@ -10,7 +10,7 @@ use Rattle.suit_game.specs.Question.{plain}
 use Rattle.suit_layouts.specs.ClassLayouts.{class_layouts, class_weight, counts_up_to, weighed}
 use Rattle.suit_classes.specs.Classes.{class_below}
 use Rattle.suit_classes.specs.ClassPlaces.{class_numbers, dealt_to, none_played}
-use Rattle.suit_classes.specs.AllowedHistories.{every_move, is_among}
+use Rattle.suit_classes.specs.WhatIsAllowed.{every_move, is_among}
 use Rattle.suit_plans.specs.Masses.{count_of, mass_from, mass_of}
 use Rattle.suit_plans.specs.Orders.{same_class_history}
 use Rattle.suit_plans.specs.Properness.{sum_of}

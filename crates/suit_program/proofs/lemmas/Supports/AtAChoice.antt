@@ -2,7 +2,7 @@
 use Rattle.std.proofs.Common.{◌≡◌, Bool, true, false, List, [], ◌∷◌, length, refl, ap, ◌∙◌}
 use Rattle.std.specs.Prelude.{filter, nat_lt, if◌then◌else◌}
 use Rattle.std.proofs.lemmas.Bool.{and_parts, false≢true}
-use Rattle.suit_cards.specs.Cards.{Counts}
+use Rattle.suit_cards.specs.Cards.{ClassLayout}
 use Rattle.suit_game.specs.declared.question.Question.{Question}
 use Rattle.suit_classes.specs.declared.class_moves.ClassMove.{ClassMove}
 use Rattle.suit_classes.specs.ClassPlaces.{class_after, class_decided, class_moves, class_turn}
@@ -11,7 +11,8 @@ use Rattle.suit_program.specs.Supports.{Support, declarer_chooses, defence_choos
 use Rattle.suit_program.specs.Supports.{supported_moves}
 
 -- a choice: play goes on, and the first of the moves is the first of the support
-pub record IsChoice (question : Question) (support : Support) (west : Counts) (history : List ClassMove) : Type 0 where
+pub record IsChoice (question : Question) (support : Support) (west : ClassLayout)
+    (history : List ClassMove) : Type 0 where
   pub going : class_decided (class_after question history) ≡ false
   pub first : ClassMove
   pub more : List ClassMove
@@ -19,7 +20,7 @@ pub record IsChoice (question : Question) (support : Support) (west : Counts) (h
   pub supported : supported_moves question support west history
       ≡ first ∷ filter (names question support west history) more
 
-module _ (question : Question) (support : Support) (west : Counts) (history : List ClassMove) where
+module _ (question : Question) (support : Support) (west : ClassLayout) (history : List ClassMove) where
   choice_in : (decided : Bool) → class_decided (class_after question history) ≡ decided → (moves : List ClassMove)
       → class_moves (class_after question history) west ≡ moves
       → nat_lt 1 (length (if decided then [] else moves)) ≡ true → IsChoice question support west history
@@ -51,7 +52,7 @@ own_place question support history chooses =
     (parts.0, choice_of question support [] history parts.1)
 
 -- and a defender at one of theirs
-pub their_place : (question : Question) (support : Support) (west : Counts) (history : List ClassMove)
+pub their_place : (question : Question) (support : Support) (west : ClassLayout) (history : List ClassMove)
     → defence_chooses question west history ≡ true
     → (is_defences (class_turn (class_after question history)) ≡ true) × IsChoice question support west history
 unfolding defence_chooses

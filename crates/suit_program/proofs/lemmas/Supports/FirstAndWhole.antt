@@ -3,7 +3,7 @@ use Rattle.std.proofs.Common.{◌≡◌, ◌∷◌, [], Bool, true, false, None,
 use Rattle.std.proofs.Math.Path.{fun_ext}
 use Rattle.std.specs.Prelude.{bytes_eq, slice_get, ◌&&◌, ◌||◌, if◌then◌else◌}
 use Rattle.std.specs.List.{list_any}
-use Rattle.suit_cards.specs.Cards.{Counts, Indices}
+use Rattle.suit_cards.specs.Cards.{ClassLayout, Indices}
 use Rattle.suit_game.specs.declared.question.Question.{Question}
 use Rattle.suit_classes.specs.declared.class_moves.ClassMove.{ClassMove}
 use Rattle.suit_classes.specs.ClassMoves.{ClassHistory}
@@ -30,15 +30,15 @@ whole_seen question support all = ap (λ (b : Bool). if b then whole_support
 -- two supports name the same where they do of declarer's and of the defence's moves
 pub same_support : (here there : Support)
     → ((history : ClassHistory) (move : ClassMove) → here.declarers history move ≡ there.declarers history move)
-    → ((west : Counts) (history : ClassHistory) (move : ClassMove)
+    → ((west : ClassLayout) (history : ClassHistory) (move : ClassMove)
     → here.defences west history move ≡ there.defences west history move) → here ≡ there
 same_support here there own theirs =
     ap (λ (f : ClassHistory → ClassMove → Bool). record { declarers = f; defences = here.defences })
     (fun_ext (λ history. fun_ext (λ move. own history move)))
-    ∙ ap (λ (f : Counts → ClassHistory → ClassMove → Bool). record { declarers = there.declarers; defences = f })
+    ∙ ap (λ (f : ClassLayout → ClassHistory → ClassMove → Bool). record { declarers = there.declarers; defences = f })
     (fun_ext (λ west. fun_ext (λ history. fun_ext (λ move. theirs west history move))))
 
-nobody : (question : Question) (west : Counts) (history : ClassHistory) (move : ClassMove) (indices : Indices)
+nobody : (question : Question) (west : ClassLayout) (history : ClassHistory) (move : ClassMove) (indices : Indices)
     → list_any (λ index. bytes_eq (counts_at question index) west && named_on None history move) indices ≡ false
 nobody question west history move [] = refl
 nobody question west history move (index ∷ indices) =

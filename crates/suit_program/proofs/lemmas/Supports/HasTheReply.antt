@@ -5,16 +5,16 @@ use Rattle.std.proofs.Common.{sym, ap, ◌∙◌, subst, inl, inr, append_assoc,
 use Rattle.std.specs.Prelude.{Contains, ◌&&◌, ◌||◌, not, if◌then◌else◌, pos, int_lt}
 use Rattle.std.specs.List.{flat_map, list_any, range_with_len}
 use Rattle.std.proofs.lemmas.Bool.{and_parts, false≢true}
-use Rattle.suit_cards.specs.Cards.{Counts}
+use Rattle.suit_cards.specs.Cards.{ClassLayout}
 use Rattle.suit_game.specs.declared.question.Question.{Question}
 use Rattle.suit_game.specs.Validity.{IsValid}
 use Rattle.suit_game.proofs.EachElement.{Contains-cons_cases, Contains-filter, Contains-first, Contains-flat_map}
 use Rattle.suit_game.proofs.EachElement.{Contains-later}
 use Rattle.suit_game.proofs.EachElement.{Contains-map, Contains-nil, Contains-range}
 use Rattle.suit_classes.specs.declared.class_moves.ClassMove.{ClassMove}
-use Rattle.suit_classes.specs.AllowedHistories.{is_among}
+use Rattle.suit_classes.specs.WhatIsAllowed.{is_among}
 use Rattle.suit_classes.specs.ClassMoves.{ClassHistory, same_class_move}
-use Rattle.suit_classes.proofs.DecidedPlays.{class_histories_are_short}
+use Rattle.suit_classes.proofs.DecidedStaysDecided.{class_histories_are_short}
 use Rattle.suit_classes.proofs.SameMoves.{among-Contains}
 use Rattle.suit_plans.specs.declared.moves.DefenceMove.{DefenceMove}
 use Rattle.suit_plans.specs.declared.plan.Plan.{Plan}
@@ -78,7 +78,7 @@ follows_next reply history move goes same =
 -- ---- where it is listed
 
 -- what goes on with the moves of a reply is among its class histories
-pub goes_within : (question : Question) (support : Support) (west : Counts) (reply : Reply)
+pub goes_within : (question : Question) (support : Support) (west : ClassLayout) (reply : Reply)
     → ((history : ClassHistory) (move : ClassMove) → is_reached question support west history ≡ true
     → Contains (supported_moves question support west history) move
     → Contains (reply.moves history) move)
@@ -146,7 +146,7 @@ module _ (question : Question) (support : Support) (plan : Plan) (valid : IsVali
       (least_reply question plan) entry all found
 
   -- so the move of the reply is at each choice that is reached
-  pub reply_supported : (layout : Counts × ℕ) → Contains (layouts_of question) layout → (history : ClassHistory)
+  pub reply_supported : (layout : ClassLayout × ℕ) → Contains (layouts_of question) layout → (history : ClassHistory)
       → is_reached question support layout.0 history ≡ true
       → defence_chooses question layout.0 history ≡ true
       → follows (reply_to_plan question plan layout.0) [] history ≡ true
@@ -155,7 +155,7 @@ module _ (question : Question) (support : Support) (plan : Plan) (valid : IsVali
       (reply_move (reply_to_plan question plan layout.0) history) ≡ true
   unfolding least_reply is_reached choices defence_chooses
   reply_supported layout listed history reached chooses goes live =
-      let layouts : List (Counts × ℕ) = layouts_of question in
+      let layouts : List (ClassLayout × ℕ) = layouts_of question in
       let reply : Reply = reply_to_plan question plan layout.0 in
       let short : length history ≤ 52 = class_histories_are_short question layout.0 history
       (reached_allows question support valid layout listed history reached) in
@@ -177,6 +177,7 @@ module _ (question : Question) (support : Support) (plan : Plan) (valid : IsVali
       Contains-flat_map (λ index. least_reply_in question plan (get_or layouts index ([], 0)).0 index)
       (range_with_len 0 (length layouts)) at.0 entry
       (Contains-range 0 (length layouts) at.0 (omega arith) (omega (arith, below)))
-      (subst (λ (other : Counts × ℕ). Contains (least_reply_in question plan other.0 at.0) entry) (sym at.2) inside) in
-      subst (λ (other : Counts × ℕ). is_among (supported_moves question support other.0 history)
+      (subst (λ (other : ClassLayout × ℕ). Contains (least_reply_in question plan other.0 at.0) entry)
+          (sym at.2) inside) in
+      subst (λ (other : ClassLayout × ℕ). is_among (supported_moves question support other.0 history)
       (reply_move reply history) ≡ true) at.2 (named entry found)

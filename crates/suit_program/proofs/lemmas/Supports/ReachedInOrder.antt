@@ -3,12 +3,12 @@ use Rattle.std.proofs.Common.{◌≡◌, ℕ, zero, suc, Bool, true, false, List
 use Rattle.std.specs.Prelude.{filter, pos}
 use Rattle.std.specs.Int.{int_max}
 use Rattle.std.specs.List.{flat_map}
-use Rattle.suit_cards.specs.Cards.{Counts}
+use Rattle.suit_cards.specs.Cards.{ClassLayout}
 use Rattle.suit_game.specs.declared.question.Question.{Question}
 use Rattle.suit_classes.specs.declared.class_moves.ClassMove.{ClassMove}
-use Rattle.suit_classes.specs.AllowedHistories.{every_move, is_among}
+use Rattle.suit_classes.specs.WhatIsAllowed.{every_move, is_among}
 use Rattle.suit_classes.specs.MoveOrder.{stands_before}
-use Rattle.suit_classes.proofs.RisingMoves.{Chained, chained_filter, every_move_rises}
+use Rattle.suit_classes.proofs.ClassMovesRise.{Chained, chained_filter, every_move_rises}
 use Rattle.suit_plans.specs.BestReplies.{Reply, histories_within}
 use Rattle.suit_plans.specs.Orders.{history_before}
 use Rattle.suit_plans.proofs.ChoiceOrder.{chained_within, pairs_chained}
@@ -46,7 +46,7 @@ module _ (question : Question) (support : Support) where
   unfolding next_moves
   moves_rise history =
       let IsBefore : ClassMove → ClassMove → Type 0 = λ here there. stands_before here there ≡ true in
-      chained_filter IsBefore (is_among (flat_map (λ (layout : Counts × ℕ). supported_moves question support layout.0
+      chained_filter IsBefore (is_among (flat_map (λ (layout : ClassLayout × ℕ). supported_moves question support layout.0
       history) (reached_layouts question support history))) every_move
       (pairs_chained IsBefore every_move every_move_rises)
 

@@ -9,7 +9,7 @@ use Rattle.suit_game.specs.Validity.{IsValid}
 use Rattle.suit_game.proofs.DistinctElements.{each_flat_map}
 use Rattle.suit_game.proofs.EachElement.{Contains-map_from, each_at, each_gives, kept_parts}
 use Rattle.suit_classes.specs.declared.class_moves.ClassMove.{ClassMove}
-use Rattle.suit_classes.specs.AllowedHistories.{every_move}
+use Rattle.suit_classes.specs.WhatIsAllowed.{every_move}
 use Rattle.suit_classes.specs.ClassMoves.{ClassHistory}
 use Rattle.suit_classes.specs.ClassPlaces.{class_after, class_decided, class_moves}
 use Rattle.suit_plans.specs.BestReplies.{Reply, choices, has_choice, histories_within, is_reached, most_reply}

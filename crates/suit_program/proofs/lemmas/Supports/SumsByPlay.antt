@@ -6,12 +6,12 @@ use Rattle.std.specs.List.{AllByRecursion, flat_map}
 use Rattle.std.proofs.lemmas.Bool.{false_from_ne_true}
 use Rattle.std.proofs.lemmas.Int.{ints}
 use Rattle.std.proofs.lemmas.List.Elements.{filter_agree}
-use Rattle.suit_cards.specs.Cards.{Counts}
-use Rattle.suit_cards.proofs.SuitRuns.{filter-filter}
+use Rattle.suit_cards.specs.Cards.{ClassLayout}
+use Rattle.suit_lists.proofs.Filters.{filter-filter}
 use Rattle.suit_game.specs.declared.question.Question.{Question}
 use Rattle.suit_game.proofs.EachElement.{Contains-flat_map, each_gives, map_same}
 use Rattle.suit_classes.specs.declared.class_moves.ClassMove.{ClassMove}
-use Rattle.suit_classes.specs.AllowedHistories.{every_move, is_among}
+use Rattle.suit_classes.specs.WhatIsAllowed.{every_move, is_among}
 use Rattle.suit_classes.specs.ClassMoves.{same_class_move}
 use Rattle.suit_classes.specs.ClassPlaces.{class_after, class_decided, class_moves}
 use Rattle.suit_classes.proofs.DistinctMoves.{once_class_moves, once_unless}
@@ -79,7 +79,7 @@ both_second false true gives = gives refl
 both_second false false gives = refl
 
 module _ (question : Question) (support : Support) where
-  legal_filter : (west : Counts) (history : List ClassMove) (decided : Bool)
+  legal_filter : (west : ClassLayout) (history : List ClassMove) (decided : Bool)
       → class_decided (class_after question history) ≡ decided → (test : ClassMove → Bool)
       × (legal_moves question west history ≡ filter test every_move)
   legal_filter west history true is = (
@@ -93,13 +93,13 @@ module _ (question : Question) (support : Support) where
         ∙ class_moves_listed (class_after question history) west,
   )
 
-  legal_once : (west : Counts) (history : List ClassMove) → IsOnce (legal_moves question west history)
+  legal_once : (west : ClassLayout) (history : List ClassMove) → IsOnce (legal_moves question west history)
   legal_once west history =
       once_unless (class_decided (class_after question history)) (class_moves (class_after question history) west)
       (once_class_moves (class_after question history) west)
 
   -- the moves of a support are all moves that are among them
-  pub supported_all : (west : Counts) (history : List ClassMove)
+  pub supported_all : (west : ClassLayout) (history : List ClassMove)
       → supported_moves question support west history
       ≡ filter (is_among (supported_moves question support west history)) every_move
   unfolding supported_moves
@@ -111,13 +111,13 @@ module _ (question : Question) (support : Support) where
       (one.1 ∙ ap (filter one.0) legal.1 ∙ filter-filter legal.0 one.0 every_move)
 
   -- of the moves with which a class history goes on those of a class layout in which it is reached are its moves
-  pub next_held : (history : List ClassMove) (layout : Counts × ℕ)
+  pub next_held : (history : List ClassMove) (layout : ClassLayout × ℕ)
       → Contains (reached_layouts question support history) layout
       → filter (is_among (supported_moves question support layout.0 history)) (next_moves question support history)
       ≡ supported_moves question support layout.0 history
   unfolding next_moves
   next_held history layout held =
-      let moves : Counts × ℕ → List ClassMove = λ other. supported_moves question support other.0 history in
+      let moves : ClassLayout × ℕ → List ClassMove = λ other. supported_moves question support other.0 history in
       let all : List ClassMove = flat_map moves (reached_layouts question support history) in
       filter-filter (is_among all) (is_among (moves layout)) every_move
       ∙ filter_agree (λ move. is_among all move && is_among (moves layout) move) (is_among (moves layout))
@@ -128,12 +128,12 @@ module _ (question : Question) (support : Support) where
 
   -- the class layouts in which a class history is reached with a move more
   pub layouts_next : (history : List ClassMove) (move : ClassMove)
-      → filter (λ (layout : Counts × ℕ). is_among (supported_moves question support layout.0 history) move)
+      → filter (λ (layout : ClassLayout × ℕ). is_among (supported_moves question support layout.0 history) move)
       (reached_layouts question support history) ≡ reached_layouts question support (history ++ move ∷ [])
   unfolding reached_layouts
   layouts_next history move =
-      let goes : Counts × ℕ → Bool = λ layout. is_among (supported_moves question support layout.0 history) move in
-      let before : Counts × ℕ → Bool = λ layout. is_reached question support layout.0 history in
+      let goes : ClassLayout × ℕ → Bool = λ layout. is_among (supported_moves question support layout.0 history) move in
+      let before : ClassLayout × ℕ → Bool = λ layout. is_reached question support layout.0 history in
       filter-filter before goes (layouts_of question)
       ∙ filter_agree (λ layout. before layout && goes layout)
       (λ layout. is_reached question support layout.0 (history ++ move ∷ []))
@@ -141,9 +141,9 @@ module _ (question : Question) (support : Support) where
 
   -- ---- by the play
 
-  module _ (part : List ClassMove → Counts × ℕ → ℤ) where
+  module _ (part : List ClassMove → ClassLayout × ℕ → ℤ) where
     -- what the parts come to from a class history on, in one class layout
-    unfoldable pub play_sum : ℕ → Counts × ℕ → List ClassMove → ℤ
+    unfoldable pub play_sum : ℕ → ClassLayout × ℕ → List ClassMove → ℤ
     play_sum zero layout history = part history layout
     play_sum (suc more) layout history =
         part history layout +ℤ sum_of (map (λ move. play_sum more layout (history ++ move ∷ []))
@@ -156,7 +156,7 @@ module _ (question : Question) (support : Support) where
     in_all more history =
         sum_of (map (λ layout. play_sum more layout history) (reached_layouts question support history))
 
-    abbrev goes_part : ℕ → List ClassMove → ClassMove → Counts × ℕ → ℤ
+    abbrev goes_part : ℕ → List ClassMove → ClassMove → ClassLayout × ℕ → ℤ
     goes_part more history move layout =
         if is_among (supported_moves question support layout.0 history) move
         then play_sum more layout (history ++ move ∷ []) else pos 0
@@ -164,21 +164,21 @@ module _ (question : Question) (support : Support) where
     -- the moves with which a class history goes on share out what comes after it
     shared_after : (more : ℕ) (history : List ClassMove)
         → sum_of (map (λ move. in_all more (history ++ move ∷ [])) (next_moves question support history))
-        ≡ sum_of (map (λ (layout : Counts × ℕ). sum_of (map (λ move. play_sum more layout (history ++ move ∷ []))
+        ≡ sum_of (map (λ (layout : ClassLayout × ℕ). sum_of (map (λ move. play_sum more layout (history ++ move ∷ []))
         (supported_moves question support layout.0 history))) (reached_layouts question support history))
     unfolding sum_of
     shared_after more history =
         let moves : List ClassMove = next_moves question support history in
-        let layouts : List (Counts × ℕ) = reached_layouts question support history in
+        let layouts : List (ClassLayout × ℕ) = reached_layouts question support history in
         ap sum_of (map_same (λ move. in_all more (history ++ move ∷ []))
         (λ move. sum_of (map (goes_part more history move) layouts)) moves
-        (λ move found. ap (λ (l : List (Counts × ℕ)). sum_of (map (λ layout. play_sum more layout (history ++ move
+        (λ move found. ap (λ (l : List (ClassLayout × ℕ)). sum_of (map (λ layout. play_sum more layout (history ++ move
         ∷ [])) l)) (sym (layouts_next history move))
-        ∙ sum_kept (λ (layout : Counts × ℕ). is_among (supported_moves question support layout.0 history) move)
+        ∙ sum_kept (λ (layout : ClassLayout × ℕ). is_among (supported_moves question support layout.0 history) move)
         (λ layout. play_sum more layout (history ++ move ∷ [])) layouts))
         ∙ sums_exchanged (goes_part more history) moves layouts
         ∙ ap sum_of (map_same (λ layout. sum_of (map (λ move. goes_part more history move layout) moves))
-        (λ (layout : Counts × ℕ). sum_of (map (λ move. play_sum more layout (history ++ move ∷ []))
+        (λ (layout : ClassLayout × ℕ). sum_of (map (λ move. play_sum more layout (history ++ move ∷ []))
         (supported_moves question support layout.0 history))) layouts
         (λ layout held. sym (sum_kept (is_among (supported_moves question support layout.0 history))
         (λ move. play_sum more layout (history ++ move ∷ [])) moves)
@@ -200,7 +200,7 @@ module _ (question : Question) (support : Support) where
         (λ move. in_all more (history ++ move ∷ [])) (next_moves question support history)
         (λ move found. by_play more (history ++ move ∷ [])))
         ∙ shared_after more history)
-        ∙ sym (sum_both (part history) (λ (layout : Counts × ℕ). sum_of (map (λ move. play_sum more layout (history
+        ∙ sym (sum_both (part history) (λ (layout : ClassLayout × ℕ). sum_of (map (λ move. play_sum more layout (history
         ++ move ∷ [])) (supported_moves question support layout.0 history)))
         (reached_layouts question support history))
 

@@ -4,7 +4,7 @@ use Rattle.std.proofs.Common.{refl, sym}
 use Rattle.std.proofs.Common.{ap, ◌∙◌, subst, inl, inr, arith}
 use Rattle.std.specs.Prelude.{Contains, ◌&&◌, filter, nat_lt, if◌then◌else◌, ℤ}
 use Rattle.std.proofs.lemmas.Bool.{and_parts, false≢true, lt-ltb}
-use Rattle.suit_cards.specs.Cards.{Counts}
+use Rattle.suit_cards.specs.Cards.{ClassLayout}
 use Rattle.suit_game.specs.declared.question.Question.{Question}
 use Rattle.suit_game.proofs.EachElement.{Contains-cons_cases, Contains-first, Contains-later, Contains-nil, each_filter}
 use Rattle.suit_game.proofs.EachElement.{kept_parts}
@@ -18,7 +18,7 @@ use Rattle.suit_classes.proofs.SameMoves.{same_move-itself, same_move_is}
 use Rattle.suit_plans.specs.Masses.{Shares, count_of, is_declarers, is_defences, is_first, share}
 use Rattle.suit_plans.proofs.MassSteps.{mass_kept, mass_shared}
 use Rattle.suit_plans.proofs.TurnMoves.{declarers_moves}
-use Rattle.suit_classes.proofs.UndecidedMoves.{HasFirst}
+use Rattle.suit_classes.proofs.UndecidedHasAMove.{HasFirst}
 use Rattle.suit_plans.proofs.WhoseTurns.{Declarers, Defences, Over, WhoseTurn, whose_turn}
 use Rattle.suit_program.specs.Programs.Points.{Passed, Point}
 use Rattle.suit_program.specs.Supports.{Support, declarer_chooses, defence_chooses, first_and, legal_moves, names}
@@ -66,7 +66,7 @@ module _ (question : Question) (support : Support) where
   -- ---- the moves of a support
 
   -- they are legal
-  pub supported_legal : (west : Counts) (history : List ClassMove) (move : ClassMove)
+  pub supported_legal : (west : ClassLayout) (history : List ClassMove) (move : ClassMove)
       → Contains (supported_moves question support west history) move
       → Contains (legal_moves question west history) move
   unfolding supported_moves
@@ -78,7 +78,7 @@ module _ (question : Question) (support : Support) where
   legal_case true moves move found = absurd (Contains-nil move found)
   legal_case false moves move found = (refl, found)
 
-  pub supported_class_move : (west : Counts) (history : List ClassMove) (move : ClassMove)
+  pub supported_class_move : (west : ClassLayout) (history : List ClassMove) (move : ClassMove)
       → Contains (supported_moves question support west history) move
       → Contains (class_moves (class_after question history) west) move
   supported_class_move west history move found =
@@ -86,7 +86,7 @@ module _ (question : Question) (support : Support) where
       (supported_legal west history move found)).1
 
   -- at a class history that is not decided
-  pub supported_going : (west : Counts) (history : List ClassMove) (move : ClassMove)
+  pub supported_going : (west : ClassLayout) (history : List ClassMove) (move : ClassMove)
       → Contains (supported_moves question support west history) move
       → class_decided (class_after question history) ≡ false
   supported_going west history move found =
@@ -94,7 +94,7 @@ module _ (question : Question) (support : Support) where
       (supported_legal west history move found)).0
 
   -- each once
-  pub supported_once : (west : Counts) (history : List ClassMove)
+  pub supported_once : (west : ClassLayout) (history : List ClassMove)
       → IsOnce (supported_moves question support west history)
   unfolding supported_moves
   supported_once west history =
@@ -122,7 +122,7 @@ module _ (question : Question) (support : Support) where
 -- ---- turns
 
 -- what a class history is in a class layout
-pub data TurnAt (question : Question) (support : Support) (west : Counts) (history : List ClassMove) : Type 0 where
+pub data TurnAt (question : Question) (support : Support) (west : ClassLayout) (history : List ClassMove) : Type 0 where
   Ended : legal_moves question west history ≡ [] → supported_moves question support west history ≡ []
       → defence_chooses question west history ≡ false
       → TurnAt question support west history
@@ -148,14 +148,14 @@ and_none : (b : Bool) → (b && false) ≡ false
 and_none true = refl
 and_none false = refl
 
-module _ (question : Question) (support : Support) (west : Counts) (history : List ClassMove) where
+module _ (question : Question) (support : Support) (west : ClassLayout) (history : List ClassMove) where
   abbrev view : ClassView
   view = class_after question history
 
   abbrev legal : List ClassMove
   legal = legal_moves question west history
 
-  pub legal_going : (counts : Counts) → class_decided view ≡ false → legal_moves question counts history
+  pub legal_going : (counts : ClassLayout) → class_decided view ≡ false → legal_moves question counts history
       ≡ class_moves view counts
   legal_going counts going = ap (λ (b : Bool). if b then [] else class_moves view counts) going
 

@@ -4,23 +4,23 @@ use Rattle.std.proofs.Common.{ap, ◌∙◌, subst, inl, inr, append_assoc, appe
 use Rattle.std.specs.Prelude.{Contains, ◌&&◌, if◌then◌else◌}
 use Rattle.std.specs.List.{AllByRecursion, flat_map}
 use Rattle.std.proofs.lemmas.Bool.{and_parts}
-use Rattle.suit_cards.specs.Cards.{Counts}
+use Rattle.suit_cards.specs.Cards.{ClassLayout}
 use Rattle.suit_game.specs.declared.question.Question.{Question}
 use Rattle.suit_game.specs.Validity.{IsValid}
 use Rattle.suit_game.proofs.EachElement.{Contains-filter, Contains-first, Contains-flat_map, Contains-later, kept_parts}
 use Rattle.suit_game.proofs.EachElement.{Contains-map}
 use Rattle.suit_game.proofs.EachElement.{Contains-cons_cases, Contains-map_from, Contains-nil, each_at, each_in}
 use Rattle.suit_classes.specs.declared.class_moves.ClassMove.{ClassMove}
-use Rattle.suit_classes.specs.AllowedHistories.{every_move, is_among}
+use Rattle.suit_classes.specs.WhatIsAllowed.{every_move, is_among}
 use Rattle.suit_classes.specs.ClassGame.{Allows}
 use Rattle.suit_classes.specs.ClassPlaces.{class_after, class_moves}
-use Rattle.suit_classes.proofs.AllowedHistories.{allowed_moves}
-use Rattle.suit_classes.proofs.DecidedPlays.{class_histories_are_short}
+use Rattle.suit_classes.proofs.AllowedMoveByMove.{allowed_moves}
+use Rattle.suit_classes.proofs.DecidedStaysDecided.{class_histories_are_short}
 use Rattle.suit_game.proofs.DistinctElements.{each_flat_map}
 use Rattle.suit_classes.proofs.EveryMove.{class_moves_listed}
 use Rattle.suit_classes.proofs.SameMoves.{among-Contains, among_contained}
-use Rattle.suit_plans.proofs.AllowedWalks.{start_allows}
-use Rattle.suit_plans.proofs.BoundedReplies.{some_allow_none}
+use Rattle.suit_plans.proofs.AllowedSoFar.{start_allows}
+use Rattle.suit_plans.proofs.RepliesAreBounded.{some_allow_none}
 use Rattle.suit_plans.proofs.PublicMoves.{allowing_parts, layout_weighs, some_layout}
 use Rattle.suit_program.specs.Programs.{Answered, Limit, Shared, answered_limits, limits, limits_at}
 use Rattle.suit_program.specs.Supports.{Support, declarer_chooses, defence_chooses, goes_supported, histories_from}
@@ -50,13 +50,13 @@ and_swap false b c = refl
 
 -- a class history is reached in some class layout
 pub record IsSomewhere (question : Question) (support : Support) (history : List ClassMove) : Type 0 where
-  pub layout : Counts × ℕ
+  pub layout : ClassLayout × ℕ
   pub listed : Contains (layouts_of question) layout
   pub reached : is_reached question support layout.0 history ≡ true
 
 module _ (question : Question) (support : Support) where
   -- one move more
-  goes-push : (west : Counts) (history moves : List ClassMove) (move : ClassMove)
+  goes-push : (west : ClassLayout) (history moves : List ClassMove) (move : ClassMove)
       → goes_supported question support west history (moves ++ move ∷ [])
       ≡ (goes_supported question support west history moves
       && is_among (supported_moves question support west (history ++ moves)) move)
@@ -72,14 +72,14 @@ module _ (question : Question) (support : Support) where
       ∙ ap (λ (h : List ClassMove). (here && goes_supported question support west (history ++ first ∷ []) moves)
       && is_among (supported_moves question support west h) move) (append_assoc history (first ∷ []) moves)
 
-  pub reached-push : (west : Counts) (history : List ClassMove) (move : ClassMove)
+  pub reached-push : (west : ClassLayout) (history : List ClassMove) (move : ClassMove)
       → is_reached question support west (history ++ move ∷ [])
       ≡ (is_reached question support west history && is_among (supported_moves question support west history) move)
   unfolding is_reached
   reached-push west history move = goes-push west [] history move
 
   -- a class history is reached with a move more where it is and the move is in the support
-  pub reached_next : (west : Counts) (history : List ClassMove) (move : ClassMove)
+  pub reached_next : (west : ClassLayout) (history : List ClassMove) (move : ClassMove)
       → is_reached question support west history ≡ true
       → Contains (supported_moves question support west history) move
       → is_reached question support west (history ++ move ∷ []) ≡ true
@@ -89,13 +89,13 @@ module _ (question : Question) (support : Support) where
       move) reached
       (among_contained (supported_moves question support west history) move found)
 
-  pub reached_none : (west : Counts) → is_reached question support west [] ≡ true
+  pub reached_none : (west : ClassLayout) → is_reached question support west [] ≡ true
   unfolding is_reached goes_supported
   reached_none west = refl
 
   -- ---- what holds of all that is reached
 
-  module _ (west : Counts) (Fits : List ClassMove → Type 0)
+  module _ (west : ClassLayout) (Fits : List ClassMove → Type 0)
       (step : (history : List ClassMove) (move : ClassMove) → Fits history
       → Contains (supported_moves question support west history) move → Fits (history ++ move ∷ [])) where
     goes_fit : (history moves : List ClassMove) → Fits history
@@ -115,7 +115,7 @@ module _ (question : Question) (support : Support) where
     unfolding is_reached
     reached_fits start history reached = goes_fit [] history start reached
 
-  module _ (valid : IsValid question) (layout : Counts × ℕ) (listed : Contains (layouts_of question) layout) where
+  module _ (valid : IsValid question) (layout : ClassLayout × ℕ) (listed : Contains (layouts_of question) layout) where
     -- a class layout allows what is reached in it
     pub reached_allows : (history : List ClassMove) → is_reached question support layout.0 history ≡ true
         → Allows question layout.0 history
@@ -141,7 +141,7 @@ module _ (question : Question) (support : Support) where
         → Contains (reached_layouts question support history) layout
     unfolding reached_layouts
     reached_layout history reached =
-        Contains-filter (λ (other : Counts × ℕ). is_reached question support other.0 history) (layouts_of question)
+        Contains-filter (λ (other : ClassLayout × ℕ). is_reached question support other.0 history) (layouts_of question)
         layout listed reached
 
     next_found : (history : List ClassMove) (move : ClassMove) → is_reached question support layout.0 history ≡ true
@@ -149,7 +149,7 @@ module _ (question : Question) (support : Support) where
         → Contains (next_moves question support history) move
     unfolding next_moves
     next_found history move reached found =
-        let moves : Counts × ℕ → List ClassMove = λ other. supported_moves question support other.0 history in
+        let moves : ClassLayout × ℕ → List ClassMove = λ other. supported_moves question support other.0 history in
         let all : List ClassMove = flat_map moves (reached_layouts question support history) in
         Contains-filter (is_among all) every_move move (supported_listed history move found)
         (among_contained all move (Contains-flat_map moves (reached_layouts question support history) layout move
@@ -224,11 +224,11 @@ module _ (question : Question) (support : Support) where
       → IsSomewhere question support (history ++ move ∷ [])
   unfolding next_moves reached_layouts
   next_somewhere history move found =
-      let moves : Counts × ℕ → List ClassMove = λ other. supported_moves question support other.0 history in
-      let layouts : List (Counts × ℕ) = reached_layouts question support history in
+      let moves : ClassLayout × ℕ → List ClassMove = λ other. supported_moves question support other.0 history in
+      let layouts : List (ClassLayout × ℕ) = reached_layouts question support history in
       let kept = kept_parts (is_among (flat_map moves layouts)) every_move move found in
       let from = flat_map_from moves layouts move (among-Contains (flat_map moves layouts) move kept.1) in
-      let there = kept_parts (λ (other : Counts × ℕ). is_reached question support other.0 history)
+      let there = kept_parts (λ (other : ClassLayout × ℕ). is_reached question support other.0 history)
       (layouts_of question) from.0 from.1 in
       record {
         layout = from.0;
@@ -266,7 +266,7 @@ module _ (question : Question) (support : Support) where
 pub data StandsAt (question : Question) (support : Support) : Limit → Type 0 where
   AtOwn : (history : List ClassMove) → declarer_chooses question history ≡ true
       → IsSomewhere question support history → StandsAt question support (Shared history)
-  AtTheirs : (layout : Counts × ℕ) (history : List ClassMove) (move : ClassMove)
+  AtTheirs : (layout : ClassLayout × ℕ) (history : List ClassMove) (move : ClassMove)
       → Contains (layouts_of question) layout → is_reached question support layout.0 history ≡ true
       → defence_chooses question layout.0 history ≡ true
       → Contains (supported_moves question support layout.0 history) move
@@ -280,7 +280,7 @@ module _ (question : Question) (support : Support) where
     | inr none ↦ absurd (Contains-nil limit none)
   ]
 
-  stands_answer : (layout : Counts × ℕ) (history : List ClassMove) (limit : Limit)
+  stands_answer : (layout : ClassLayout × ℕ) (history : List ClassMove) (limit : Limit)
       → Contains (layouts_of question) layout → is_reached question support layout.0 history ≡ true
       → (b : Bool) → defence_chooses question layout.0 history ≡ b
       → Contains (if b then map (Answered layout.0 history) (supported_moves question support layout.0 history) else [])
@@ -298,7 +298,7 @@ module _ (question : Question) (support : Support) where
   stands_theirs history limit found =
       let from = flat_map_from (answered_limits question support history) (reached_layouts question support history)
       limit found in
-      let there = kept_parts (λ (other : Counts × ℕ). is_reached question support other.0 history)
+      let there = kept_parts (λ (other : ClassLayout × ℕ). is_reached question support other.0 history)
       (layouts_of question) from.0 from.1 in
       stands_answer from.0 history limit there.0 there.1 (defence_chooses question from.0.0 history) refl from.2
 

@@ -11,14 +11,14 @@ use Rattle.std.proofs.lemmas.Bool.{and_from, and_parts, cases_Bool, eq-eqb, eqb-
 use Rattle.std.proofs.lemmas.Bool.{ltb-true}
 use Rattle.std.proofs.lemmas.List.{append-nil, append_assoc, at_drop_all, at_drop_more, length-map}
 use Rattle.std.proofs.lemmas.List.Elements.{All-contains, Contains-get_or}
-use Rattle.suit_cards.specs.Cards.{Counts, Indices}
+use Rattle.suit_cards.specs.Cards.{ClassLayout, Indices}
 use Rattle.suit_game.specs.declared.question.Question.{Question}
 use Rattle.suit_game.specs.Validity.{IsValid}
 use Rattle.suit_game.proofs.EachElement.{Contains-cons_cases, Contains-filter, Contains-first, Contains-later}
 use Rattle.suit_game.proofs.EachElement.{Contains-nil, Contains-range}
 use Rattle.suit_classes.specs.declared.class_moves.ClassMove.{ClassMove}
 use Rattle.suit_classes.specs.declared.class_view.ClassView.{ClassView}
-use Rattle.suit_classes.specs.AllowedHistories.{allows, is_among}
+use Rattle.suit_classes.specs.WhatIsAllowed.{allows, is_among}
 use Rattle.suit_classes.specs.ClassMoves.{ClassHistory, same_class_move}
 use Rattle.suit_classes.specs.ClassPlaces.{class_after, class_decided}
 use Rattle.suit_classes.proofs.MovesOnce.{filter_of_map}
@@ -36,7 +36,7 @@ use Rattle.suit_tree.specs.declared.node.Node.{Node}
 use Rattle.suit_tree.specs.declared.tree.Tree.{Tree}
 use Rattle.suit_tree.specs.Nodes.{children_of, holds_index, move_of}
 use Rattle.suit_tree.specs.Trees.{IsTreeAt, IsTreeOf, allowing, layout_indices}
-use Rattle.suit_tree.proofs.CountedNodes.{in_range_below}
+use Rattle.suit_tree.proofs.OneNodeAtEachPath.{in_range_below}
 use Rattle.suit_tree.proofs.MovesOn.{Contains-moves_on, allowing_start}
 use Rattle.suit_program.specs.declared.supports.mark.Mark.{Mark}
 use Rattle.suit_program.specs.declared.supports.support.Support.{Support as MarkedSupport}
@@ -230,10 +230,11 @@ some_allows_at : (question : Question) (history : ClassHistory)
     → some_allows question history ≡ nat_lt 0 (length (allowing question history))
 unfolding some_allows allowing
 some_allows_at question history =
-    let may : Counts × ℕ → Bool = λ layout. allows question layout.0 history in
+    let may : ClassLayout × ℕ → Bool = λ layout. allows question layout.0 history in
     any_kept may (layouts_of question)
-    ∙ ap (λ (l : List (Counts × ℕ)). nat_lt 0 (length (filter may l))) (sym (by_indices (layouts_of question) ([], 0)))
-    ∙ ap (λ (l : List (Counts × ℕ)). nat_lt 0 (length l))
+    ∙ ap (λ (l : List (ClassLayout × ℕ)). nat_lt 0 (length (filter may l)))
+        (sym (by_indices (layouts_of question) ([], 0)))
+    ∙ ap (λ (l : List (ClassLayout × ℕ)). nat_lt 0 (length l))
     (filter_of_map may (layout_at question) (layout_indices (layouts_of question)))
     ∙ ap (nat_lt 0) (length-map (filter (λ index. may (layout_at question index))
     (layout_indices (layouts_of question)))
@@ -325,7 +326,7 @@ module _ (question : Question) (valid : IsValid question) (tree : Tree) (grown :
   unfolding supported_moves
   theirs_told entry is =
       let history : ClassHistory = entry.history in
-      let west : Counts = counts_at question entry.layout in
+      let west : ClassLayout = counts_at question entry.layout in
       let view : ClassView = class_after question history in
       let turn = their_turn view is.turn in
       let legal : List ClassMove = legal_moves question west history in
@@ -409,7 +410,7 @@ any_point e at b indices found = elim (cases_Bool (e at && b)) [
       ∙ sym not_is
 ]
 
-module _ (question : Question) (west : Counts) (history : ClassHistory) (move : ClassMove) where
+module _ (question : Question) (west : ClassLayout) (history : ClassHistory) (move : ClassMove) where
   abbrev indices : Indices
   indices = layout_indices (layouts_of question)
 
@@ -457,7 +458,7 @@ module _ (question : Question) (support next : MarkedSupport) (own : List Declar
     → named_on (defence_mark next index) history move
     ≡ (named_on (defence_mark support index) history move || are_theirs theirs index history move))
     (listed : (entry : DefenceMove) → Contains theirs entry → entry.layout < length (layouts_of question)) where
-  defence_more : (west : Counts) (history : ClassHistory) (move : ClassMove)
+  defence_more : (west : ClassLayout) (history : ClassHistory) (move : ClassMove)
       → defence_named question next west history move
       ≡ (defence_named question support west history move || has_defences question theirs west history move)
   unfolding defence_named

@@ -6,12 +6,12 @@ use Rattle.std.specs.Prelude.{Contains, ◌&&◌, filter}
 use Rattle.std.specs.List.{flat_map, range_with_len}
 use Rattle.std.proofs.lemmas.List.Elements.{filter_agree}
 use Rattle.std.proofs.lemmas.List.FromFn.{fill_by_all}
-use Rattle.suit_cards.specs.Cards.{Counts}
-use Rattle.suit_cards.proofs.SuitRuns.{filter-filter}
+use Rattle.suit_cards.specs.Cards.{ClassLayout}
+use Rattle.suit_lists.proofs.Filters.{filter-filter}
 use Rattle.suit_game.specs.declared.question.Question.{Question}
 use Rattle.suit_game.proofs.EachElement.{Contains-map, kept_parts}
 use Rattle.suit_classes.specs.declared.class_moves.ClassMove.{ClassMove}
-use Rattle.suit_classes.specs.AllowedHistories.{is_among}
+use Rattle.suit_classes.specs.WhatIsAllowed.{is_among}
 use Rattle.suit_plans.specs.ReplyLaws.{counts_at}
 use Rattle.suit_program.specs.declared.walks.ledger.Account.{Account}
 use Rattle.suit_program.specs.Programs.{held_column, answered_limits}
@@ -53,7 +53,7 @@ indexed test xs x =
 -- ---- indices
 
 -- the class layout with an index, with its weight
-abbrev layout_at : Question → ℕ → Counts × ℕ
+abbrev layout_at : Question → ℕ → ClassLayout × ℕ
 layout_at question index = get_or (layouts_of question) index ([], 0)
 
 module _ (question : Question) (support : Support) (history : List ClassMove) where
@@ -61,7 +61,7 @@ module _ (question : Question) (support : Support) (history : List ClassMove) wh
       ≡ reached_layouts question support history
   unfolding reached_indices reached_layouts
   layouts_indexed =
-      indexed (λ (layout : Counts × ℕ). is_reached question support layout.0 history) (layouts_of question) ([], 0)
+      indexed (λ (layout : ClassLayout × ℕ). is_reached question support layout.0 history) (layouts_of question) ([], 0)
 
   -- with one move more
   pub indices_next : (move : ClassMove)
@@ -97,11 +97,11 @@ module _ (question : Question) (support : Support) (history : List ClassMove) (r
   pub account_there : (account : Account) → Contains accounts account → IsThere question support history account
   unfolding reached_layouts
   account_there account found =
-      let layout : Counts × ℕ = layout_of question account in
+      let layout : ClassLayout × ℕ = layout_of question account in
       let held : Contains (reached_layouts question support history) layout =
-      subst (λ (l : List (Counts × ℕ)). Contains l layout) accounts_layouts
+      subst (λ (l : List (ClassLayout × ℕ)). Contains l layout) accounts_layouts
       (Contains-map (layout_of question) accounts account found) in
-      let parts = kept_parts (λ (other : Counts × ℕ). is_reached question support other.0 history)
+      let parts = kept_parts (λ (other : ClassLayout × ℕ). is_reached question support other.0 history)
       (layouts_of question) layout held in
       record { held = held; listed = parts.0; reached = parts.1 }
 

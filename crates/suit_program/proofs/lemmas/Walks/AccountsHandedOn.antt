@@ -8,13 +8,13 @@ use Rattle.std.specs.List.{AllByRecursion}
 use Rattle.std.proofs.lemmas.Bool.{and_parts, false≢true}
 use Rattle.std.proofs.lemmas.Int.{ints}
 use Rattle.std.proofs.lemmas.List.{length-append, length-map}
-use Rattle.suit_cards.specs.Cards.{Counts}
+use Rattle.suit_cards.specs.Cards.{ClassLayout}
 use Rattle.suit_game.specs.declared.question.Question.{Question}
 use Rattle.suit_game.specs.Validity.{IsValid}
 use Rattle.suit_game.proofs.EachElement.{Contains-cons_cases, Contains-first, Contains-later, Contains-map_from}
 use Rattle.suit_game.proofs.EachElement.{Contains-nil, each_at, kept_parts, map_same}
 use Rattle.suit_classes.specs.declared.class_moves.ClassMove.{ClassMove}
-use Rattle.suit_classes.specs.AllowedHistories.{is_among}
+use Rattle.suit_classes.specs.WhatIsAllowed.{is_among}
 use Rattle.suit_classes.specs.ClassMoves.{same_class_move}
 use Rattle.suit_classes.specs.ClassPlaces.{class_after, class_decided, class_turn}
 use Rattle.suit_classes.proofs.SameMoves.{among-Contains, same_move-itself}
@@ -156,7 +156,7 @@ module _ (question : Question) (support : Support) (history : List ClassMove) wh
         absurd (some_legal question support history valid not_over account
         (account_there question support history rows accounts are account found) none)
     fit_one account number all found from to within move (Forced only alone is not same) among =
-        let west : Counts = counts_at question account.index in
+        let west : ClassLayout = counts_at question account.index in
         let moves : List ClassMove = supported_moves question support west history in
         subst (λ (b : Bool). IsFit all (advanced move (
           if b then record { index = account.index; row = number; factor = negsuc 0 } else account,
@@ -167,7 +167,7 @@ module _ (question : Question) (support : Support) (history : List ClassMove) wh
         ∙ (and_parts (is_declarers (class_turn (class_after question history)))
         (nat_lt 1 (length (legal_moves question [] history))) chooses).0))
     fit_one account number all found from to within move (Theirs chooses some same) among =
-        let west : Counts = counts_at question account.index in
+        let west : ClassLayout = counts_at question account.index in
         let moves : List ClassMove = supported_moves question support west history in
         let count : rows_of account ≡ length moves =
         ap (λ (b : Bool). length (if b then map (Answered west history) moves else [])) chooses

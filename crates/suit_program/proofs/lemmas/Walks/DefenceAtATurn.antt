@@ -10,14 +10,14 @@ use Rattle.std.proofs.lemmas.Bool.{and_parts}
 use Rattle.std.proofs.lemmas.Int.{clamps, ints}
 use Rattle.std.proofs.lemmas.List.{at_drop_more, drop_more}
 use Rattle.std.proofs.lemmas.List.Elements.{recursion_from_All}
-use Rattle.suit_cards.specs.Cards.{Counts}
+use Rattle.suit_cards.specs.Cards.{ClassLayout}
 use Rattle.suit_game.specs.declared.question.Question.{Question}
 use Rattle.suit_game.proofs.DistinctElements.{IsOnce}
 use Rattle.suit_classes.specs.declared.class_moves.ClassMove.{ClassMove}
 use Rattle.suit_classes.specs.ClassMoves.{ClassHistory, same_class_move}
 use Rattle.suit_plans.specs.declared.defence.DefenceRow.{DefenceRow}
 use Rattle.suit_plans.specs.Masses.{Shares, count_of}
-use Rattle.suit_plans.proofs.SharedSums.{count_case}
+use Rattle.suit_plans.proofs.SharesAddUpToTheMass.{count_case}
 use Rattle.suit_program.specs.Walks.DefenceWalks.{their_row, their_row_of}
 use Rattle.suit_program.specs.Walks.PlanWalks.{shares_here}
 use Rattle.suit_program.specs.Programs.{Answered, Limit, limits}
@@ -33,7 +33,8 @@ use Rattle.suit_program.proofs.lemmas.Readings.MassSharedOut.{AreLow, low_mapped
 -- ---- prices
 
 -- the prices of the answers to a choice are those in their places
-pub prices_here : (all : List Limit) (prices : List ℤ) (west : Counts) (history : ClassHistory) (moves : List ClassMove)
+pub prices_here : (all : List Limit) (prices : List ℤ) (west : ClassLayout) (history : ClassHistory)
+    (moves : List ClassMove)
     (row : ℕ) (rest : List Limit) → IsOnce all → length prices ≡ length all
     → drop row all ≡ map (Answered west history) moves ++ rest → row + length moves ≤ length all
     → counted moves (take (length moves) (drop row prices))
@@ -75,7 +76,7 @@ count_low [] move low = omega (arith, ints)
 count_low (count ∷ shares) move low =
     count_case (same_class_move count.0 move) count.1 (count_of shares move) low.0 (count_low shares move low.1)
 
-module _ (question : Question) (support : Support) (prices : List ℤ) (scale : ℤ) (west : Counts)
+module _ (question : Question) (support : Support) (prices : List ℤ) (scale : ℤ) (west : ClassLayout)
     (history : ClassHistory) where
   abbrev pub reading : Reading
   reading = defence_reading question support prices scale west

@@ -6,7 +6,7 @@ use Rattle.std.specs.Prelude.{Option, ℤ, set}
 use Rattle.std.proofs.lemmas.Bool.{cases_eq}
 use Rattle.std.proofs.lemmas.List.{get_or_append_left, get_or_at, get_or_default, get_or-set_other, get_or-set_same}
 use Rattle.std.proofs.lemmas.List.{length-set}
-use Rattle.suit_cards.specs.Cards.{Counts}
+use Rattle.suit_cards.specs.Cards.{ClassLayout}
 use Rattle.suit_classes.specs.declared.class_moves.ClassMove.{ClassMove}
 use Rattle.suit_classes.specs.ClassMoves.{ClassHistory}
 use Rattle.suit_plans.specs.Masses.{Shares}
@@ -113,7 +113,7 @@ added_more walk history masses shares n old new some list below many given lists
     }
 
 -- one more reader
-pub readers_more : (layouts : List (Counts × ℕ)) (prices : List ℤ) (readers now : List DefenceReader)
+pub readers_more : (layouts : List (ClassLayout × ℕ)) (prices : List ℤ) (readers now : List DefenceReader)
     (reader : DefenceReader) (n : ℕ) → now ≡ readers ++ reader ∷ [] → IsReaderAt layouts prices n reader
     → AreReaders layouts prices n readers → AreReaders layouts prices (n + 1) now
 readers_more layouts prices readers now reader n is here before = record {

@@ -7,7 +7,7 @@ use Rattle.std.specs.List.{flat_map}
 use Rattle.std.proofs.lemmas.Int.{ints}
 use Rattle.std.proofs.lemmas.List.{get_or-map, get_or_default, length-map}
 use Rattle.std.proofs.lemmas.List.Elements.{Contains-get_or}
-use Rattle.suit_cards.specs.Cards.{Counts}
+use Rattle.suit_cards.specs.Cards.{ClassLayout}
 use Rattle.suit_num.proofs.IntegerLaws.{mul_not_negative}
 use Rattle.suit_game.specs.declared.question.Question.{Question}
 use Rattle.suit_game.specs.declared.limits.TheConstants.{MOST_TOTAL}
@@ -15,7 +15,7 @@ use Rattle.suit_classes.specs.ClassMoves.{ClassHistory}
 use Rattle.suit_plans.specs.declared.defence.DefenceRow.{DefenceRow}
 use Rattle.suit_plans.specs.declared.plan.TheConstants.{MOST_DEN}
 use Rattle.suit_plans.specs.ReplyLaws.{counts_at}
-use Rattle.suit_plans.proofs.BoundedReplies.{weight_listed}
+use Rattle.suit_plans.proofs.RepliesAreBounded.{weight_listed}
 use Rattle.suit_plans.proofs.RowLimits.{weight_at_most}
 use Rattle.suit_tree.specs.declared.tree.Tree.{Tree}
 use Rattle.suit_program.specs.declared.walks.defence_reader.DefenceReader.{DefenceReader}
@@ -136,7 +136,7 @@ module _ (tree : Tree) (support : MarkedSupport) (prices : List ℤ) (scale : �
   abbrev pub root_stops : (walk : DefenceWalk) (reach : Reach) (history : ClassHistory) (masses : List ℤ)
       → walk.prices.now ≡ prices
       → AreReaders tree.layouts.items prices (length tree.layouts.items) walk.readers.now
-      → masses ≡ map (λ (layout : Counts × ℕ). pos layout.1 *ℤ scale) tree.layouts.items → IsReach q s [] reach
+      → masses ≡ map (λ (layout : ClassLayout × ℕ). pos layout.1 *ℤ scale) tree.layouts.items → IsReach q s [] reach
       → history ≡ [] → AreDefenceStops walk reach history 0 masses
   root_stops walk reach history masses priced readers is reached none = record {
     question = q;
@@ -147,29 +147,29 @@ module _ (tree : Tree) (support : MarkedSupport) (prices : List ℤ) (scale : �
     long = ap (λ (l : List ℤ). length l) priced ∙ case.long;
     rows = all_limits;
     many = ap (λ (l : List ℤ). length l) is
-        ∙ length-map tree.layouts.items (λ (layout : Counts × ℕ). pos layout.1 *ℤ scale) ∙ sym readers.long;
+        ∙ length-map tree.layouts.items (λ (layout : ClassLayout × ℕ). pos layout.1 *ℤ scale) ∙ sym readers.long;
     each = λ index reader mass below.
         let listed : index < length tree.layouts.items = subst (λ (n : ℕ). index < n) readers.long below in
         let at = readers.each index reader listed in
         root_stop (get_or walk.readers.now index reader) reach history (get_or masses index mass) index
-        (subst (λ (l : List (Counts × ℕ)). index < length l) case.grown.layouts listed) at.priced at.at
-        (at.west ∙ ap (λ (l : List (Counts × ℕ)). (get_or l index ([], 0)).0) case.grown.layouts) reached
+        (subst (λ (l : List (ClassLayout × ℕ)). index < length l) case.grown.layouts listed) at.priced at.at
+        (at.west ∙ ap (λ (l : List (ClassLayout × ℕ)). (get_or l index ([], 0)).0) case.grown.layouts) reached
         (ap (λ (l : List ℤ). get_or l index mass) is
-        ∙ get_or-map (λ (layout : Counts × ℕ). pos layout.1 *ℤ scale) tree.layouts.items index ([], 0) mass listed
-        ∙ ap (λ (l : List (Counts × ℕ)). pos (get_or l index ([], 0)).1 *ℤ scale) case.grown.layouts) none;
+        ∙ get_or-map (λ (layout : ClassLayout × ℕ). pos layout.1 *ℤ scale) tree.layouts.items index ([], 0) mass listed
+        ∙ ap (λ (l : List (ClassLayout × ℕ)). pos (get_or l index ([], 0)).1 *ℤ scale) case.grown.layouts) none;
   }
 
   -- the rows of all class layouts
   pub all_rows : (walk : DefenceWalk) (reach : Reach) (history : ClassHistory) (masses : List ℤ)
       → walk.prices.now ≡ prices
       → AreReaders tree.layouts.items prices (length tree.layouts.items) walk.readers.now
-      → masses ≡ map (λ (layout : Counts × ℕ). pos layout.1 *ℤ scale) tree.layouts.items → IsReach q s [] reach
+      → masses ≡ map (λ (layout : ClassLayout × ℕ). pos layout.1 *ℤ scale) tree.layouts.items → IsReach q s [] reach
       → history ≡ [] → (old new : List RowList) → length new ≡ length old
       → AreEmptyLists (length tree.layouts.items) old
       → AreRead walk reach history 0 masses old new
       → flat_map rows_of new ≡ flat_map (defence_rows_in q s prices scale) (layouts_of q)
   all_rows walk reach history masses priced readers is reached none old new same empty read =
-      let long = ap (λ (l : List (Counts × ℕ)). length l) case.grown.layouts in
+      let long = ap (λ (l : List (ClassLayout × ℕ)). length l) case.grown.layouts in
       same_pieces rows_of (defence_rows_in q s prices scale) new (layouts_of q)
       (same ∙ empty.long ∙ long)
       (λ i d e below.
@@ -177,7 +177,7 @@ module _ (tree : Tree) (support : MarkedSupport) (prices : List ℤ) (scale : �
       let reader : DefenceReader = some_of walk.readers.now (omega (arith, under)) in
       let at = readers.each i reader (omega (arith, below, long)) in
       let west : (get_or walk.readers.now i reader).west.now ≡ counts_at q i =
-      at.west ∙ ap (λ (l : List (Counts × ℕ)). (get_or l i ([], 0)).0) case.grown.layouts in
+      at.west ∙ ap (λ (l : List (ClassLayout × ℕ)). (get_or l i ([], 0)).0) case.grown.layouts in
       let stops = root_stops walk reach history masses priced readers is reached none in
       read i reader (pos 0) d under (stops.each i reader (pos 0) under)
       ∙ ap (λ (l : List DefenceRow). l
@@ -186,6 +186,6 @@ module _ (tree : Tree) (support : MarkedSupport) (prices : List ℤ) (scale : �
       (empty.each i d (omega (arith, below, long)))
       ∙ ap (λ (l : List ℤ). walked (their_row q s (get_or walk.readers.now i reader).west.now (defence_reading q s l
       scale (get_or walk.readers.now i reader).west.now)) q s []) at.priced
-      ∙ ap (λ (w : Counts). walked (their_row q s w (defence_reading q s prices scale w)) q s []) west
+      ∙ ap (λ (w : ClassLayout). walked (their_row q s w (defence_reading q s prices scale w)) q s []) west
       ∙ rows_walked i
       ∙ ap (defence_rows_in q s prices scale) (get_or_default (layouts_of q) i ([], 0) e below))

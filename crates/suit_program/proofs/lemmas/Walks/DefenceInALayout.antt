@@ -8,7 +8,7 @@ use Rattle.std.specs.List.{flat_map}
 use Rattle.std.proofs.lemmas.Bool.{cases_Bool}
 use Rattle.std.proofs.lemmas.List.{get_or-map, length-drop, length-map, length-take}
 use Rattle.std.proofs.lemmas.List.Elements.{Contains-get_or}
-use Rattle.suit_cards.specs.Cards.{Counts}
+use Rattle.suit_cards.specs.Cards.{ClassLayout}
 use Rattle.suit_game.specs.declared.question.Question.{Question}
 use Rattle.suit_game.proofs.EachElement.{Contains-filter, Contains-range}
 use Rattle.suit_classes.specs.declared.class_moves.ClassMove.{ClassMove}
@@ -57,7 +57,7 @@ module _ (reader : DefenceReader) (reach : Reach) (row : ℕ) (mass : ℤ)
   abbrev h : ClassHistory
   h = turn.history
 
-  abbrev west : Counts
+  abbrev west : ClassLayout
   west = counts_at q reader.index
 
   abbrev prices : List ℤ
@@ -75,7 +75,7 @@ module _ (reader : DefenceReader) (reach : Reach) (row : ℕ) (mass : ℤ)
     | inl there ↦ absurd (none (subst (λ (l : List ℕ). Contains l reader.index) (sym turn.reached.layouts)
         (Contains-filter (λ index. is_reached q s (counts_at q index) h) (layout_indices (layouts_of q)) reader.index
         (Contains-range 0 (length (layouts_of q)) reader.index (omega arith) (omega (arith, turn.listed)))
-        (ap (λ (w : Counts). is_reached q s w h) (sym turn.west) ∙ there))))
+        (ap (λ (w : ClassLayout). is_reached q s w h) (sym turn.west) ∙ there))))
     | inr not ↦ ap (λ (b : Bool). if b then shares_here reading h else None) (sym not)
   ]
 
@@ -96,13 +96,13 @@ module _ (reader : DefenceReader) (reach : Reach) (row : ℕ) (mass : ℤ)
         sym (get_or-map index reach.layouts.items place d 0 stands.below) ∙ stands.is
 
     there : is_reached q s reader.west.now h ≡ true
-    there = ap (λ (w : Counts). is_reached q s w h) turn.west
+    there = ap (λ (w : ClassLayout). is_reached q s w h) turn.west
         ∙ (index_parts q s h reader.index place_listed).1
 
     pub waits_told : defence_chooses q west h ≡ false → None ≡ turn_shares turn
     waits_told waits =
         ap (λ (b : Bool). if b then Some (read_shares reading h) else None)
-        (sym (ap (λ (w : Counts). defence_chooses q w h) turn.west ∙ waits))
+        (sym (ap (λ (w : ClassLayout). defence_chooses q w h) turn.west ∙ waits))
         ∙ ap (λ (b : Bool). if b then shares_here reading h else None) (sym there)
 
     -- ---- the prices of its answers
@@ -150,7 +150,8 @@ module _ (reader : DefenceReader) (reach : Reach) (row : ℕ) (mass : ℤ)
             (subst (λ (n : ℕ). row + before + n ≤ length (limits q s))
             (length-map moves (Answered west h)) stood.within)
             ∙ ap (map (λ move. (move, price_of (limits q s) prices west h move))) is
-            ∙ ap (λ (w : Counts). map (λ move. (move, price_of (limits q s) prices w h move)) (supported_moves q s w h))
+            ∙ ap (λ (w : ClassLayout). map (λ move. (move, price_of (limits q s) prices w h move))
+                (supported_moves q s w h))
             (sym turn.west)
 
         pub shares_told : (cut : List ℤ) → cut ≡ take (length moves) (drop first prices) → (shares : Shares)
@@ -160,7 +161,7 @@ module _ (reader : DefenceReader) (reach : Reach) (row : ℕ) (mass : ℤ)
             ∙ ap (λ (z : ℤ). filled z (map (λ move. (move, price_of (limits q s) prices reader.west.now h move))
             (supported_moves q s reader.west.now h))) (turn.is_mass there))
             ∙ ap (λ (b : Bool). if b then Some (read_shares reading h) else None)
-            (sym (ap (λ (w : Counts). defence_chooses q w h) turn.west ∙ chooses))
+            (sym (ap (λ (w : ClassLayout). defence_chooses q w h) turn.west ∙ chooses))
             ∙ ap (λ (b : Bool). if b then shares_here reading h else None) (sym there)
 
       -- the answers before it end within the prices

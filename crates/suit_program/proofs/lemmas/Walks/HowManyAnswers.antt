@@ -7,7 +7,7 @@ use Rattle.std.specs.List.{flat_map}
 use Rattle.std.proofs.lemmas.Grind.{flat_map-append}
 use Rattle.std.proofs.lemmas.List.{drop_all, drop_more, length-map, map-append, take-append-drop, take-map, take_all}
 use Rattle.std.proofs.lemmas.List.{take_more}
-use Rattle.suit_cards.specs.Cards.{Counts}
+use Rattle.suit_cards.specs.Cards.{ClassLayout}
 use Rattle.suit_game.specs.declared.question.Question.{Question}
 use Rattle.suit_classes.specs.declared.class_moves.ClassMove.{ClassMove}
 use Rattle.suit_classes.specs.ClassMoves.{ClassHistory}
@@ -101,9 +101,9 @@ module _ (question : Question) (support : Support) (history : ClassHistory) wher
     unfolding reached_layouts
     reached_few =
         let most = layouts_few question in
-        let fewer = kept_few (λ (layout : Counts × ℕ). is_reached question support layout.0 history)
+        let fewer = kept_few (λ (layout : ClassLayout × ℕ). is_reached question support layout.0 history)
         (layouts_of question) in
-        let same = ap (λ (l : List (Counts × ℕ)). length l) all_layouts in
+        let same = ap (λ (l : List (ClassLayout × ℕ)). length l) all_layouts in
         let one = length-map (map index_of reach.layouts.items) (layout_at question) in
         let other = length-map reach.layouts.items index_of in
         omega (arith, most, fewer, same, one, other)
@@ -125,7 +125,7 @@ module _ (question : Question) (support : Support) (history : ClassHistory) wher
         so_far
         ∙ ap (λ (k : ℕ). length (answered_by (take k layouts))) ends
         ∙ ap (λ (l : List ReachedLayout). length (answered_by (take count l))) same
-        ∙ ap (λ (l : List (Counts × ℕ)). length (flat_map (answered_limits question support history) l))
+        ∙ ap (λ (l : List (ClassLayout × ℕ)). length (flat_map (answered_limits question support history) l))
         (taken_layouts count)
 
     -- where there are as many as class layouts, they are all
@@ -135,7 +135,7 @@ module _ (question : Question) (support : Support) (history : ClassHistory) wher
         → n ≡ length (flat_map (answered_limits question support history)
         (reached_layouts question support history))
     answers_whole count n many is =
-        is ∙ ap (λ (l : List (Counts × ℕ)). length (flat_map (answered_limits question support history) l))
+        is ∙ ap (λ (l : List (ClassLayout × ℕ)). length (flat_map (answered_limits question support history) l))
         (sym (taken_layouts count)
         ∙ ap (λ (l : List ReachedLayout). map (layout_at question) (map index_of l))
         (take_all count reach.layouts.items (omega (arith, many)))
@@ -167,7 +167,7 @@ module _ (question : Question) (support : Support) (history : ClassHistory) wher
         else flat_map (answered_limits question support history) (reached_layouts question support history))) waits
         stands in
         stands_first all _ here after
-        (subst (λ (l : List (Counts × ℕ)). StandsIn all
+        (subst (λ (l : List (ClassLayout × ℕ)). StandsIn all
         (row + length (flat_map (answered_limits question support history) l)) (here ++ after)) (taken_layouts place)
         (stands_later all row before (here ++ after) (subst (StandsIn all row) parts stood)))
 

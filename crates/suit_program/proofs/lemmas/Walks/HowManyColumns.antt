@@ -8,7 +8,7 @@ use Rattle.std.specs.List.{AllByRecursion, flat_map}
 use Rattle.std.proofs.lemmas.Grind.{flat_map-append}
 use Rattle.std.proofs.lemmas.List.{get_or-map, length-map, map-append, take_all, take_more}
 use Rattle.std.proofs.lemmas.List.Elements.{Contains-get_or}
-use Rattle.suit_cards.specs.Cards.{Counts}
+use Rattle.suit_cards.specs.Cards.{ClassLayout}
 use Rattle.suit_game.specs.declared.question.Question.{Question}
 use Rattle.suit_classes.specs.declared.class_moves.ClassMove.{ClassMove}
 use Rattle.suit_classes.specs.ClassMoves.{ClassHistory}
@@ -65,7 +65,7 @@ held_more question history layouts i d b n m below is so_far more =
     ∙ sym (length-append (held_by question history before) (held_by question history (layout ∷ [])))
     ∙ ap (λ (l : List Column). length l) (sym (flat_map-append (held_column question history)
     (map (layout_at question) (map index before)) (map (layout_at question) (map index (layout ∷ [])))))
-    ∙ ap (λ (l : List (Counts × ℕ)). length (flat_map (held_column question history) l))
+    ∙ ap (λ (l : List (ClassLayout × ℕ)). length (flat_map (held_column question history) l))
     (sym (map-append (layout_at question) (map index before) (map index (layout ∷ [])))
     ∙ ap (map (layout_at question)) (sym (map-append index before (layout ∷ []))
     ∙ ap (map index) (sym (take_more layouts i d below))))
@@ -80,7 +80,7 @@ held_all question support history reach is layouts same i n past so_far =
     so_far
     ∙ ap (λ (l : List ReachedLayout). length (held_by question history l)) (take_all i layouts past ∙ same)
     ∙ ap (λ (l : List ℕ). length (flat_map (held_column question history) (map (layout_at question) l))) is.layouts
-    ∙ ap (λ (l : List (Counts × ℕ)). length (flat_map (held_column question history) l))
+    ∙ ap (λ (l : List (ClassLayout × ℕ)). length (flat_map (held_column question history) l))
     (sym (reached_at question support history))
 
 -- ---- the columns of a class history
@@ -115,7 +115,7 @@ each_more : {X : Type 0} (P : X → Type 0) (xs ys : List X) → AllByRecursion 
 each_more P [] ys each later = later
 each_more P (x ∷ xs) ys each later = (each.0, each_more P xs ys each.1 later)
 
-none_passed : (question : Question) (history : ClassHistory) (layouts : List (Counts × ℕ))
+none_passed : (question : Question) (history : ClassHistory) (layouts : List (ClassLayout × ℕ))
     → AllByRecursion (λ b. b ≡ false) (map is_passed (flat_map (held_column question history) layouts))
 unfolding held_column
 none_passed question history [] = tt

@@ -4,14 +4,14 @@ use Rattle.std.proofs.Common.{◌-◌, ◌^◌, subst, arith, pos}
 use Rattle.std.specs.Prelude.{Contains}
 use Rattle.std.specs.List.{range_with_len}
 use Rattle.std.proofs.lemmas.List.Elements.{Contains-get_or}
-use Rattle.suit_cards.specs.Cards.{Counts}
+use Rattle.suit_cards.specs.Cards.{ClassLayout}
 use Rattle.suit_game.specs.declared.question.Question.{Question}
 use Rattle.suit_game.specs.Validity.{IsValid}
 use Rattle.suit_game.proofs.EachElement.{Contains-first, Contains-later, Contains-nil}
 use Rattle.suit_game.specs.declared.limits.TheConstants.{MOST_SUPPORT, MOST_TOTAL}
 use Rattle.suit_classes.specs.Classes.{defence_sizes, hands_of}
 use Rattle.suit_classes.proofs.DefenceSizes.{sum-defence_sizes}
-use Rattle.suit_layouts.proofs.ListedCounts.{class_layouts_exact}
+use Rattle.suit_layouts.proofs.WhatHasWeightIsListed.{class_layouts_exact}
 use Rattle.suit_plans.proofs.RowLimits.{weight_at_most}
 use Rattle.suit_plans.specs.Properness.{sum_of}
 use Rattle.suit_tree.specs.declared.tree.Tree.{Tree}
@@ -32,7 +32,8 @@ use Rattle.suit_program.proofs.lemmas.Walks.AccountsAtTheStart.{start_accounts}
 use Rattle.suit_program.proofs.lemmas.Walks.ObjectiveIsOwed.{start_written, whole_accounts}
 
 -- the weights of a question's class layouts are small
-layout_weighs : (question : Question) → IsValid question → (layout : Counts × ℕ) → Contains (layouts_of question) layout
+layout_weighs : (question : Question) → IsValid question → (layout : ClassLayout × ℕ)
+    → Contains (layouts_of question) layout
     → layout.1 ≤ MOST_TOTAL
 layout_weighs question valid layout found =
     let exact = (class_layouts_exact question (defence_sizes (hands_of question)) layout.0 layout.1
@@ -46,7 +47,8 @@ pub layouts_weigh : (question : Question) → IsValid question
 layouts_weigh question valid = λ k d below.
     layout_weighs question valid (get_or (layouts_of question) k d) (Contains-get_or (layouts_of question) k d below)
 
-few_at : (most : ℕ) (layouts : List (Counts × ℕ)) → ((layout : Counts × ℕ) → Contains layouts layout → layout.1 ≤ most)
+few_at : (most : ℕ) (layouts : List (ClassLayout × ℕ)) → ((layout : ClassLayout × ℕ) → Contains layouts layout
+    → layout.1 ≤ most)
     → (index : ℕ) → (get_or layouts index ([], 0)).1 ≤ most
 few_at most [] all index = omega arith
 few_at most (first ∷ layouts) all zero = all first (Contains-first first layouts)
@@ -58,7 +60,7 @@ pub weights_few : (question : Question) → IsValid question → (index : ℕ)
 weights_few question valid = few_at MOST_TOTAL (layouts_of question) (layout_weighs question valid)
 
 -- the accounts at the start, by the class layouts
-abbrev pub accounts_of : List (Counts × ℕ) → List Account
+abbrev pub accounts_of : List (ClassLayout × ℕ) → List Account
 accounts_of layouts =
     map (λ index. record { index = index; row = 0; factor = pos (get_or layouts index ([], 0)).1 })
     (range_with_len 0 (length layouts))

@@ -4,13 +4,13 @@ use Rattle.std.proofs.Common.{get_or}
 use Rattle.std.proofs.Common.{map, take, drop, refl, sym, ap, ◌∙◌, append-nil, append_assoc, arith}
 use Rattle.std.specs.Prelude.{Contains, filter}
 use Rattle.std.specs.List.{flat_map}
-use Rattle.suit_cards.specs.Cards.{Counts}
+use Rattle.suit_cards.specs.Cards.{ClassLayout}
 use Rattle.suit_game.specs.declared.question.Question.{Question}
 use Rattle.suit_game.proofs.ListSums.{length_filter-most}
 use Rattle.std.proofs.lemmas.List.{map-append, take-append-drop, take_all, take_more}
 use Rattle.std.proofs.lemmas.List.Elements.{filter-append}
 use Rattle.suit_classes.specs.declared.class_moves.ClassMove.{ClassMove}
-use Rattle.suit_classes.specs.AllowedHistories.{every_move, is_among}
+use Rattle.suit_classes.specs.WhatIsAllowed.{every_move, is_among}
 use Rattle.suit_classes.specs.ClassPlaces.{class_numbers}
 use Rattle.suit_classes.proofs.SameMoves.{among-Contains}
 use Rattle.suit_tree.specs.declared.node.Node.{Node}
@@ -39,7 +39,7 @@ pub next_few : (question : Question) (support : Support) (history : List ClassMo
     → length (next_moves question support history) ≤ MOST_NEXT
 unfolding next_moves
 next_few question support history =
-    let less = length_filter-most (is_among (flat_map (λ (layout : Counts × ℕ).
+    let less = length_filter-most (is_among (flat_map (λ (layout : ClassLayout × ℕ).
     supported_moves question support layout.0 history) (reached_layouts question support history))) every_move in
     let all = few_moves in
     omega (arith, less, all)

@@ -10,18 +10,18 @@ use Rattle.std.proofs.lemmas.Bool.{ltb-true}
 use Rattle.std.proofs.lemmas.Bool.Decides.{same_from_decides}
 use Rattle.std.proofs.lemmas.List.{length-append, map-id}
 use Rattle.std.proofs.lemmas.List.Elements.{Contains-get_or, filter_agree}
-use Rattle.suit_cards.specs.Cards.{Counts, Indices}
+use Rattle.suit_cards.specs.Cards.{ClassLayout, Indices}
 use Rattle.suit_game.specs.declared.question.Question.{Question}
 use Rattle.suit_game.specs.Validity.{IsValid}
 use Rattle.suit_game.proofs.EachElement.{Contains-first, kept_parts}
 use Rattle.suit_classes.specs.declared.class_moves.ClassMove.{ClassMove}
 use Rattle.suit_classes.specs.declared.class_moves.ClassMove.TheVariants.{ShowOut}
 use Rattle.suit_classes.specs.declared.class_view.ClassView.{ClassView}
-use Rattle.suit_classes.specs.AllowedHistories.{every_move, is_among}
+use Rattle.suit_classes.specs.WhatIsAllowed.{every_move, is_among}
 use Rattle.suit_classes.specs.ClassMoves.{ClassHistory}
 use Rattle.suit_classes.specs.ClassPlaces.{class_after, class_decided, class_moves, class_turn}
-use Rattle.suit_classes.proofs.AllowedHistories.{allowed_moves}
-use Rattle.suit_classes.proofs.DecidedPlays.{class_histories_are_short}
+use Rattle.suit_classes.proofs.AllowedMoveByMove.{allowed_moves}
+use Rattle.suit_classes.proofs.DecidedStaysDecided.{class_histories_are_short}
 use Rattle.suit_classes.proofs.EveryMove.{class_moves_listed}
 use Rattle.suit_classes.proofs.MovesOnce.{filter_of_map}
 use Rattle.suit_classes.proofs.SameMoves.{among-Contains, among_contained}
@@ -31,9 +31,9 @@ use Rattle.suit_plans.proofs.TurnMoves.{declarers_moves}
 use Rattle.suit_tree.specs.declared.node.Node.{Node}
 use Rattle.suit_tree.specs.Nodes.{children_of, holds_index, is_held, move_of, move_to}
 use Rattle.suit_tree.specs.Trees.{AllFit, IsTreeAt, allowing, layout_indices, moves_on}
-use Rattle.suit_tree.proofs.CountedNodes.{in_range_below, kept_layouts}
-use Rattle.suit_tree.proofs.FittedNodes.{fitted_node, map_fitted, map_fitted_kept}
-use Rattle.suit_tree.proofs.HeldMoves.{going_on, held_moves, index_goes_on, some_held}
+use Rattle.suit_tree.proofs.OneNodeAtEachPath.{in_range_below, kept_layouts}
+use Rattle.suit_tree.proofs.NodesFitMoves.{fitted_node, map_fitted, map_fitted_kept}
+use Rattle.suit_tree.proofs.ClassMovesLeadToNodes.{going_on, held_moves, index_goes_on, some_held}
 use Rattle.suit_tree.proofs.MovesOn.{moves_on-parts}
 use Rattle.suit_tree.proofs.NodePaths.{tree_stands}
 use Rattle.suit_program.specs.Walks.Reaches.{reached_indices}
@@ -65,7 +65,7 @@ nil_from_none (x ∷ xs) none = absurd (none x (Contains-first x xs))
 
 module _ (question : Question) where
   -- the class layout at an index
-  abbrev pub layout_at : ℕ → Counts × ℕ
+  abbrev pub layout_at : ℕ → ClassLayout × ℕ
   layout_at index = get_or (layouts_of question) index ([], 0)
 
   pub layout_listed : (index : ℕ) → index < length (layouts_of question)
@@ -77,7 +77,7 @@ module _ (question : Question) (support : Support) (history : ClassHistory) wher
       ≡ map (layout_at question) (reached_indices question support history)
   unfolding reached_layouts reached_indices
   reached_at =
-      let may : Counts × ℕ → Bool = λ layout. is_reached question support layout.0 history in
+      let may : ClassLayout × ℕ → Bool = λ layout. is_reached question support layout.0 history in
       ap (filter may) (sym (by_indices (layouts_of question) ([], 0)))
       ∙ filter_of_map may (layout_at question) (layout_indices (layouts_of question))
 

@@ -6,7 +6,7 @@ use Rattle.std.proofs.Common.{sym, ap, ◌∙◌, subst, arith}
 use Rattle.std.specs.Prelude.{◌==◌, if◌then◌else◌, ℤ, pos, ◌+ℤ◌, ◌*ℤ◌}
 use Rattle.std.specs.List.{range_with_len}
 use Rattle.std.proofs.lemmas.Int.{ints}
-use Rattle.suit_cards.specs.Cards.{Counts}
+use Rattle.suit_cards.specs.Cards.{ClassLayout}
 use Rattle.suit_game.specs.declared.question.Question.{Question}
 use Rattle.suit_plans.specs.Properness.{sum_of}
 use Rattle.suit_plans.specs.ReplyLaws.{counts_at}
@@ -32,7 +32,7 @@ abbrev pub whole_accounts : Question → List Account
 whole_accounts question = map (whole_account question) (range_with_len 0 (length (layouts_of question)))
 
 module _ (question : Question) (support : Support) (point : Point) where
-  abbrev weighed : Counts × ℕ → ℤ
+  abbrev weighed : ClassLayout × ℕ → ℤ
   weighed layout = pos layout.1 *ℤ worth_at question support point layout.0 []
 
   -- what the accounts owe at the start

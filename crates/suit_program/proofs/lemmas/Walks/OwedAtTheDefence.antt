@@ -5,7 +5,7 @@ use Rattle.std.proofs.Common.{sym, ap, ◌∙◌, subst, arith}
 use Rattle.std.specs.Prelude.{Contains, ◌==◌, if◌then◌else◌, nat_lt, ℤ, pos, negsuc, ◌+ℤ◌, ◌-ℤ◌, ◌*ℤ◌}
 use Rattle.std.proofs.lemmas.Bool.{and_parts, false≢true, false_from_ne_true}
 use Rattle.std.proofs.lemmas.Int.{ints}
-use Rattle.suit_cards.specs.Cards.{Counts}
+use Rattle.suit_cards.specs.Cards.{ClassLayout}
 use Rattle.suit_game.specs.declared.question.Question.{Question}
 use Rattle.suit_game.specs.Validity.{IsValid}
 use Rattle.suit_game.proofs.DistinctElements.{IsOnce}
@@ -15,7 +15,7 @@ use Rattle.suit_classes.specs.declared.class_moves.ClassMove.{ClassMove}
 use Rattle.suit_classes.specs.ClassMoves.{same_class_move}
 use Rattle.suit_classes.specs.ClassPlaces.{class_after, class_decided, class_turn}
 use Rattle.suit_classes.proofs.SameMoves.{same_move-itself, same_move_is}
-use Rattle.suit_classes.proofs.UndecidedMoves.{some_move}
+use Rattle.suit_classes.proofs.UndecidedHasAMove.{some_move}
 use Rattle.suit_plans.specs.Masses.{is_declarers}
 use Rattle.suit_plans.specs.Properness.{sum_of}
 use Rattle.suit_plans.specs.ReplyLaws.{counts_at}
@@ -61,7 +61,7 @@ first_row true held worth before after told is = omega (arith, ints, is)
 first_row false held worth before after told is = omega (arith, ints, is)
 
 -- of rows that each start with the column every one is credited with what its move is worth
-placed_rows : (west : Counts) (history : List ClassMove) (held : ℤ) (worth : ClassMove → ℤ) (row : ℕ)
+placed_rows : (west : ClassLayout) (history : List ClassMove) (held : ℤ) (worth : ClassMove → ℤ) (row : ℕ)
     (before after : Limit → ℤ) → ((move : ClassMove) → before (Answered west history move) ≡ held)
     → ((move : ClassMove) → after (Answered west history move) ≡ held -ℤ worth move)
     → (moves : List ClassMove) → IsOnce moves → (first : ℕ)
@@ -102,7 +102,7 @@ pub some_legal : (question : Question) (support : Support) (history : List Class
     → IsThere question support history account → legal_moves question (counts_at question account.index) history ≡ []
     → ⊥
 some_legal question support history valid not_over account there none =
-    let west : Counts = counts_at question account.index in
+    let west : ClassLayout = counts_at question account.index in
     let some = some_move question west history
     (reached_allows question support valid (layout_of question account) there.listed history there.reached) not_over in
     apart (sym none ∙ legal_going question support west history west not_over ∙ some.parts)
@@ -122,14 +122,14 @@ module _ (question : Question) (support : Support) (point : Point) (history : Li
   -- what is written for a class layout and handed on, and what that comes to
   abbrev one_before : Account → ℕ → List ClassMove → Bool → ℤ
   one_before account first moves chooses =
-      let west : Counts = counts_at question account.index in
+      let west : ClassLayout = counts_at question account.index in
       (if chooses then credit row account (point.at (Held west history)) else pos 0)
       +ℤ (told (held_at point) first (if chooses then map (Answered west history) moves else []) row
       +ℤ handed (if chooses then record { index = account.index; row = first; factor = negsuc 0 } else account, moves))
 
   abbrev one_after : Account → ℕ → List ClassMove → Bool → ℤ
   one_after account first moves chooses =
-      let west : Counts = counts_at question account.index in
+      let west : ClassLayout = counts_at question account.index in
       credit row account (worth_at question support point west history)
       +ℤ told (excess question support point) first (if chooses then map (Answered west history) moves else []) row
 
@@ -139,7 +139,7 @@ module _ (question : Question) (support : Support) (point : Point) (history : Li
       ≡ one_after account first (supported_moves question support (counts_at question account.index) history) true
   unfolding excess
   chosen_told account first short chooses =
-      let west : Counts = counts_at question account.index in
+      let west : ClassLayout = counts_at question account.index in
       let moves : List ClassMove = supported_moves question support west history in
       let rows = placed_rows west history (point.at (Held west history)) (worth_in account) row (held_at point)
       (excess question support point) (λ move. refl) (λ move. refl) moves
@@ -185,7 +185,7 @@ module _ (question : Question) (support : Support) (point : Point) (history : Li
     one_told account first there (Ended none nothing not) = absurd
         (some_legal question support history valid not_over account there none)
     one_told account first there (Forced move alone only not same) =
-        let west : Counts = counts_at question account.index in
+        let west : ClassLayout = counts_at question account.index in
         let moves : List ClassMove = supported_moves question support west history in
         let short = reached_short question support valid (layout_of question account) there.listed history there.reached
         in
@@ -198,7 +198,7 @@ module _ (question : Question) (support : Support) (point : Point) (history : Li
         ∙ (and_parts (is_declarers (class_turn (class_after question history)))
         (nat_lt 1 (length (legal_moves question [] history))) chooses).0))
     one_told account first there (Theirs chooses some same) =
-        let west : Counts = counts_at question account.index in
+        let west : ClassLayout = counts_at question account.index in
         let moves : List ClassMove = supported_moves question support west history in
         let short = reached_short question support valid (layout_of question account) there.listed history there.reached
         in
@@ -220,7 +220,7 @@ module _ (question : Question) (support : Support) (point : Point) (history : Li
     unfolding opened sum_of told answered_limits
     theirs_told [] first each = omega (arith, ints)
     theirs_told (account ∷ accounts) first each =
-        let west : Counts = counts_at question account.index in
+        let west : ClassLayout = counts_at question account.index in
         let rows : List Limit = answered_limits question support history (layout_of question account) in
         let others : List Limit = answered_rows question support history accounts in
         joined

@@ -6,7 +6,7 @@ use Rattle.std.specs.Prelude.{Contains, ◌==◌, filter, if◌then◌else◌, �
 use Rattle.std.proofs.lemmas.Int.{ints}
 use Rattle.suit_game.proofs.EachElement.{map_same}
 use Rattle.suit_classes.specs.declared.class_moves.ClassMove.{ClassMove}
-use Rattle.suit_classes.specs.AllowedHistories.{is_among}
+use Rattle.suit_classes.specs.WhatIsAllowed.{is_among}
 use Rattle.suit_plans.specs.Properness.{sum_of}
 use Rattle.suit_plans.proofs.NumberSums.{sum_kept, sums_exchanged}
 use Rattle.suit_program.specs.Walks.Ledgers.{Given}

@@ -17,7 +17,7 @@ use Rattle.suit_program.specs.Supports.Marks.{support_seen}
 use Rattle.suit_program.specs.Walks.PlanWalks.{IsPlanStop, reading_of, row_here}
 use Rattle.suit_program.specs.Programs.{columns, columns_at}
 use Rattle.suit_program.specs.Walks.Reaches.{IsReach}
-use Rattle.suit_program.specs.Readings.ReadOptima.{IsPlanCase}
+use Rattle.suit_program.specs.Readings.ReadingOfAnOptimum.{IsPlanCase}
 use Rattle.suit_program.specs.Readings.ReadingLaws.{plan_read}
 use Rattle.suit_program.specs.Readings.{Reading, has_row, parts_of, plan_at, plan_den, plan_point, read_from, read_mass}
 use Rattle.suit_program.specs.Readings.{row_counts}

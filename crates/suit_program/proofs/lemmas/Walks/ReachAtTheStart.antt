@@ -9,7 +9,7 @@ use Rattle.std.proofs.lemmas.List.{length-map, map-id}
 use Rattle.std.proofs.lemmas.List.FromFn.{length-range_with_len}
 use Rattle.std.proofs.lemmas.Simd.{map-map}
 use Rattle.std.proofs.lemmas.Slice.Eq.{bytes_eq-Decides}
-use Rattle.suit_cards.specs.Cards.{Counts, Indices}
+use Rattle.suit_cards.specs.Cards.{ClassLayout, Indices}
 use Rattle.suit_game.specs.declared.question.Question.{Question}
 use Rattle.suit_game.specs.Validity.{IsValid}
 use Rattle.suit_game.proofs.ListSums.{length_filter-most}
@@ -19,15 +19,15 @@ use Rattle.suit_classes.specs.Classes.{defence_sizes, hands_of, sizes_of}
 use Rattle.suit_classes.specs.ClassMoves.{ClassHistory}
 use Rattle.suit_classes.proofs.DefenceSizes.{defence_sizes-some, length-defence_sizes, sum-defence_sizes}
 use Rattle.suit_layouts.proofs.FewCounts.{class_layouts_few}
-use Rattle.suit_layouts.proofs.RisingCounts.{class_layouts_rise}
+use Rattle.suit_layouts.proofs.ClassLayoutsRise.{class_layouts_rise}
 use Rattle.suit_layouts.specs.declared.class_list.TheConstants.{MOST_CLASS_LAYOUTS}
 use Rattle.suit_plans.specs.Orders.{counts_before}
 use Rattle.suit_plans.specs.ReplyLaws.{counts_at}
-use Rattle.suit_plans.proofs.BoundedReplies.{some_allow_none}
+use Rattle.suit_plans.proofs.RepliesAreBounded.{some_allow_none}
 use Rattle.suit_plans.proofs.PublicMoves.{allowing_parts, passing_some, some_layout, some_passing}
 use Rattle.suit_tree.specs.declared.tree.Tree.{Tree}
 use Rattle.suit_tree.specs.Trees.{IsTreeAt, IsTreeOf, layout_indices}
-use Rattle.suit_tree.proofs.CountedNodes.{in_range_below}
+use Rattle.suit_tree.proofs.OneNodeAtEachPath.{in_range_below}
 use Rattle.suit_program.specs.declared.supports.mark.Mark.{Mark}
 use Rattle.suit_program.specs.declared.walks.reach.Reach.{Reach}
 use Rattle.suit_program.specs.declared.walks.reach.ReachedLayout.{ReachedLayout}
@@ -52,7 +52,7 @@ module _ (question : Question) where
       → counts_at question i ≡ counts_at question j → ⊥
   counts_apart i j less below same =
       false≢true (sym (counts-never (counts_at question j))
-      ∙ subst (λ (counts : Counts). counts_before counts (counts_at question j) ≡ true) same
+      ∙ subst (λ (counts : ClassLayout). counts_before counts (counts_at question j) ≡ true) same
       (less_before (counts_at question i) (counts_at question j)
       (class_layouts_rise question (sizes_of question) i j ([], 0) less below)))
 

@@ -11,15 +11,15 @@ use Rattle.std.proofs.lemmas.Bool.{cases_Bool, false≢true, false_from_ne_true,
 use Rattle.std.proofs.lemmas.List.{append-nil, append_assoc, length-append, length-map}
 use Rattle.std.proofs.lemmas.List.Elements.{Contains-get_or, filter_agree}
 use Rattle.std.proofs.lemmas.Simd.{map-map}
-use Rattle.suit_cards.specs.Cards.{Counts, Indices}
-use Rattle.suit_cards.proofs.SuitRuns.{filter-filter}
+use Rattle.suit_cards.specs.Cards.{ClassLayout, Indices}
+use Rattle.suit_lists.proofs.Filters.{filter-filter}
 use Rattle.suit_game.specs.declared.question.Question.{Question}
 use Rattle.suit_game.proofs.DistinctElements.{IsOnce}
 use Rattle.suit_game.proofs.EachElement.{Contains-first, Contains-later, Contains-map, Contains-map_from, each_at}
 use Rattle.suit_game.proofs.EachElement.{kept_parts}
 use Rattle.suit_classes.specs.declared.class_moves.ClassMove.{ClassMove}
 use Rattle.suit_classes.specs.declared.class_view.ClassView.{ClassView}
-use Rattle.suit_classes.specs.AllowedHistories.{every_move, is_among}
+use Rattle.suit_classes.specs.WhatIsAllowed.{every_move, is_among}
 use Rattle.suit_classes.specs.ClassMoves.{ClassHistory, same_class_move}
 use Rattle.suit_classes.specs.ClassPlaces.{class_after, class_decided, class_moves, class_turn}
 use Rattle.suit_classes.proofs.DistinctMoves.{once_class_moves}
@@ -34,7 +34,7 @@ use Rattle.suit_plans.proofs.WhoseTurns.{Declarers, Defences, Over, WhoseTurn, o
 use Rattle.suit_tree.specs.declared.node.Node.{Node}
 use Rattle.suit_tree.specs.Nodes.{children_of, holds_index, is_held, move_of, turn_at}
 use Rattle.suit_tree.specs.Trees.{IsTreeAt, allowing, layout_indices, moves_on}
-use Rattle.suit_tree.proofs.HeldMoves.{going_on, held_is, index_goes_on, some_held}
+use Rattle.suit_tree.proofs.ClassMovesLeadToNodes.{going_on, held_is, index_goes_on, some_held}
 use Rattle.suit_tree.proofs.MovesOn.{moves_on-parts}
 use Rattle.suit_tree.proofs.NodePaths.{tree_stands}
 use Rattle.suit_program.specs.declared.supports.mark.Mark.{Mark}
@@ -206,7 +206,7 @@ module _ (question : Question) (support : Support) (history : ClassHistory) (rea
   abbrev indices : Indices
   indices = reached_indices question support history
 
-  abbrev counts_of : ReachedLayout → Counts
+  abbrev counts_of : ReachedLayout → ClassLayout
   counts_of layout = counts_at question layout.index
 
   -- whose turn it is
@@ -259,7 +259,7 @@ module _ (question : Question) (support : Support) (history : ClassHistory) (rea
       (sym (own_moves_are own ∙ legal_going question support [] history [] (own_turn view own).0))
       (once_class_moves view [])
 
-  own_names : is_declarers (class_turn view) ≡ true → (west : Counts) (move : ClassMove)
+  own_names : is_declarers (class_turn view) ≡ true → (west : ClassLayout) (move : ClassMove)
       → names question support west history move ≡ own_named reach move
   own_names own west move =
       ap (λ (b : Bool). if b then support.declarers history move else support.defences west history move) own
@@ -448,7 +448,7 @@ module _ (question : Question) (support : Support) (history : ClassHistory) (rea
   -- ---- the class histories that go on
 
   abbrev all : List ClassMove
-  all = flat_map (λ (layout : Counts × ℕ). supported_moves question support layout.0 history)
+  all = flat_map (λ (layout : ClassLayout × ℕ). supported_moves question support layout.0 history)
       (reached_layouts question support history)
 
   all_among : (move : ClassMove) → is_among all move
@@ -456,8 +456,8 @@ module _ (question : Question) (support : Support) (history : ClassHistory) (rea
       move) reach.layouts.items
   unfolding is_among
   all_among move =
-      let has : Counts × ℕ → Bool = λ layout. is_among (supported_moves question support layout.0 history) move in
-      any_flat_map (same_class_move move) (λ (layout : Counts × ℕ). supported_moves question support layout.0 history)
+      let has : ClassLayout × ℕ → Bool = λ layout. is_among (supported_moves question support layout.0 history) move in
+      any_flat_map (same_class_move move) (λ (layout : ClassLayout × ℕ). supported_moves question support layout.0 history)
       (reached_layouts question support history)
       ∙ ap (list_any has) (reached_at question support history)
       ∙ any_of_map has (layout_at question) indices

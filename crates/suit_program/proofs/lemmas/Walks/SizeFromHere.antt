@@ -8,7 +8,7 @@ use Rattle.std.proofs.lemmas.Bool.{and_parts}
 use Rattle.std.proofs.lemmas.List.{length-map}
 use Rattle.std.proofs.lemmas.List.Concat.{length-flat_map}
 use Rattle.std.proofs.lemmas.List.Sums.{sum_by-append, sum_by-cons}
-use Rattle.suit_cards.specs.Cards.{Counts}
+use Rattle.suit_cards.specs.Cards.{ClassLayout}
 use Rattle.suit_game.specs.declared.question.Question.{Question}
 use Rattle.suit_game.proofs.ListSums.{sum_by_flat_map, sum_by_map, sum_by_same}
 use Rattle.suit_classes.specs.ClassMoves.{ClassHistory}
@@ -66,7 +66,7 @@ chooses_own question history chooses =
     (nat_lt 1 (length (legal_moves question [] history))) chooses).0
 
 -- and where the defence has one a defender is
-pub chooses_theirs : (question : Question) (west : Counts) (history : ClassHistory)
+pub chooses_theirs : (question : Question) (west : ClassLayout) (history : ClassHistory)
     → defence_chooses question west history ≡ true → is_defences (class_turn (class_after question history)) ≡ true
 unfolding defence_chooses
 chooses_theirs question west history chooses =
@@ -99,7 +99,7 @@ module _ (question : Question) (support : Support) (history : ClassHistory) wher
       ∙ ap (λ (n : ℕ). 1 + n) (length-map (supported_moves question support [] history) (Passed history))
 
   -- in a class layout where the defence has a choice
-  pub choice_size : (layout : Counts × ℕ) → defence_chooses question layout.0 history ≡ true
+  pub choice_size : (layout : ClassLayout × ℕ) → defence_chooses question layout.0 history ≡ true
       → layout_size question support history layout
       ≡ 1 + length (supported_moves question support layout.0 history)
   unfolding answered_limits held_column
@@ -115,7 +115,7 @@ module _ (question : Question) (support : Support) (history : ClassHistory) wher
       turned n m same = omega (arith, same)
 
   -- where it has none
-  pub no_choice_size : (layout : Counts × ℕ) → defence_chooses question layout.0 history ≡ false
+  pub no_choice_size : (layout : ClassLayout × ℕ) → defence_chooses question layout.0 history ≡ false
       → layout_size question support history layout ≡ 0
   unfolding answered_limits held_column
   no_choice_size layout waits =
@@ -133,7 +133,7 @@ module _ (question : Question) (support : Support) (history : ClassHistory) wher
         → size_at question support history ≡ sum_by size_in reach.layouts.items
     unfolding limits_at columns_at
     their_size waits =
-        let layouts : List (Counts × ℕ) = reached_layouts question support history in
+        let layouts : List (ClassLayout × ℕ) = reached_layouts question support history in
         let indexed : ℕ → ℕ = λ index. layout_size question support history (layout_at question index) in
         ap (λ (b : Bool). length (if b then Shared history ∷ []
         else flat_map (answered_limits question support history) layouts)

@@ -14,7 +14,7 @@ use Rattle.suit_classes.specs.declared.class_turn.ClassTurn.TheVariants as turn_
 use Rattle.suit_classes.specs.ClassPlaces.{class_after, class_decided, class_payoff, class_turn}
 use Rattle.suit_plans.specs.Masses.{is_declarers, is_defences}
 use Rattle.suit_plans.specs.ReplyLaws.{counts_at}
-use Rattle.suit_plans.proofs.PaidWorths.{paid_most}
+use Rattle.suit_plans.proofs.AtMostThirteenTricks.{paid_most}
 use Rattle.suit_plans.proofs.WhoseTurns.{Declarers, Defences, Over, WhoseTurn, own_turn, their_turn, whose_turn}
 use Rattle.suit_tree.specs.Nodes.{payoff_at, turn_at}
 use Rattle.suit_tree.proofs.NodePaths.{tree_stands}

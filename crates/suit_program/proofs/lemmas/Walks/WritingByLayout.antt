@@ -6,7 +6,7 @@ use Rattle.std.specs.Prelude.{◌==◌, if◌then◌else◌, ℤ, pos, negsuc, �
 use Rattle.std.proofs.lemmas.Int.{ints}
 use Rattle.std.proofs.lemmas.List.{length-append, length-map, map-append}
 use Rattle.std.proofs.lemmas.List.Concat.{flat_map-append}
-use Rattle.suit_cards.specs.Cards.{Counts}
+use Rattle.suit_cards.specs.Cards.{ClassLayout}
 use Rattle.suit_game.specs.declared.question.Question.{Question}
 use Rattle.suit_classes.specs.declared.class_moves.ClassMove.{ClassMove}
 use Rattle.suit_plans.specs.Properness.{sum_of}
@@ -36,7 +36,8 @@ extends_both a b c columns rows more_columns more_rows all_columns all_rows wide
       within = λ has. second.within (first.within has);
     }
 
-in_each_told : (point : Point) (west : Counts) (history : List ClassMove) (row : ℕ) (moves : List ClassMove) (first : ℕ)
+in_each_told : (point : Point) (west : ClassLayout) (history : List ClassMove) (row : ℕ) (moves : List ClassMove)
+    (first : ℕ)
     → told (held_at point) first (map (Answered west history) moves) row
     ≡ in_each first (length moves) (point.at (Held west history)) row
 unfolding told in_each
@@ -151,7 +152,7 @@ module _ (question : Question) (support : Support) (history : List ClassMove) wh
       → AreAnswered question support history (account ∷ []) old new (answer ∷ [])
   unfolding opened sum_of held_column answered_limits AreGiven
   answered_held account old new answer count chooses moves_are count_is opens extends adds =
-      let west : Counts = counts_at question account.index in
+      let west : ClassLayout = counts_at question account.index in
       let moves : List ClassMove = supported_moves question support west history in
       let columns : held_columns question history (account ∷ []) ≡ Held west history ∷ [] =
       ap (λ (b : Bool). (if b then Held west history ∷ [] else []) ++ []) chooses in
@@ -200,7 +201,7 @@ module _ (question : Question) (support : Support) (history : List ClassMove) wh
       → AreAnswered question support history (account ∷ []) ledger ledger (answer ∷ [])
   unfolding opened sum_of held_column answered_limits told
   answered_kept account ledger answer waits moves_are stays =
-      let west : Counts = counts_at question account.index in
+      let west : ClassLayout = counts_at question account.index in
       let moves : List ClassMove = supported_moves question support west history in
       let columns : held_columns question history (account ∷ []) ≡ [] =
       ap (λ (b : Bool). (if b then Held west history ∷ [] else []) ++ []) waits in

@@ -5,7 +5,7 @@ use Rattle.std.proofs.Common.{refl, sym, ap, ◌∙◌, subst, append-nil, arith
 use Rattle.std.specs.Prelude.{Contains, if◌then◌else◌, negsuc, ◌+ℤ◌}
 use Rattle.std.proofs.lemmas.List.{length-map}
 use Rattle.std.proofs.lemmas.List.Elements.{Contains-get_or}
-use Rattle.suit_cards.specs.Cards.{Counts}
+use Rattle.suit_cards.specs.Cards.{ClassLayout}
 use Rattle.suit_game.proofs.EachElement.{Contains-map}
 use Rattle.suit_game.specs.declared.limits.TheConstants.{MOST_SUPPORT}
 use Rattle.suit_classes.specs.declared.class_moves.ClassMove.{ClassMove}
@@ -49,7 +49,7 @@ module _ (ledger : Ledger) (reach : Reach) (place : ℕ) (account : Account) (la
       record { question = case.question; support = case.support; history = case.history; reached = case.reached }
 
   module _ (case : IsAnswerAsked ledger reach place account) where
-    abbrev west : Counts
+    abbrev west : ClassLayout
     west = counts_at case.question account.index
 
     index_same : layout.index ≡ account.index

@@ -9,16 +9,16 @@ use Rattle.std.proofs.lemmas.Bool.{false≢true}
 use Rattle.std.proofs.lemmas.Int.{ints}
 use Rattle.std.proofs.lemmas.List.{length-map}
 use Rattle.std.proofs.lemmas.List.Elements.{Contains-get_or, filter_agree}
-use Rattle.suit_cards.specs.Cards.{Counts}
+use Rattle.suit_cards.specs.Cards.{ClassLayout}
 use Rattle.suit_game.specs.declared.question.Question.{Question}
 use Rattle.suit_game.specs.Validity.{IsValid}
 use Rattle.suit_game.proofs.EachElement.{Contains-cons_cases, Contains-nil, map_same}
 use Rattle.suit_classes.specs.declared.class_moves.ClassMove.{ClassMove}
 use Rattle.suit_classes.specs.declared.class_moves.ClassMove.TheVariants.{ShowOut}
-use Rattle.suit_classes.specs.AllowedHistories.{is_among}
+use Rattle.suit_classes.specs.WhatIsAllowed.{is_among}
 use Rattle.suit_classes.specs.ClassPlaces.{class_after, class_decided, class_payoff, class_turn}
 use Rattle.suit_classes.proofs.SameMoves.{among_contained}
-use Rattle.suit_classes.proofs.UndecidedMoves.{HasFirst}
+use Rattle.suit_classes.proofs.UndecidedHasAMove.{HasFirst}
 use Rattle.suit_plans.specs.Masses.{is_declarers, is_defences}
 use Rattle.suit_plans.specs.Properness.{sum_of}
 use Rattle.suit_plans.specs.ReplyLaws.{counts_at}
@@ -92,10 +92,10 @@ record IsQuiet (question : Question) (support : Support) (history : List ClassMo
 
 module _ (question : Question) (support : Support) (history : List ClassMove) where
   quiet : declarer_chooses question history ≡ false
-      → ((west : Counts) → defence_chooses question west history ≡ false) → IsQuiet question support history
+      → ((west : ClassLayout) → defence_chooses question west history ≡ false) → IsQuiet question support history
   unfolding columns_at limits_at held_column answered_limits
   quiet not_own none =
-      let layouts : List (Counts × ℕ) = reached_layouts question support history in
+      let layouts : List (ClassLayout × ℕ) = reached_layouts question support history in
       record {
         columns = ap (λ (b : Bool). if b then map (Passed history) (supported_moves question support [] history)
             else flat_map (held_column question history) layouts) not_own
@@ -107,7 +107,7 @@ module _ (question : Question) (support : Support) (history : List ClassMove) wh
             (λ layout. quiet_rows layout.0 (none layout.0));
       }
     where
-      quiet_rows : (west : Counts) → defence_chooses question west history ≡ false
+      quiet_rows : (west : ClassLayout) → defence_chooses question west history ≡ false
           → (if defence_chooses question west history
           then map (Answered west history) (supported_moves question support west history) else []) ≡ []
       quiet_rows west not = ap (λ (b : Bool). if b
@@ -146,7 +146,7 @@ module _ (question : Question) (support : Support) (history : List ClassMove) wh
         *ℤ mass_at question support point history)) accounts
         (λ account found.
         let there = account_there question support history rows accounts are account found in
-        let west : Counts = counts_at question account.index in
+        let west : ClassLayout = counts_at question account.index in
         ap (credit row account) (worth_paid question support point west history
         (reached_short question support valid (layout_of question account) there.listed history there.reached)
         (defence_waits question history (over_turn question history over).1 west)
@@ -195,11 +195,11 @@ module _ (question : Question) (support : Support) (history : List ClassMove) wh
 
     module _ (not_over : class_decided (class_after question history) ≡ false)
         (own : is_declarers (class_turn (class_after question history)) ≡ true)
-        (some : (layout : Counts × ℕ) × Contains (reached_layouts question support history) layout) where
+        (some : (layout : ClassLayout × ℕ) × Contains (reached_layouts question support history) layout) where
       abbrev mine : List ClassMove
       mine = supported_moves question support [] history
 
-      not_theirs : (west : Counts) → defence_chooses question west history ≡ false
+      not_theirs : (west : ClassLayout) → defence_chooses question west history ≡ false
       not_theirs west = defence_waits question history (own_turn (class_after question history) own).1 west
 
       mine_next : next_moves question support history ≡ mine
@@ -234,7 +234,7 @@ module _ (question : Question) (support : Support) (history : List ClassMove) wh
           (worth_at question support point (counts_at question account.index) history)) accounts
           (λ account found.
           let there = account_there question support history rows accounts are account found in
-          let west : Counts = counts_at question account.index in
+          let west : ClassLayout = counts_at question account.index in
           sym (credit_sum row account (worth account) mine)
           ∙ ap (credit row account) (sym (worth_summed question support point west history
           (reached_short question support valid (layout_of question account) there.listed history there.reached)
@@ -366,7 +366,7 @@ module _ (question : Question) (support : Support) (history : List ClassMove) wh
         → IsOpened question support history mass accounts old new turn
     unfolding columns_at limits_at
     answered_opened not_over not_own old new answers turn by stays same_rows few answered =
-        let layouts : List (Counts × ℕ) = reached_layouts question support history in
+        let layouts : List (ClassLayout × ℕ) = reached_layouts question support history in
         let waits = declarer_waits question history not_own in
         let all : List AnswerView = opened question support history rows accounts in
         let seen : map answer_seen answers ≡ all =

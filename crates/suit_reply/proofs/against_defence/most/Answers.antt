@@ -2,7 +2,7 @@ use Rattle.std.proofs.Common.{◌≡◌, ◌∙◌, ◌≤◌, ℕ, ℤ, All, Li
 use Rattle.std.specs.Prelude.{◌≤ℤ◌, ◌^◌}
 use Rattle.std.specs.Int.{w128}
 use Rattle.std.proofs.lemmas.Int.{to_z-of_z}
-use Rattle.suit_cards.specs.Cards.{Counts}
+use Rattle.suit_cards.specs.Cards.{ClassLayout}
 use Rattle.suit_plans.specs.BestReplies.{most, reply_to_defence}
 use Rattle.suit_plans.specs.declared.moves.DeclarerMove.{DeclarerMove}
 use Rattle.suit_reply.specs.declared.chosen_move.ChosenMove.{ChosenMove}
@@ -22,9 +22,9 @@ whole_masses-requires c =
     let listed = c.layouts.ensures ∙ is.grown.layouts in
     let den : SFits w128 c.args.defence.now.den = search rules in
     record {
-      few = subst (λ (l : List (Counts × ℕ)). length l ≤ 162) (sym listed) (layouts_few is.question);
+      few = subst (λ (l : List (ClassLayout × ℕ)). length l ≤ 162) (sym listed) (layouts_few is.question);
       weights =
-          subst (λ (l : List (Counts × ℕ)). All (λ layout. layout.1 ≤ 10400600) l) (sym listed)
+          subst (λ (l : List (ClassLayout × ℕ)). All (λ layout. layout.1 ≤ 10400600) l) (sym listed)
           (layouts_weigh is.question is.valid);
       den = subst (λ (z : ℤ). (pos 1 ≤ℤ z) × (z ≤ℤ MOST_DEN)) (sym (to_z-of_z w128 c.args.defence.now.den den))
           (den_within is.question c.args.defence.now is.proper);

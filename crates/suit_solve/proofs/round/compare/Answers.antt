@@ -4,7 +4,7 @@ use Rattle.std.specs.Int.{w128}
 use Rattle.std.proofs.lemmas.Int.{to_z-of_z}
 use Rattle.suit_num.proofs.IntegerLaws.{int_le-true}
 use Rattle.suit_game.specs.Layouts.{total}
-use Rattle.suit_plans.proofs.BoundedReplies.{leasts_bounded, mosts_bounded}
+use Rattle.suit_plans.proofs.RepliesAreBounded.{leasts_bounded, mosts_bounded}
 use Rattle.suit_plans.proofs.ProperDefences.{proper_defence}
 use Rattle.suit_plans.proofs.ProperPlans.{proper_plan}
 use Rattle.suit_plans.specs.BestReplies.{least, least_reply, most}
@@ -14,7 +14,7 @@ use Rattle.suit_reply.specs.AgainstDefence.{IsDefenceFor}
 use Rattle.suit_reply.specs.AgainstPlan.{IsPlanFor}
 use Rattle.suit_answer.specs.Reduced.{fraction}
 use Rattle.suit_solve.specs.Rounds.{Apart}
-use Rattle.suit_solve.proofs.PlayedRounds.{compared_apart, compared_met}
+use Rattle.suit_solve.proofs.HowARoundEnds.{compared_apart, compared_met}
 use Rattle.suit_solve.proofs.round.compare.Goals as goal
 
 pub value_over-value-requires-clause-number : goal.value_over-value-requires-clause-number

@@ -5,14 +5,14 @@ use Rattle.suit_linear.specs.Ends.{Tells}
 use Rattle.suit_linear.specs.Runs.{run_end}
 use Rattle.suit_program.specs.Supports.Marks.{support_seen}
 use Rattle.suit_program.specs.Programs.{program_of}
-use Rattle.suit_program.specs.Readings.ReadOptima.{AreRead, IsEndOf}
+use Rattle.suit_program.specs.Readings.ReadingOfAnOptimum.{AreRead, IsEndOf}
 use Rattle.suit_program.specs.Readings.{is_too_wide, parts_of}
 use Rattle.suit_program.specs.Supports.{Support}
 use Rattle.suit_program.proofs.lemmas.Readings.DefencesHoldTheWorth.{read_defences_are_proper}
 use Rattle.suit_program.proofs.lemmas.Readings.PlansKeepTheWorth.{read_plans_are_proper}
 use Rattle.suit_solve.specs.Limits.{most_size}
-use Rattle.suit_solve.proofs.PlayedRounds.{played_columns, played_past, played_pivots, played_wide, played_within}
-use Rattle.suit_solve.proofs.PlayedRounds.{read_compared, read_wide}
+use Rattle.suit_solve.proofs.HowARoundEnds.{played_columns, played_past, played_pivots, played_wide, played_within}
+use Rattle.suit_solve.proofs.HowARoundEnds.{read_compared, read_wide}
 use Rattle.suit_solve.proofs.round.play.Goals as goal
 
 pub returns-then-size-most_size-clause-end : goal.returns-then-size-most_size-clause-end

@@ -3,7 +3,7 @@ use Rattle.suit_answer.specs.declared.answer.Answer.{Answer}
 use Rattle.suit_solve.specs.Fates.{IsEnd}
 use Rattle.suit_solve.specs.Solving.{Steps, solving_seen}
 use Rattle.suit_solve.proofs.FatesTold.{answers_are_writable}
-use Rattle.suit_solve.proofs.SolvedRounds.{unbegun_end, way_begins, way_ends, way_goes_on, way_less, way_met}
+use Rattle.suit_solve.proofs.FromRoundToRound.{unbegun_end, way_begins, way_ends, way_goes_on, way_less, way_met}
 use Rattle.suit_solve.proofs.solving.solve.Goals as goal
 
 pub returns-in_err-solving-clause-end : goal.returns-in_err-solving-clause-end

@@ -1,7 +1,7 @@
 -- A question is on its way through the rounds, and its fate is what becomes of it from there on.
 use Rattle.suit_solve.specs.Fates.{lacking}
 use Rattle.suit_solve.specs.Solving.{IsUnderWay, solving_seen}
-use Rattle.suit_solve.proofs.SolvedRounds.{IsWayOf}
+use Rattle.suit_solve.proofs.FromRoundToRound.{IsWayOf}
 use Rattle.suit_solve.proofs.solving.solve.Given as goal
 
 abbrev pub invariant-loop-solving : goal.invariant-loop-solving

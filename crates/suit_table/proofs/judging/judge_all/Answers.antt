@@ -8,7 +8,7 @@ use Rattle.suit_game.specs.Validity.{IsValid}
 use Rattle.suit_table.specs.Judging.{IsTold}
 use Rattle.suit_table.specs.declared.judging.Entry.{Entry}
 use Rattle.suit_table.specs.declared.judging.Told.{Told}
-use Rattle.suit_table.proofs.PlacedLists.{ArePlaced, joined}
+use Rattle.suit_table.proofs.RelatedIndexByIndex.{ArePlaced, joined}
 use Rattle.suit_table.proofs.judging.judge_all.Goals as goal
 
 pub loop-rest-preserved : goal.loop-rest-preserved

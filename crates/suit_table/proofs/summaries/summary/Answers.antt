@@ -2,7 +2,7 @@
 use Rattle.std.proofs.Common.{◌≡◌}
 use Rattle.std.proofs.lemmas.Result.{IfOk-weaker}
 use Rattle.suit_table.specs.Summaries.{IsSummary, summary_line}
-use Rattle.suit_table.proofs.JudgedQuestions.{all_valid, summary_met}
+use Rattle.suit_table.proofs.SummaryIsMet.{all_valid, summary_met}
 use Rattle.suit_table.proofs.summaries.summary.Goals as goal
 
 pub judge_all-requires-clause-valid : goal.judge_all-requires-clause-valid

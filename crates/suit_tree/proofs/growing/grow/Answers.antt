@@ -1,13 +1,13 @@
 use Rattle.std.proofs.Common.{rules, ◌≡◌, ◌∙◌, ◌<◌, [], length, ap, arith}
 use Rattle.std.specs.List.{range_with_len}
 use Rattle.std.proofs.lemmas.List.FromFn.{length-range_with_len}
-use Rattle.suit_tree.specs.CountedHistories.{node_count}
+use Rattle.suit_tree.specs.WhatIsCounted.{node_count}
 use Rattle.suit_tree.specs.TreeEnds.{IsPastBudget}
 use Rattle.suit_tree.specs.Trees.{layout_indices}
 use Rattle.suit_classes.proofs.DefenceSizes.{range_below}
 use Rattle.suit_classes.specs.Classes.{sizes_of}
-use Rattle.suit_tree.proofs.GrowingSteps.{past_more}
-use Rattle.suit_tree.proofs.CountedNodes.{some_listed}
+use Rattle.suit_tree.proofs.NodeGrowsChildByChild.{past_more}
+use Rattle.suit_tree.proofs.OneNodeAtEachPath.{some_listed}
 use Rattle.suit_tree.proofs.GrownIsCounted.{allowing_first, grown_is_tree}
 use Rattle.suit_tree.proofs.HowManyPairs.{all_pairs_counted}
 use Rattle.suit_tree.proofs.growing.grow.Goals as goal

@@ -1,4 +1,4 @@
-use Rattle.suit_tree.proofs.ListedHistories.{counted_exactly}
+use Rattle.suit_tree.proofs.EachHistoryIsCountedOnce.{counted_exactly}
 use Rattle.suit_tree.proofs.laws.counted_exactly.Goals as goal
 
 pub returns : goal.returns

@@ -1,4 +1,4 @@
-use Rattle.suit_tree.proofs.CountedNodes.{no_other_node}
+use Rattle.suit_tree.proofs.OneNodeAtEachPath.{no_other_node}
 use Rattle.suit_tree.proofs.laws.no_other_node.Goals as goal
 
 pub returns : goal.returns

@@ -3,7 +3,7 @@ use Rattle.std.specs.Prelude.{Contains}
 use Rattle.suit_game.specs.Histories.{History}
 use Rattle.suit_game.specs.PlaceViews.{IsAt, IsPlay}
 use Rattle.suit_game.specs.declared.moves.Move.{Move}
-use Rattle.suit_game.proofs.SeenPlaces.{play_more}
+use Rattle.suit_game.proofs.PlaceSeenAfterAMove.{play_more}
 use Rattle.suit_base_tests.proofs.lifts.Play.with.Goals as goal
 
 pub returns-clause-legal : goal.returns-clause-legal

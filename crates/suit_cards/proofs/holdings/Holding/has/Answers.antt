@@ -1,6 +1,6 @@
 use Rattle.suit_cards.specs.Masks.{marks}
 use Rattle.suit_cards.proofs.SuitRuns.{IsHolding-filter_suit}
-use Rattle.suit_cards.proofs.HeldRanks.{holds_tells}
+use Rattle.suit_cards.proofs.WhetherARankIsHeld.{holds_tells}
 use Rattle.suit_cards.proofs.MaskMeanings.{holds-ranks_of}
 use Rattle.suit_cards.proofs.holdings.Holding.has.Goals as goal
 

@@ -1,4 +1,4 @@
-use Rattle.suit_cards.proofs.HeldRanks.{length-IsHolding}
+use Rattle.suit_cards.proofs.WhetherARankIsHeld.{length-IsHolding}
 use Rattle.suit_cards.specs.Masks.{marks}
 use Rattle.suit_cards.proofs.MaskMeanings.{length-ranks_of}
 use Rattle.suit_cards.proofs.SuitRuns.{IsHolding-filter_suit}

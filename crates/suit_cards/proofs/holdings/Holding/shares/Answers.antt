@@ -1,4 +1,4 @@
-use Rattle.suit_cards.proofs.HeldRanks.{shares_tells}
+use Rattle.suit_cards.proofs.WhetherARankIsHeld.{shares_tells}
 use Rattle.suit_cards.proofs.MaskMeanings.{shared_bits}
 use Rattle.suit_cards.proofs.holdings.Holding.shares.Goals as goal
 

@@ -1,6 +1,6 @@
 use Rattle.std.proofs.Common.{arith}
 use Rattle.std.proofs.lemmas.Grind.{common_steps}
-use Rattle.suit_cards.proofs.WrittenCards.{holding_read-text_of}
+use Rattle.suit_cards.proofs.HoldingTextReadsBack.{holding_read-text_of}
 use Rattle.suit_cards.proofs.holdings.Holding.text.Goals as goal
 
 pub returns-then-is_empty-clause-value : goal.returns-then-is_empty-clause-value

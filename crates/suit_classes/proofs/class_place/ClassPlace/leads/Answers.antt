@@ -5,7 +5,7 @@ use Rattle.suit_cards.specs.declared.seats.Seat.TheVariants.{N, S}
 use Rattle.suit_classes.specs.declared.class_moves.ClassMove.{ClassMove}
 use Rattle.suit_classes.specs.declared.class_moves.ClassMove.TheVariants.{Lead}
 use Rattle.suit_classes.specs.ClassPlaces.{class_leads, counted_classes, may_lead}
-use Rattle.suit_classes.proofs.CountedLists.{apart_fit, counted_classes-most}
+use Rattle.suit_classes.proofs.CountedClassByClass.{apart_fit, counted_classes-most}
 use Rattle.suit_classes.proofs.class_place.ClassPlace.leads.Goals as goal
 use Rattle.suit_classes.proofs.class_place.ClassPlace.leads.Goals.{then-may_lead, else-may_lead}
 

@@ -2,8 +2,8 @@ use Rattle.std.proofs.Common.{◌≡◌, ◌∙◌, ◌-◌, ℕ, true, false, a
 use Rattle.std.specs.Prelude.{slice_index}
 use Rattle.suit_cards.specs.declared.seats.Seat.TheVariants.{W}
 use Rattle.suit_classes.specs.ClassPlaces.{ClassView, is_defence_class, left, west_count}
-use Rattle.suit_classes.proofs.CountedLists.{filled_none, filled_next, filled_kept, index_next, left_west-some}
-use Rattle.suit_classes.proofs.CountedLists.{left_west-none, counts_some, counts_none, index_few}
+use Rattle.suit_classes.proofs.CountedClassByClass.{filled_none, filled_next, filled_kept, index_next, left_west-some}
+use Rattle.suit_classes.proofs.CountedClassByClass.{left_west-none, counts_some, counts_none, index_few}
 use Rattle.suit_classes.proofs.class_place.ClassPlace.left_to_west.Goals as goal
 use Rattle.suit_classes.proofs.class_place.ClassPlace.left_to_west.Goals.{then-self-class-gt0, else-self-class-gt0}
 

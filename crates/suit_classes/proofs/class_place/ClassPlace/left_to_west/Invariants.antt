@@ -1,7 +1,7 @@
 use Rattle.std.proofs.Common.{◌≡◌}
 use Rattle.suit_cards.specs.declared.seats.Seat.TheVariants.{W}
 use Rattle.suit_classes.specs.ClassPlaces.{defence_index, left}
-use Rattle.suit_classes.proofs.CountedLists.{Filled}
+use Rattle.suit_classes.proofs.CountedClassByClass.{Filled}
 use Rattle.suit_classes.proofs.class_place.ClassPlace.left_to_west.Given as goal
 
 abbrev pub invariant-loop-class : goal.invariant-loop-class

@@ -2,7 +2,7 @@ use Rattle.std.proofs.Common.{◌∙◌, ap}
 use Rattle.suit_classes.specs.Classes.{hands_of}
 use Rattle.suit_classes.specs.ClassMoves.{merged}
 use Rattle.suit_classes.specs.ClassPlaces.{ClassView, class_after, class_moves}
-use Rattle.suit_classes.proofs.AgreedPlaces.{class_game_agrees}
+use Rattle.suit_classes.proofs.ClassGameAgrees.{class_game_agrees}
 use Rattle.suit_classes.proofs.class_place.ClassPlace.moves.Goals as goal
 
 pub returns-clause-cards : goal.returns-clause-cards

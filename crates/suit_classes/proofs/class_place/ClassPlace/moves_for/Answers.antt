@@ -6,7 +6,7 @@ use Rattle.suit_cards.specs.Cards.{Indices}
 use Rattle.suit_classes.specs.declared.class_moves.ClassMove.TheVariants.{Follow}
 use Rattle.suit_classes.specs.declared.class_trick.ClassTrick.TheVariants.{Open}
 use Rattle.suit_classes.specs.ClassPlaces.{ClassView, or_show_out}
-use Rattle.suit_classes.proofs.CountedLists.{counted_is_left, follows_at}
+use Rattle.suit_classes.proofs.CountedClassByClass.{counted_is_left, follows_at}
 use Rattle.suit_classes.proofs.class_place.ClassPlace.moves_for.Goals as goal
 
 pub returns-in-W : goal.returns-in-W

@@ -1,6 +1,6 @@
 use Rattle.std.proofs.Common.{◌∙◌, ap}
 use Rattle.suit_classes.specs.ClassPlaces.{class_payoff}
-use Rattle.suit_classes.proofs.AgreedPlaces.{class_game_agrees}
+use Rattle.suit_classes.proofs.ClassGameAgrees.{class_game_agrees}
 use Rattle.suit_classes.proofs.class_place.ClassPlace.payoff.Goals as goal
 
 pub returns-clause-cards : goal.returns-clause-cards

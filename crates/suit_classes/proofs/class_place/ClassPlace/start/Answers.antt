@@ -1,5 +1,5 @@
 use Rattle.std.proofs.Common.{refl}
-use Rattle.suit_classes.proofs.CountedLists.{apart_dealt, none_played_is}
+use Rattle.suit_classes.proofs.CountedClassByClass.{apart_dealt, none_played_is}
 use Rattle.suit_classes.proofs.class_place.ClassPlace.start.Goals as goal
 
 pub invariant_of-result : goal.invariant_of-result

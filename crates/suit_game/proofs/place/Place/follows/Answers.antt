@@ -1,7 +1,7 @@
 use Rattle.std.proofs.Common.{◌∙◌, ap, subst}
 use Rattle.suit_game.specs.Positions.{Trick, follows_of}
 use Rattle.suit_game.specs.PlaceViews.{PlaceView, IsToFollow}
-use Rattle.suit_game.proofs.SeenPlaces.{follows_are_legal}
+use Rattle.suit_game.proofs.PlaceSeenAfterAMove.{follows_are_legal}
 use Rattle.suit_game.proofs.place.Place.follows.Goals as goal
 
 pub returns-clause-legal : goal.returns-clause-legal

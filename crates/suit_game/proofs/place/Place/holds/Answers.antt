@@ -1,11 +1,11 @@
 use Rattle.std.proofs.Common.{◌≡◌, ◌∙◌, ap, sym}
 use Rattle.suit_cards.specs.declared.seats.Seat.{Seat}
-use Rattle.suit_cards.proofs.HeldSuits.{IsHolding-others_of}
+use Rattle.suit_cards.proofs.HoldingIsWhatItHolds.{IsHolding-others_of}
 use Rattle.suit_game.specs.Positions.{after, hand, without}
 use Rattle.suit_game.specs.PlaceViews.{PlaceView}
 use Rattle.suit_game.specs.Question.{missing}
 use Rattle.suit_game.proofs.LayoutCards.{layouts_are_deals}
-use Rattle.suit_game.proofs.SeenPlaces.{west_left, east_left}
+use Rattle.suit_game.proofs.PlaceSeenAfterAMove.{west_left, east_left}
 use Rattle.suit_game.proofs.place.Place.holds.Goals as goal
 
 pub returns-in-W : goal.returns-in-W

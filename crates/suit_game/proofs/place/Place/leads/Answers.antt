@@ -1,7 +1,7 @@
 use Rattle.std.proofs.Common.{◌∙◌, ap, sym, arith}
 use Rattle.std.proofs.lemmas.Grind.{common_steps}
 use Rattle.suit_game.specs.PlaceViews.{PlaceView}
-use Rattle.suit_game.proofs.SeenPlaces.{leads_are_legal}
+use Rattle.suit_game.proofs.PlaceSeenAfterAMove.{leads_are_legal}
 use Rattle.suit_game.proofs.place.Place.leads.Goals as goal
 
 pub returns-then-may_lead_s-clause-leads : goal.returns-then-may_lead_s-clause-leads

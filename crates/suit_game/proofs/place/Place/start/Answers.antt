@@ -1,5 +1,5 @@
 use Rattle.suit_game.proofs.LongestPlay.{holdings_fit}
-use Rattle.suit_game.proofs.SeenPlaces.{seen-start}
+use Rattle.suit_game.proofs.PlaceSeenAfterAMove.{seen-start}
 use Rattle.suit_game.proofs.place.Place.start.Goals as goal
 
 pub invariant_of-result : goal.invariant_of-result

@@ -7,7 +7,7 @@ use Rattle.suit_game.specs.contracts.place.Place.{the_view}
 use Rattle.suit_game.specs.Positions.{Position, Trick, Closed, Open, after, step, led, followed, turn_passed}
 use Rattle.suit_game.specs.PlaceViews.{PlaceView, IsAt, seen, trick_seen}
 use Rattle.suit_game.proofs.LegalPlays.{after_move}
-use Rattle.suit_game.proofs.SeenPlaces.{step-led, step-followed, step-shown_out, step-stays, won_small}
+use Rattle.suit_game.proofs.PlaceSeenAfterAMove.{step-led, step-followed, step-shown_out, step-stays, won_small}
 use Rattle.suit_game.proofs.place.Place.step.Goals as goal
 
 -- the trick of the position is the one behind the view

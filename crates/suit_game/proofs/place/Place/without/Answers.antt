@@ -1,6 +1,6 @@
 use Rattle.std.proofs.Common.{◌∙◌, ap, arith}
 use Rattle.suit_game.specs.PlaceViews.{PlaceView}
-use Rattle.suit_game.proofs.SeenPlaces.{length-without_rank_most, taken_from, taken_from-seen}
+use Rattle.suit_game.proofs.PlaceSeenAfterAMove.{length-without_rank_most, taken_from, taken_from-seen}
 use Rattle.suit_game.proofs.place.Place.without.Goals as goal
 
 pub invariant_of-result : goal.invariant_of-result

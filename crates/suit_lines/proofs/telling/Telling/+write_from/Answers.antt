@@ -13,8 +13,9 @@ use Rattle.suit_plans.specs.BestReplies.{public_moves}
 use Rattle.suit_plans.proofs.ProperOrders.{plan_in_order}
 use Rattle.suit_lines.specs.Told.{is_live, live_shares, share_of}
 use Rattle.suit_lines.specs.Walks.{own_line}
-use Rattle.suit_lines.proofs.WalkedPlaces.{lines_all, moves_are, share_fits, shares_are, stands_longer, stands_next}
-use Rattle.suit_lines.proofs.WalkedPlaces.{stands_same, stands_short}
+use Rattle.suit_lines.proofs.WalkWhereMassGoes.{lines_all, moves_are, share_fits, shares_are, stands_longer}
+use Rattle.suit_lines.proofs.WalkWhereMassGoes.{stands_next}
+use Rattle.suit_lines.proofs.WalkWhereMassGoes.{stands_same, stands_short}
 use Rattle.suit_lines.proofs.telling.Telling.+write_from.Goals as goal
 
 pub live_shares-requires-clause-order : goal.live_shares-requires-clause-order

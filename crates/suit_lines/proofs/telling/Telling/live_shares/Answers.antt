@@ -6,8 +6,8 @@ use Rattle.suit_cards.specs.declared.seats.Seat.TheVariants.{N}
 use Rattle.suit_classes.specs.declared.class_moves.ClassMove.TheVariants.{Lead}
 use Rattle.suit_plans.specs.Masses.{plan_mass}
 use Rattle.suit_lines.specs.Told.{is_live, share_of}
-use Rattle.suit_lines.proofs.FoundMoves.{image_next}
-use Rattle.suit_lines.proofs.WalkedPlaces.{let_is}
+use Rattle.suit_lines.proofs.LookingForMoves.{image_next}
+use Rattle.suit_lines.proofs.WalkWhereMassGoes.{let_is}
 use Rattle.suit_lines.proofs.telling.Telling.live_shares.Goals as goal
 use Rattle.suit_lines.proofs.telling.Telling.live_shares.Goals.{then-share-gt0+in_ok-push, else-share-gt0}
 

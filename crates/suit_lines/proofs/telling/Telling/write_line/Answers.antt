@@ -12,9 +12,9 @@ use Rattle.suit_plans.specs.Masses.{is_declarers}
 use Rattle.suit_lines.specs.Lines.{history_line}
 use Rattle.suit_lines.specs.Sentences.{choice_words, opening}
 use Rattle.suit_lines.specs.Told.{is_told}
-use Rattle.suit_lines.proofs.JoinedTexts.{then_written}
+use Rattle.suit_lines.proofs.OneMoreTextJoined.{then_written}
 use Rattle.suit_lines.specs.Walks.{allowing_counts}
-use Rattle.suit_lines.proofs.WalkedPlaces.{choice_told, line_written, shares_writable, stands_short}
+use Rattle.suit_lines.proofs.WalkWhereMassGoes.{choice_told, line_written, shares_writable, stands_short}
 use Rattle.suit_lines.proofs.telling.Telling.write_line.Goals as goal
 
 pub write_opening-requires-clause-short : goal.write_opening-requires-clause-short

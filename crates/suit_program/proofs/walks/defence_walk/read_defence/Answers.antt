@@ -3,7 +3,7 @@ use Rattle.std.proofs.Common.{to_z, of_z, All}
 use Rattle.std.specs.Prelude.{◌*ℤ◌}
 use Rattle.std.specs.Int.{w128}
 use Rattle.std.proofs.lemmas.Int.{to_z-of_z}
-use Rattle.suit_cards.specs.Cards.{Counts}
+use Rattle.suit_cards.specs.Cards.{ClassLayout}
 use Rattle.suit_game.specs.declared.limits.TheConstants.{MOST_TOTAL}
 use Rattle.suit_layouts.specs.declared.class_list.TheConstants.{MOST_CLASS_LAYOUTS}
 use Rattle.suit_plans.specs.declared.defence.Defence.{Defence}
@@ -23,13 +23,13 @@ defence_with scale rows = record { den = scale; rows = rows }
 
 pub readers_of-requires : goal.readers_of-requires
 readers_of-requires c =
-    subst (λ (l : List (Counts × ℕ)). length l ≤ MOST_CLASS_LAYOUTS)
+    subst (λ (l : List (ClassLayout × ℕ)). length l ≤ MOST_CLASS_LAYOUTS)
     (sym (c.layouts-layouts.ensures ∙ c.requires.grown.layouts))
     (layouts_few c.requires.question)
 
 pub masses_of-requires-clause-few : goal.masses_of-requires-clause-few
 masses_of-requires-clause-few c =
-    subst (λ (l : List (Counts × ℕ)). All (λ layout. layout.1 ≤ MOST_TOTAL) l)
+    subst (λ (l : List (ClassLayout × ℕ)). All (λ layout. layout.1 ≤ MOST_TOTAL) l)
     (sym (c.layouts-layouts.ensures ∙ c.requires.grown.layouts))
     (layouts_weigh c.requires.question c.requires.valid)
 
@@ -43,10 +43,10 @@ below-requires-clause-stops c =
     root_stops tree c.args.support.now prices scale case _ c.start-start.result c.new-history.result.items
     c.deref.result.now refl
     (subst (AreReaders tree.layouts.items prices (length tree.layouts.items)) (sym c.as_slice.ensures.value)
-    (subst (λ (l : List (Counts × ℕ)). AreReaders l prices (length l) c.in_ok-readers.readers.items)
+    (subst (λ (l : List (ClassLayout × ℕ)). AreReaders l prices (length l) c.in_ok-readers.readers.items)
     c.layouts-layouts.ensures c.in_ok-readers.ensures))
     (c.deref.ensures.value ∙ c.in_ok-masses.ensures
-    ∙ ap (map (λ (layout : Counts × ℕ). pos layout.1 *ℤ scale)) c.layouts-layouts.ensures)
+    ∙ ap (map (λ (layout : ClassLayout × ℕ). pos layout.1 *ℤ scale)) c.layouts-layouts.ensures)
     (c.start-start.ensures case.question case.valid case.grown) c.new-history.ensures.items
 
 pub below-requires-clause-lists : goal.below-requires-clause-lists
@@ -70,12 +70,12 @@ returns c = λ case.
     ∙ all_rows tree c.args.support.now prices scale told walk c.start-start.result c.new-history.result.items
     c.deref.result.now refl
     (subst (AreReaders tree.layouts.items prices (length tree.layouts.items)) (sym c.as_slice.ensures.value)
-    (subst (λ (l : List (Counts × ℕ)). AreReaders l prices (length l) c.in_ok-readers.readers.items)
+    (subst (λ (l : List (ClassLayout × ℕ)). AreReaders l prices (length l) c.in_ok-readers.readers.items)
     c.layouts-layouts.ensures c.in_ok-readers.ensures))
     (c.deref.ensures.value ∙ c.in_ok-masses.ensures
-    ∙ ap (map (λ (layout : Counts × ℕ). pos layout.1 *ℤ scale)) c.layouts-layouts.ensures)
+    ∙ ap (map (λ (layout : ClassLayout × ℕ). pos layout.1 *ℤ scale)) c.layouts-layouts.ensures)
     (c.start-start.ensures case.question case.valid case.grown) c.new-history.ensures.items c.in_ok-lists.lists.items
     c.below.new.lists.items c.in_ok-below.ensures.lists
-    (subst (λ (l : List (Counts × ℕ)). AreEmptyLists (length l) c.in_ok-lists.lists.items) c.layouts-layouts.ensures
+    (subst (λ (l : List (ClassLayout × ℕ)). AreEmptyLists (length l) c.in_ok-lists.lists.items) c.layouts-layouts.ensures
     c.in_ok-lists.ensures) c.in_ok-below.ensures.rows)
     ∙ ap (defence_of case.question (support_seen case.question c.args.support.now) c.args.prices.now) same

@@ -1,5 +1,5 @@
 use Rattle.std.proofs.Common.{◌∙◌, ◌-◌, ◌^◌, ◌≤◌, ℕ, All, List, [], ap, length, refl, subst, sym}
-use Rattle.suit_cards.specs.Cards.{Counts}
+use Rattle.suit_cards.specs.Cards.{ClassLayout}
 use Rattle.suit_game.specs.declared.limits.TheConstants.{MOST_TOTAL}
 use Rattle.suit_layouts.specs.declared.class_list.TheConstants.{MOST_CLASS_LAYOUTS}
 use Rattle.suit_program.specs.declared.walks.ledger.Account.{Account}
@@ -15,10 +15,10 @@ whole_accounts-requires c =
     let listed = c.layouts.ensures ∙ c.requires.grown.layouts in
     record {
       few =
-          subst (λ (l : List (Counts × ℕ)). length l ≤ MOST_CLASS_LAYOUTS) (sym listed)
+          subst (λ (l : List (ClassLayout × ℕ)). length l ≤ MOST_CLASS_LAYOUTS) (sym listed)
           (layouts_few c.requires.question);
       weights =
-          subst (λ (l : List (Counts × ℕ)). All (λ layout. layout.1 ≤ MOST_TOTAL) l) (sym listed)
+          subst (λ (l : List (ClassLayout × ℕ)). All (λ layout. layout.1 ≤ MOST_TOTAL) l) (sym listed)
           (layouts_weigh c.requires.question c.requires.valid);
     }
 

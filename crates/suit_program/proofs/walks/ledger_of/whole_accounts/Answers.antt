@@ -2,7 +2,7 @@ use Rattle.std.proofs.Common.{◌∙◌, ℕ, ℤ, [], ap, arith, get_or, pos, s
 use Rattle.std.specs.Int.{w64}
 use Rattle.std.proofs.lemmas.Int.{to_z_pos}
 use Rattle.std.proofs.lemmas.List.{get_or_read}
-use Rattle.suit_cards.specs.Cards.{Counts}
+use Rattle.suit_cards.specs.Cards.{ClassLayout}
 use Rattle.suit_program.specs.declared.walks.ledger.Account.{Account}
 use Rattle.suit_program.proofs.lemmas.Walks.KeptSoFar.{one_numbered}
 use Rattle.suit_program.proofs.walks.ledger_of.whole_accounts.Goals as goal
@@ -18,5 +18,5 @@ loop-index-preserved c =
     one_numbered account c.loop-index.accounts.items c.push.new.self.items index _ c.loop-index.invariant
     c.in_ok-push.ensures.items
     (ap (λ (factor : ℤ). weighed factor index)
-    (ap (λ (layout : Counts × ℕ). to_z w64 layout.1) (sym c.index-layouts-index.is ∙ read)
+    (ap (λ (layout : ClassLayout × ℕ). to_z w64 layout.1) (sym c.index-layouts-index.is ∙ read)
     ∙ to_z_pos w64 (get_or layouts index ([], 0)).1 (omega (arith, few))))

@@ -4,7 +4,7 @@ use Rattle.std.specs.Int.{w64}
 use Rattle.std.proofs.lemmas.Int.{to_z-of_z}
 use Rattle.std.specs.Prelude.{◌≡◌}
 use Rattle.suit_classes.specs.declared.class_moves.ClassMove.{ClassMove}
-use Rattle.suit_classes.specs.AllowedHistories.{is_among}
+use Rattle.suit_classes.specs.WhatIsAllowed.{is_among}
 use Rattle.suit_program.specs.declared.walks.ledger.Account.{Account}
 use Rattle.suit_program.specs.Walks.Writing.{advanced, answer_seen, place_in}
 use Rattle.suit_program.proofs.lemmas.Walks.AccountsAfterAMove.{answered_found, answered_more, answered_past, so_far}

@@ -4,7 +4,7 @@ use Rattle.std.specs.Int.{w128}
 use Rattle.std.specs.List.{range_with_len}
 use Rattle.std.proofs.lemmas.Int.{to_z-of_z}
 use Rattle.std.proofs.lemmas.List.{get_or_read}
-use Rattle.suit_cards.specs.Cards.{Counts}
+use Rattle.suit_cards.specs.Cards.{ClassLayout}
 use Rattle.suit_reply.proofs.WhatIsStillToCome.{one_numbered}
 use Rattle.suit_reply.proofs.against_defence.AgainstDefence.whole_masses.Goals as goal
 use Rattle.suit_reply.specs.AgainstDefence.{LayoutMasses}
@@ -20,7 +20,7 @@ loop-index-preserved c =
     c.in_ok-push.ensures.items
     (ap (λ (z : ℤ). (index, z))
     (to_z-of_z w128 c.weighed.result fits ∙ c.weighed.ensures
-    ∙ ap (λ (layout : Counts × ℕ). pos layout.1 *ℤ to_z w128 (of_z w128 c.args.den))
+    ∙ ap (λ (layout : ClassLayout × ℕ). pos layout.1 *ℤ to_z w128 (of_z w128 c.args.den))
     (sym c.index-self-index.is ∙ read)))
 
 pub returns : goal.returns

@@ -6,7 +6,7 @@ use Rattle.std.proofs.lemmas.Int.{to_z-of_z, to_z_pos}
 use Rattle.suit_classes.specs.declared.class_turn.ClassTurn.{ClassTurn}
 use Rattle.suit_classes.specs.ClassMoves.{ClassHistory}
 use Rattle.suit_tree.specs.declared.node.Node.{Node}
-use Rattle.suit_tree.proofs.FittedNodes.{few_children}
+use Rattle.suit_tree.proofs.NodesFitMoves.{few_children}
 use Rattle.suit_tree.specs.Nodes.{children_of, turn_at}
 use Rattle.suit_reply.specs.Turns.{TurnView, finished, joined}
 use Rattle.suit_reply.specs.AgainstPlan.{goes_to, node_least}

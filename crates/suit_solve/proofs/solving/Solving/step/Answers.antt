@@ -3,7 +3,7 @@ use Rattle.suit_program.specs.Supports.Marks.{support_seen}
 use Rattle.suit_program.specs.Supports.{Support, with_moves}
 use Rattle.suit_solve.specs.Plays.{ended_so}
 use Rattle.suit_solve.specs.Solving.{IsOnItsWay}
-use Rattle.suit_solve.proofs.SolvedRounds.{next_legal, next_seen, next_under_way, round_fits}
+use Rattle.suit_solve.proofs.FromRoundToRound.{next_legal, next_seen, next_under_way, round_fits}
 use Rattle.suit_solve.proofs.solving.Solving.step.Goals as goal
 
 pub add-requires : goal.add-requires

@@ -5,9 +5,11 @@ use Rattle.std.proofs.lemmas.List.{take_all}
 use Rattle.suit_tree.specs.declared.node.Node.TheViews.{roll-Node, out-roll-Node}
 use Rattle.suit_tree.specs.Growing.{HasRoom, StandsFor, branch_seen, moves_within, pairs_from}
 use Rattle.suit_tree.specs.TreeEnds.{IsPastBudget}
-use Rattle.suit_tree.proofs.GrowingSteps.{all_counted, all_grown, at_least_indices, branch_all, branch_at, branch_some}
-use Rattle.suit_tree.proofs.GrowingSteps.{branches_long, goes_deeper, grown_more, none_grown, past_below, past_told}
-use Rattle.suit_tree.proofs.GrowingSteps.{room_next, step_next}
+use Rattle.suit_tree.proofs.NodeGrowsChildByChild.{all_counted, all_grown, at_least_indices, branch_all, branch_at}
+use Rattle.suit_tree.proofs.NodeGrowsChildByChild.{branch_some}
+use Rattle.suit_tree.proofs.NodeGrowsChildByChild.{branches_long, goes_deeper, grown_more, none_grown, past_below}
+use Rattle.suit_tree.proofs.NodeGrowsChildByChild.{past_told}
+use Rattle.suit_tree.proofs.NodeGrowsChildByChild.{room_next, step_next}
 use Rattle.suit_tree.proofs.growing.Growth.+node.Goals as goal
 
 pub returns-in_err-count-clause-end : goal.returns-in_err-count-clause-end

@@ -1,6 +1,6 @@
 use Rattle.std.proofs.Common.{◌+◌, ◌-◌, ◌≤◌, length, take}
 use Rattle.suit_tree.specs.Growing.{moves_within}
-use Rattle.suit_tree.proofs.GrowingSteps.{AreGrown}
+use Rattle.suit_tree.proofs.NodeGrowsChildByChild.{AreGrown}
 use Rattle.suit_tree.proofs.growing.Growth.+node.Given as goal
 
 abbrev pub decreases-node : goal.decreases-node

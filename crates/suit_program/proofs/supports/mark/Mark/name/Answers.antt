@@ -1,6 +1,6 @@
 use Rattle.std.proofs.Common.{List, sym, ap, ◌∙◌}
 use Rattle.suit_classes.specs.declared.class_moves.ClassMove.{ClassMove}
-use Rattle.suit_classes.specs.AllowedHistories.{is_among}
+use Rattle.suit_classes.specs.WhatIsAllowed.{is_among}
 use Rattle.suit_program.specs.declared.supports.mark.Mark.{out-Mark, roll-Mark}
 use Rattle.suit_program.specs.declared.supports.mark.Mark.TheViews.{out-roll-Mark}
 use Rattle.suit_program.proofs.lemmas.Supports.WhatMarksName.{named_still, pushed_more}

@@ -2,7 +2,7 @@ use Rattle.std.proofs.Common.{◌≡◌, ℕ, List, Some, ap, arith, length, ◌
 use Rattle.std.specs.Prelude.{not, ◌||◌}
 use Rattle.std.specs.List.{list_any}
 use Rattle.std.proofs.lemmas.List.Elements.{All-contains}
-use Rattle.suit_cards.specs.Cards.{Counts}
+use Rattle.suit_cards.specs.Cards.{ClassLayout}
 use Rattle.suit_plans.specs.declared.moves.DeclarerMove.{DeclarerMove}
 use Rattle.suit_plans.specs.declared.moves.DefenceMove.{DefenceMove}
 use Rattle.suit_program.specs.Supports.Additions.{are_theirs, has_own, has_theirs}
@@ -27,7 +27,7 @@ pub returns-clause-added : goal.returns-clause-added
 returns-clause-added c =
     λ case.
     let long : length c.layouts.result.now ≡ length (layouts_of case.question) =
-    ap (λ (l : List (Counts × ℕ)). length l) (c.layouts.ensures ∙ case.grown.layouts) in
+    ap (λ (l : List (ClassLayout × ℕ)). length l) (c.layouts.ensures ∙ case.grown.layouts) in
     with_seen case.question c.args.self.now c.in_ok-next.next c.args.declarer.now c.args.defence.now
     c.in_ok-next.ensures.all
     (λ history move. c.in_ok-next.ensures.own history move

@@ -2,7 +2,7 @@ use Rattle.std.proofs.Common.{◌<◌, ◌-◌, List, filter, length, map, ap, �
 use Rattle.std.proofs.lemmas.List.{take_all}
 use Rattle.suit_tree.specs.declared.node.Node.{Node}
 use Rattle.suit_tree.specs.Nodes.{children_of, move_of}
-use Rattle.suit_tree.proofs.FittedNodes.{few_children}
+use Rattle.suit_tree.proofs.NodesFitMoves.{few_children}
 use Rattle.suit_program.specs.Walks.Reaches.{their_has}
 use Rattle.suit_program.proofs.lemmas.Walks.ReachTells.{their_kept}
 use Rattle.suit_program.proofs.walks.reach.Reach.answers.Goals as goal

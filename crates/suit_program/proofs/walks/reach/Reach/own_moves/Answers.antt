@@ -4,7 +4,7 @@ use Rattle.suit_classes.specs.declared.class_moves.ClassMove.{ClassMove}
 use Rattle.suit_classes.proofs.MovesOnce.{filter_of_map}
 use Rattle.suit_tree.specs.declared.node.Node.{Node}
 use Rattle.suit_tree.specs.Nodes.{children_of, move_of}
-use Rattle.suit_tree.proofs.FittedNodes.{few_children}
+use Rattle.suit_tree.proofs.NodesFitMoves.{few_children}
 use Rattle.suit_program.specs.Walks.Reaches.{own_has}
 use Rattle.suit_program.proofs.lemmas.Walks.KeptSoFar.{kept_one, kept_other}
 use Rattle.suit_program.proofs.lemmas.Walks.NoNode.{no_node}

@@ -1,7 +1,7 @@
 use Rattle.std.proofs.Common.{◌≡◌, ◌<◌, ◌≤◌, ◌∷◌, ◌^◌, [], List, length, map, ap, refl, ◌∙◌, arith, ℕ}
 use Rattle.std.specs.List.{range_with_len}
 use Rattle.std.proofs.lemmas.List.{length-append, map-append}
-use Rattle.suit_cards.specs.Cards.{Counts}
+use Rattle.suit_cards.specs.Cards.{ClassLayout}
 use Rattle.suit_layouts.specs.declared.class_list.TheConstants.{MOST_CLASS_LAYOUTS}
 use Rattle.suit_program.specs.declared.walks.reach.ReachedLayout.{ReachedLayout}
 use Rattle.suit_program.specs.Walks.Reaches.{layout_seen}
@@ -13,8 +13,8 @@ pub overflow_cast-index : goal.overflow_cast-index
 overflow_cast-index c =
     let most = layouts_few c.requires.question in
     let long : length c.layouts-count.result.now ≡ length c.args.tree.now.layouts.items =
-    ap (λ (l : List (Counts × ℕ)). length l) c.layouts-count.ensures in
-    let same = ap (λ (l : List (Counts × ℕ)). length l) c.requires.grown.layouts in
+    ap (λ (l : List (ClassLayout × ℕ)). length l) c.layouts-count.ensures in
+    let same = ap (λ (l : List (ClassLayout × ℕ)). length l) c.requires.grown.layouts in
     let small : c.loop-index.index < 2 ^ 8 = omega (arith, most, long, same, c.loop-index-test.true) in
     record { fits = small }
 
@@ -22,8 +22,8 @@ pub push-requires : goal.push-requires
 push-requires c =
     let most = layouts_few c.requires.question in
     let long : length c.layouts-count.result.now ≡ length c.args.tree.now.layouts.items =
-    ap (λ (l : List (Counts × ℕ)). length l) c.layouts-count.ensures in
-    let same = ap (λ (l : List (Counts × ℕ)). length l) c.requires.grown.layouts in
+    ap (λ (l : List (ClassLayout × ℕ)). length l) c.layouts-count.ensures in
+    let same = ap (λ (l : List (ClassLayout × ℕ)). length l) c.requires.grown.layouts in
     let small : length c.loop-index.layouts.items < MOST_CLASS_LAYOUTS =
     omega (arith, most, long, same, c.loop-index-test.true, c.loop-index.invariant.few) in
     (omega arith, small)
@@ -53,7 +53,7 @@ returns c =
     (c.loop-index.invariant.kept
     ∙ ap (λ (n : ℕ). map (layout_named c.args.support.now) (range_with_len 0 n)) (ended c.loop-index.index
     (length c.layouts-count.result.now) c.loop-index-test.false c.loop-index.auto.index-end
-    ∙ ap (λ (l : List (Counts × ℕ)). length l) (c.layouts-count.ensures ∙ grown.layouts)))
+    ∙ ap (λ (l : List (ClassLayout × ℕ)). length l) (c.layouts-count.ensures ∙ grown.layouts)))
   where
     ended : (n m : ℕ) → m ≤ n → n ≤ m → n ≡ m
     ended n m past within = omega (arith, past, within)
