@@ -19,7 +19,7 @@ use Rattle.suit_classes.specs.Classes.{Hands, class_below, class_count, class_of
 use Rattle.suit_classes.specs.declared.class_moves.ClassMove.{ClassMove}
 use Rattle.suit_classes.specs.declared.class_moves.ClassMove.TheVariants.{Lead, Follow, ShowOut}
 use Rattle.suit_classes.proofs.ClassNumbers.{class_below-reached, class_below-rises, class_top-first}
-use Rattle.suit_answer.specs.Letters.{class_letter, class_letters, class_lettered, move_read, move_due, move_word}
+use Rattle.suit_answer.specs.Letters.{class_letter, class_letters, class_named, move_read, move_due, move_word}
 use Rattle.suit_answer.specs.Writable.{IsWritableMove}
 use Rattle.suit_answer.proofs.NumberBack.{IsWord}
 
@@ -44,7 +44,7 @@ found_at at n h = let passes : nat_lt at n ≡ true = grind (arith, nat_tests) i
 
 -- the class of a letter is found again
 named_back : (names : Text) (class : ℕ) → AreLetters names → class < length names
-    → class_lettered names (slice_index names class) ≡ Some class
+    → class_named names (slice_index names class) ≡ Some class
 named_back names class good within =
     let byte = slice_index names class in
     let at : position_or_len (λ letter. letter == byte) names ≡ class =

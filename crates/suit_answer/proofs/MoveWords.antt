@@ -9,7 +9,7 @@ use Rattle.suit_cards.specs.Cards.{Text}
 use Rattle.suit_cards.specs.declared.seats.Seat.TheVariants.{N, S}
 use Rattle.suit_classes.specs.declared.class_moves.ClassMove.{ClassMove}
 use Rattle.suit_classes.specs.declared.class_moves.ClassMove.TheVariants.{Lead, Follow, ShowOut}
-use Rattle.suit_answer.specs.Letters.{class_lettered, move_read, move_due, move_word}
+use Rattle.suit_answer.specs.Letters.{class_named, move_read, move_due, move_word}
 use Rattle.suit_answer.specs.Writable.{IsWritableMove}
 use Rattle.suit_answer.specs.declared.faults.AnswerFault.TheVariants.{Move}
 
@@ -17,7 +17,7 @@ is_byte : (a b : ℕ) → (a == b) ≡ true → a ≡ b
 is_byte a b h = grind (arith, nat_tests)
 
 -- the class of a letter
-named_taken : (letters : Text) (byte class : ℕ) → class_lettered letters byte ≡ Some class
+named_taken : (letters : Text) (byte class : ℕ) → class_named letters byte ≡ Some class
     → (class < length letters) × (slice_index letters class ≡ byte)
 named_taken letters byte class h =
     let found = position-Some (λ letter. letter == byte) letters class 0 h in
@@ -26,7 +26,7 @@ named_taken letters byte class h =
 Taken : Text → Text → ClassMove → Type 0
 Taken letters word move = (word ≡ move_word letters move) × IsWritableMove (length letters) move
 
-follow_by : (letters : Text) (byte : ℕ) (o : Option ℕ) (b : Bool) (move : ClassMove) → class_lettered letters byte ≡ o
+follow_by : (letters : Text) (byte : ℕ) (o : Option ℕ) (b : Bool) (move : ClassMove) → class_named letters byte ≡ o
     → (byte == 45) ≡ b → cond b (Some ShowOut) (option_map (λ class. Follow class) o) ≡ Some move
     → Taken letters (byte ∷ []) move
 unfolding Taken
@@ -42,7 +42,7 @@ follow_by letters byte (Some class) false move e dash h =
     subst P same (ap (λ (x : ℕ). x ∷ []) (sym named.1), named.0)
 
 lead_by : (letters : Text) (hand byte : ℕ) (o : Option ℕ) (n s : Bool) (move : ClassMove)
-    → class_lettered letters byte ≡ o → (hand == 78) ≡ n → (hand == 83) ≡ s
+    → class_named letters byte ≡ o → (hand == 78) ≡ n → (hand == 83) ≡ s
     → option_and_then (λ seat. option_map (λ class. Lead seat class) o) (cond n (Some N) (cond s (Some S) None))
     ≡ Some move
     → Taken letters (hand ∷ byte ∷ []) move
@@ -66,9 +66,9 @@ lead_by letters hand byte (Some class) false true move e en es h =
 read_taken : (letters word : Text) (move : ClassMove) → move_read letters word ≡ Some move → Taken letters word move
 read_taken letters [] move h = absurd cc
 read_taken letters (byte ∷ []) move h =
-    follow_by letters byte (class_lettered letters byte) (byte == 45) move refl refl h
+    follow_by letters byte (class_named letters byte) (byte == 45) move refl refl h
 read_taken letters (hand ∷ byte ∷ []) move h =
-    lead_by letters hand byte (class_lettered letters byte) (hand == 78) (hand == 83) move refl refl refl h
+    lead_by letters hand byte (class_named letters byte) (hand == 78) (hand == 83) move refl refl refl h
 read_taken letters (a ∷ b ∷ c ∷ bytes) move h = absurd cc
 
 due_taken : (line : ℕ) (o : Option ClassMove) (move : ClassMove) → ok_or o (Move line) ≡ Ok move → o ≡ Some move

@@ -11,12 +11,12 @@ use Rattle.suit_game.specs.Layouts.{total}
 use Rattle.suit_game.specs.Validity.{IsValid}
 use Rattle.suit_plans.specs.declared.plan.TheConstants.{MOST_DEN}
 use Rattle.suit_game.specs.declared.limits.TheConstants.{MOST_TOTAL}
-use Rattle.suit_answer.specs.Reduced.{fraction, fraction_by_sign}
+use Rattle.suit_answer.specs.Reduced.{fraction, fraction_by}
 use Rattle.suit_answer.specs.LowestTermsAreExact.{lowest_den, lowest_exact, lowest_num}
 use Rattle.suit_answer.proofs.Lowest.{same_fraction}
 
 by_exact : (num den : ℤ) (b : Bool) (told : int_lt (pos 0) den ≡ b) → pos 0 <ℤ den
-    → num *ℤ (fraction_by_sign num den b told).den ≡ (fraction_by_sign num den b told).num *ℤ den
+    → num *ℤ (fraction_by num den b told).den ≡ (fraction_by num den b told).num *ℤ den
 by_exact num den true told some = lowest_exact num den told
 by_exact num den false told some =
     let low : den ≤ℤ pos 0 = int_lt-false (pos 0) den told in absurd (omega (arith, ints))
@@ -27,8 +27,8 @@ unfolding fraction
 fraction_exact num den some = by_exact num den (int_lt (pos 0) den) (λ i. int_lt (pos 0) den) some
 
 by_small : (num den : ℤ) (b : Bool) (told : int_lt (pos 0) den ≡ b) → pos 0 <ℤ den → pos 0 ≤ℤ num
-    → (pos 0 ≤ℤ (fraction_by_sign num den b told).num) × ((fraction_by_sign num den b told).num ≤ℤ num)
-    × ((fraction_by_sign num den b told).den ≤ℤ den)
+    → (pos 0 ≤ℤ (fraction_by num den b told).num) × ((fraction_by num den b told).num ≤ℤ num)
+    × ((fraction_by num den b told).den ≤ℤ den)
 by_small num den true told some low =
     let small = lowest_num num den told low in (small.0, small.1, lowest_den num den told)
 by_small num den false told some low =

@@ -22,8 +22,8 @@ unfoldable pub class_letters : Hands → Text
 class_letters hands = map (class_letter hands) (range_with_len 0 (class_count hands))
 
 -- the class that a byte is the letter of, among the letters of all classes
-abbrev pub class_lettered : Text → ℕ → Option ℕ
-class_lettered letters byte = position (λ letter. letter == byte) letters
+abbrev pub class_named : Text → ℕ → Option ℕ
+class_named letters byte = position (λ letter. letter == byte) letters
 
 -- the hand of declarer's that a byte names: 78 is `N`, and 83 is `S`
 abbrev pub hand_named : ℕ → Option Seat
@@ -32,14 +32,14 @@ hand_named byte = if byte == 78 then Some N else if byte == 83 then Some S else 
 -- a follow with a class, or a dash, which is 45, for showing out
 abbrev pub follow_named : Text → ℕ → Option ClassMove
 follow_named letters byte = if byte == 45 then Some ShowOut
-    else option_map (λ class. Follow class) (class_lettered letters byte)
+    else option_map (λ class. Follow class) (class_named letters byte)
 
 -- the move that a word stands for
 abbrev pub move_read : Text → Text → Option ClassMove
 move_read letters [] = None
 move_read letters (byte ∷ []) = follow_named letters byte
 move_read letters (hand ∷ byte ∷ []) =
-    option_and_then (λ seat. option_map (λ class. Lead seat class) (class_lettered letters byte)) (hand_named hand)
+    option_and_then (λ seat. option_map (λ class. Lead seat class) (class_named letters byte)) (hand_named hand)
 move_read letters (byte ∷ next ∷ more ∷ bytes) = None
 
 -- the move that is due in a line of this number

@@ -11,19 +11,18 @@ abbrev pub divisor_of : ℤ → ℤ → ℤ
 divisor_of num den = pos (gcd_of (unsigned_abs num) (unsigned_abs den))
 
 -- a number over another by whether that is positive; nothing, as 0 over 1, where it is not
-abbrev pub fraction_by_sign : (num den : ℤ) (is_positive : Bool) → int_lt (pos 0) den ≡ is_positive → Frac
-fraction_by_sign num den true told = record {
+abbrev pub fraction_by : (num den : ℤ) (is_positive : Bool) → int_lt (pos 0) den ≡ is_positive → Frac
+fraction_by num den true told = record {
   num = int_div num (divisor_of num den);
   den = int_div den (divisor_of num den);
   positive = lowest_positive num den told;
   coprime = lowest_coprime num den told;
 }
-fraction_by_sign num den false told =
-    record { num = pos 0; den = pos 1; positive = one_positive; coprime = one_coprime }
+fraction_by num den false told = record { num = pos 0; den = pos 1; positive = one_positive; coprime = one_coprime }
 
 -- a number over a positive number, in lowest terms
 unfoldable pub fraction : ℤ → ℤ → Frac
-fraction num den = fraction_by_sign num den (int_lt (pos 0) den) (λ i. int_lt (pos 0) den)
+fraction num den = fraction_by num den (int_lt (pos 0) den) (λ i. int_lt (pos 0) den)
 
 -- a number over a denominator and the total weight
 abbrev pub value_over : Question → ℤ → ℤ → Frac

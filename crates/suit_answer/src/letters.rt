@@ -1,8 +1,7 @@
 //! The letters of classes, and the words of moves.
 ghost use Rattle.std.specs.Prelude.{◌≡◌, ◌<◌, ◌≤◌, ◌==◌, IfSome, length, position, slice_index};
 ghost use Rattle.suit_classes.specs.Classes.{hands_of, class_count};
-ghost use Rattle.suit_answer.specs.Letters.{class_letters, class_lettered, hand_named, follow_named, move_read};
-ghost use Rattle.suit_answer.specs.Letters.{move_due};
+ghost use Rattle.suit_answer.specs.Letters.{class_letters, class_named, hand_named, follow_named, move_read, move_due};
 ghost use Rattle.suit_answer.specs.Results.{Gives};
 
 use crate::faults::{AnswerFault, ReadEnd};
@@ -54,7 +53,7 @@ impl ClassLetters {
 
     /// The class of a letter.
     pub fn class_of(&self, letter: u8) -> Option<u8>
-        ensures { result ≡ class_lettered self.now letter }
+        ensures { result ≡ class_named self.now letter }
     {
         let class = index_of(letter, self.letters.as_slice())?;
         Some(class as u8)

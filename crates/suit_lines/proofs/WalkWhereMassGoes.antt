@@ -260,7 +260,7 @@ choice_told question plan history view mass all moves stands goes =
 -- its line
 pub line_written : (question : Question) (plan : Plan) (history : ClassHistory) (view : ClassView) (mass : ℤ)
     (all : List ClassLayout) (letters : Text) (shares : List (ClassMove × ℤ))
-    → StandsAt question plan history view mass all
+        → StandsAt question plan history view mass all
     → letters ≡ class_letters (hands_of question) → shares ≡ live_shares question plan history
     → opening letters (class_start question) history
     ++ choice_words letters (class_turn view) mass shares ++ codes ".\n"

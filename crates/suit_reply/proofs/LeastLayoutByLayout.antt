@@ -116,8 +116,8 @@ pub weighs_at : (question : Question) (layouts : List (ClassLayout × ℕ)) (ind
     → (get_or layouts index layout).1 ≡ (layout_at question index).1
 weighs_at question layouts index layout same below =
     ap (λ (other : ClassLayout × ℕ). other.1)
-    (get_or_default layouts index layout ([], 0) below
-    ∙ ap (λ (l : List (ClassLayout × ℕ)). get_or l index ([], 0)) same)
+    (get_or_default layouts index layout ([], 0) below ∙ ap (λ (l : List (ClassLayout × ℕ)). get_or l index
+        ([], 0)) same)
 
 -- ---- some class layouts
 

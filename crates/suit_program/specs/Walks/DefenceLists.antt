@@ -80,8 +80,8 @@ AreAdded walk history masses shares count old new =
     (get_or shares index held)
 
 -- the rows from a class history on are added to the lists of all class layouts
-abbrev pub AreRowsRead : DefenceWalk → Reach → ClassHistory → ℕ → List ℤ → List RowList → List RowList → Type 0
-AreRowsRead walk reach history row masses old new =
+abbrev pub AreRead : DefenceWalk → Reach → ClassHistory → ℕ → List ℤ → List RowList → List RowList → Type 0
+AreRead walk reach history row masses old new =
     (index : ℕ) (reader : DefenceReader) (mass : ℤ) (list : RowList) → index < length walk.readers.now
     → (stop : IsDefenceStop (get_or walk.readers.now index reader) reach history row (get_or masses index mass))
     → (get_or new index list).items ≡ (get_or old index list).items

@@ -4,8 +4,7 @@ ghost use Rattle.std.specs.List.{flat_map};
 ghost use Rattle.suit_game.specs.declared.limits.TheConstants.{MOST_TOTAL};
 ghost use Rattle.suit_layouts.specs.declared.class_list.TheConstants.{MOST_CLASS_LAYOUTS};
 ghost use Rattle.suit_plans.specs.declared.plan.TheConstants.{MOST_DEN};
-ghost use Rattle.suit_program.specs.Walks.DefenceLists.{AreAdded, AreDefenceStops, AreDefenceTurns, AreRowsRead};
-ghost use Rattle.suit_program.specs.Walks.DefenceLists.{AreShared};
+ghost use Rattle.suit_program.specs.Walks.DefenceLists.{AreAdded, AreDefenceStops, AreDefenceTurns, AreRead, AreShared};
 ghost use Rattle.suit_program.specs.Walks.DefenceLists.{AreEmptyLists, AreReaders, rows_of};
 ghost use Rattle.suit_program.specs.Walks.DefenceWalks.{IsPricedTree};
 ghost use Rattle.suit_program.specs.Supports.Marks.{support_seen};
@@ -168,7 +167,7 @@ impl DefenceWalk<'_> {
         ensures row { IfOk result (λ after. Reached reach.now (λ question support told.
             after ≡ row + length (walked (limits_at question support) question support told))) }
         ensures lists { OnOk result (length lists.new.items ≡ length lists.old.items) }
-        ensures rows { OnOk result (AreRowsRead self.now reach.now history.old.items row masses.now lists.old.items
+        ensures rows { OnOk result (AreRead self.now reach.now history.old.items row masses.now lists.old.items
             lists.new.items) }
         ensures kept { OnOk result (history.new.items ≡ history.old.items) }
     {

@@ -23,8 +23,7 @@ use Rattle.suit_program.specs.declared.walks.defence_walk.DefenceWalk.{DefenceWa
 use Rattle.suit_program.specs.declared.walks.reach.Reach.{Reach}
 use Rattle.suit_program.specs.declared.supports.support.Support.{Support as MarkedSupport}
 use Rattle.suit_program.specs.Walks.AnswerRows.{layout_at}
-use Rattle.suit_program.specs.Walks.DefenceLists.{AreDefenceStops, AreEmptyLists, AreRowsRead, AreReaders, RowList}
-use Rattle.suit_program.specs.Walks.DefenceLists.{rows_of}
+use Rattle.suit_program.specs.Walks.DefenceLists.{AreDefenceStops, AreEmptyLists, AreRead, AreReaders, RowList, rows_of}
 use Rattle.suit_program.specs.Walks.DefenceWalks.{IsDefenceStop, IsPricedTree, their_row}
 use Rattle.suit_program.specs.Supports.Marks.{support_seen}
 use Rattle.suit_program.specs.Programs.{limits, limits_at}
@@ -167,7 +166,7 @@ module _ (tree : Tree) (support : MarkedSupport) (prices : List ℤ) (scale : �
       → masses ≡ map (λ (layout : ClassLayout × ℕ). pos layout.1 *ℤ scale) tree.layouts.items → IsReach q s [] reach
       → history ≡ [] → (old new : List RowList) → length new ≡ length old
       → AreEmptyLists (length tree.layouts.items) old
-      → AreRowsRead walk reach history 0 masses old new
+      → AreRead walk reach history 0 masses old new
       → flat_map rows_of new ≡ flat_map (defence_rows_in q s prices scale) (layouts_of q)
   all_rows walk reach history masses priced readers is reached none old new same empty read =
       let long = ap (λ (l : List (ClassLayout × ℕ)). length l) case.grown.layouts in
