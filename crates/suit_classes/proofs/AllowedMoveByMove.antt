@@ -5,6 +5,10 @@ use Rattle.std.specs.Prelude.{fold, map, filter, Contains, ◌↔◌, if◌then�
 use Rattle.std.specs.List.{AllByRecursion}
 use Rattle.std.proofs.lemmas.Bool.{cases_lt}
 use Rattle.std.proofs.lemmas.List.{map-append}
+use Rattle.suit_lists.proofs.Elements.{Contains-cons_cases, Contains-first, Contains-later, Contains-nil, each_at}
+use Rattle.suit_lists.proofs.Elements.{each_gives}
+use Rattle.suit_lists.proofs.Filters.{Contains-filter, each_filter}
+use Rattle.suit_lists.proofs.Maps.{Contains-map, Contains-map_from}
 use Rattle.suit_game.specs.Histories.{History}
 use Rattle.suit_cards.specs.Cards.{Cards, ClassLayout}
 use Rattle.suit_cards.specs.Ranks.{IsRank}
@@ -14,8 +18,6 @@ use Rattle.suit_game.specs.Layouts.{layouts}
 use Rattle.suit_game.specs.Positions.{Position, LegalFrom, IsLegal, legal, legal_at, start_place, step}
 use Rattle.suit_game.specs.PlaceViews.{IsPlay}
 use Rattle.suit_game.specs.Validity.{IsValid}
-use Rattle.suit_game.proofs.EachElement.{Contains-cons_cases, Contains-first, Contains-later, Contains-map_from}
-use Rattle.suit_game.proofs.EachElement.{Contains-nil, each_at, each_filter, each_gives, Contains-filter, Contains-map}
 use Rattle.suit_game.proofs.PlaceSeenAfterAMove.{play_more, play_none}
 use Rattle.suit_classes.specs.declared.class_moves.ClassMove.{ClassMove}
 use Rattle.suit_classes.specs.Classes.{Hands, hands_of, class_below, class_of, holder, same_owner}

@@ -5,6 +5,11 @@ use Rattle.std.specs.Prelude.{filter, sum, sum_by, Contains, ◌==◌, if◌then
 use Rattle.std.specs.List.{AllByRecursion, range_with_len}
 use Rattle.std.proofs.lemmas.Bool.{eq-eqb, ne_eqb}
 use Rattle.std.proofs.lemmas.List.Sums.{sum_by-cons}
+use Rattle.suit_lists.proofs.Elements.{Contains-cons_cases, Contains-nil, each_at}
+use Rattle.suit_lists.proofs.Filters.{Contains-filter}
+use Rattle.suit_lists.proofs.Once.{IsOnce, once_filter, once_range}
+use Rattle.suit_lists.proofs.Sums.{sum_by_none, sum_by_same}
+use Rattle.suit_lists.proofs.Walks.{Contains-range}
 use Rattle.suit_cards.specs.Cards.{Cards, Indices}
 use Rattle.suit_cards.specs.Holdings.{holds}
 use Rattle.suit_cards.proofs.WhetherARankIsHeld.{holds_tells}
@@ -12,17 +17,13 @@ use Rattle.suit_cards.proofs.HoldingIsWhatItHolds.{IsHolding-others_of, IsRank-h
 use Rattle.suit_game.specs.declared.question.Question.{Question}
 use Rattle.suit_game.specs.Positions.{without}
 use Rattle.suit_game.specs.Question.{missing}
-use Rattle.suit_game.proofs.EachElement.{Contains-cons_cases, Contains-filter, Contains-nil, Contains-range, each_at}
 use Rattle.suit_game.proofs.WhatAHandHolds.{each_held, length-left_and_gone}
-use Rattle.suit_game.proofs.ListSums.{sum_by_none, sum_by_same}
 use Rattle.suit_classes.specs.declared.classes.Owner.TheVariants as owners
 use Rattle.suit_classes.specs.Classes.{Hands, hands_of, class_count, class_of, class_owner, defence_classes, same_owner}
 use Rattle.suit_classes.specs.ClassGame.{cards_in, counts_of}
 use Rattle.suit_classes.proofs.ClassNumbers.{class_of-below}
 use Rattle.suit_classes.proofs.OneSideHoldsAClass.{cards_left_of_class, missing_holder}
 use Rattle.suit_classes.proofs.DefenceClasses.{class_owner-class_of}
-use Rattle.suit_classes.proofs.DistinctMoves.{once_range}
-use Rattle.suit_game.proofs.DistinctElements.{IsOnce, once_filter}
 
 one_more : (b : Bool) (card : ℕ) (cards : Cards)
     → length (cond b (card ∷ cards) cards) ≡ (if b then 1 else 0) + length cards

@@ -1,14 +1,14 @@
 -- Lists of class moves rise by the order of class moves: class_moves_rise and every_move_rises.
-use Rattle.std.proofs.Common.{◌≡◌, ℕ, zero, suc, ◌+◌, ◌<◌, Bool, true, false, cond, List, [], ◌∷◌, ◌++◌, map, refl}
+use Rattle.std.proofs.Common.{◌≡◌, ℕ, zero, suc, ◌+◌, ◌<◌, Bool, true, false, List, [], ◌∷◌, ◌++◌, map, refl}
 use Rattle.std.proofs.Common.{arith}
-use Rattle.std.specs.Prelude.{AllPairs, filter, nat_lt, slice_index, if◌then◌else◌}
+use Rattle.std.specs.Prelude.{filter, nat_lt, slice_index, if◌then◌else◌}
 use Rattle.std.specs.List.{AllByRecursion, range_with_len}
 use Rattle.std.proofs.lemmas.Bool.{lt-ltb}
-use Rattle.std.proofs.lemmas.List.Elements.{All-from_recursion}
-use Rattle.std.proofs.lemmas.List.Kept.{AllPairs-cons}
+use Rattle.suit_lists.proofs.Chains.{Chained, chained_append, chained_filter, chained_map, chained_pairs}
+use Rattle.suit_lists.proofs.Elements.{each_append, each_of}
+use Rattle.suit_lists.proofs.Maps.{each_map}
 use Rattle.suit_cards.specs.Cards.{ClassLayout, Indices}
 use Rattle.suit_cards.specs.declared.seats.Seat.TheVariants.{N, S}
-use Rattle.suit_game.proofs.EachElement.{each_append, each_filter, each_gives, each_map, each_of}
 use Rattle.suit_classes.specs.declared.class_moves.ClassMove.{ClassMove}
 use Rattle.suit_classes.specs.declared.class_moves.ClassMove.TheVariants.{Lead, Follow, ShowOut}
 use Rattle.suit_classes.specs.WhatIsAllowed.{every_move}
@@ -17,46 +17,6 @@ use Rattle.suit_classes.specs.ClassPlaces.{ClassTrick, ClassView, class_moves, c
 use Rattle.suit_classes.specs.ClassPlaces.{classes_left, counted_classes, left, may_lead, or_show_out}
 use Rattle.suit_classes.specs.MoveOrder.{AreRising, stands_before}
 use Rattle.suit_classes.specs.declared.classes.TheConstants.{MOST_CLASSES}
-
--- each element of a list is related to all later ones
-unfoldable pub Chained : {X : Type 0} → (X → X → Type 0) → List X → Type 0
-Chained R [] = Unit {0}
-Chained R (x ∷ xs) = AllByRecursion (R x) xs × Chained R xs
-
-pub chained_pairs : {X : Type 0} (R : X → X → Type 0) (xs : List X) → Chained R xs → AllPairs R xs
-unfolding Chained
-chained_pairs R [] chain = λ i j d below within. absurd (omega arith)
-chained_pairs R (x ∷ xs) chain =
-    AllPairs-cons R x xs (All-from_recursion (R x) xs chain.0) (chained_pairs R xs chain.1)
-
-pub chained_append : {X : Type 0} (R : X → X → Type 0) (xs ys : List X) → Chained R xs → Chained R ys
-    → AllByRecursion (λ x. AllByRecursion (R x) ys) xs → Chained R (xs ++ ys)
-unfolding Chained
-chained_append R [] ys chain others across = others
-chained_append R (x ∷ xs) ys chain others across =
-    (each_append (R x) xs ys chain.0 across.0, chained_append R xs ys chain.1 others across.1)
-
-chained_kept : {X : Type 0} (R : X → X → Type 0) (x : X) (xs : List X) (keeps : Bool) → AllByRecursion (R x) xs
-    → Chained R xs → Chained R (cond keeps (x ∷ xs) xs)
-unfolding Chained
-chained_kept R x xs true each chain = (each, chain)
-chained_kept R x xs false each chain = chain
-
-pub chained_filter : {X : Type 0} (R : X → X → Type 0) (test : X → Bool) (xs : List X) → Chained R xs
-    → Chained R (filter test xs)
-unfolding Chained
-chained_filter R test [] chain = tt
-chained_filter R test (x ∷ xs) chain =
-    chained_kept R x (filter test xs) (test x) (each_filter (R x) test xs chain.0) (chained_filter R test xs chain.1)
-
-pub chained_map : {X Y : Type 0} (R : X → X → Type 0) (Q : Y → Y → Type 0) (f : X → Y) (xs : List X)
-    → ((x y : X) → R x y → Q (f x) (f y)) → Chained R xs → Chained Q (map f xs)
-unfolding Chained
-chained_map R Q f [] keeps chain = tt
-chained_map R Q f (x ∷ xs) keeps chain = (
-  each_map (Q (f x)) f xs (each_gives (R x) (λ y. Q (f x) (f y)) xs (keeps x) chain.0),
-  chained_map R Q f xs keeps chain.1,
-)
 
 -- one number is below another
 abbrev IsBelow : ℕ → ℕ → Type 0

@@ -7,13 +7,15 @@ use Rattle.std.proofs.lemmas.Bool.{and_from, and_parts}
 use Rattle.std.proofs.lemmas.Simd.{map-map}
 use Rattle.std.proofs.lemmas.List.{append-nil, append_assoc}
 use Rattle.std.proofs.lemmas.List.Sums.{length-filter}
+use Rattle.suit_lists.proofs.Elements.{each_gives}
+use Rattle.suit_lists.proofs.Maps.{map_same}
+use Rattle.suit_lists.proofs.Sums.{sum_by_alike}
 use Rattle.suit_classes.specs.ClassMoves.{ClassHistory}
 use Rattle.suit_cards.specs.Cards.{Cards, ClassLayout}
 use Rattle.suit_cards.specs.Holdings.{FallsBelow, IsHolding, holds}
 use Rattle.suit_cards.proofs.SuitRuns.{holds-filter_suit}
 use Rattle.suit_game.specs.declared.question.Question.{Question}
 use Rattle.suit_game.specs.Validity.{IsValid}
-use Rattle.suit_game.proofs.EachElement.{each_gives, map_same}
 use Rattle.suit_game.proofs.LayoutCards.{layouts_are_deals}
 use Rattle.suit_classes.specs.Classes.{Hands, hands_of, class_of, class_ranks, defence_classes, defence_sizes, sizes_of}
 use Rattle.suit_classes.specs.ClassGame.{Allows, cards_in, counts_of}
@@ -23,7 +25,6 @@ use Rattle.suit_classes.proofs.RankBlocks.{missing_in_blocks}
 use Rattle.suit_classes.proofs.SmallCounts.{class_after_move}
 use Rattle.suit_game.specs.Layouts.{layouts}
 use Rattle.suit_game.specs.Blocks.{blocks_of, counts_in, counts_of as block_counts}
-use Rattle.suit_game.proofs.ListSums.{sum_by_alike}
 use Rattle.suit_classes.proofs.SameMoves.{among-Contains, among_contained}
 use Rattle.suit_classes.specs.WhatIsAllowed.{allows, allows_from, is_among}
 

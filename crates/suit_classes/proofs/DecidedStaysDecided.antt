@@ -3,6 +3,7 @@ use Rattle.std.proofs.Common.{◌≡◌, ℕ, ◌+◌, ◌<◌, ◌≤◌, max, 
 use Rattle.std.specs.Prelude.{fold, nat_lt, nat_le, Contains}
 use Rattle.std.proofs.lemmas.Bool.{or_cases, ltb-true, leb-true, le-leb, lt-leb, false≢true}
 use Rattle.std.proofs.lemmas.List.{length-map}
+use Rattle.suit_lists.proofs.Elements.{Contains-nil}
 use Rattle.suit_game.specs.Histories.{History}
 use Rattle.suit_cards.specs.Cards.{Cards, ClassLayout}
 use Rattle.suit_cards.specs.declared.seats.Seat.TheVariants.{N, S}
@@ -14,7 +15,6 @@ use Rattle.suit_game.specs.Positions.{Position, Trick, Closed, Open, LegalFrom, 
 use Rattle.suit_game.specs.Positions.{legal_in, payoff, step}
 use Rattle.suit_game.specs.PlaceViews.{IsPlay}
 use Rattle.suit_game.specs.Reached.{IsWithin, turns_had}
-use Rattle.suit_game.proofs.EachElement.{Contains-nil}
 use Rattle.suit_game.proofs.LongestPlay.{histories_are_short}
 use Rattle.suit_game.proofs.WonTricks.{won_stays_within}
 use Rattle.suit_classes.specs.Classes.{hands_of}

@@ -5,11 +5,11 @@ use Rattle.std.specs.Prelude.{filter, nat_lt, slice_index, if◌then◌else◌}
 use Rattle.std.specs.List.{AllByRecursion, range_with_len}
 use Rattle.std.proofs.lemmas.List.Elements.{filter_passes, recursion_from_All}
 use Rattle.std.proofs.lemmas.Bool.{true≢false}
+use Rattle.suit_lists.proofs.Elements.{each_gives, each_of, each_unless}
+use Rattle.suit_lists.proofs.Maps.{each_map}
+use Rattle.suit_lists.proofs.Once.{IsOnce, once_append, once_filter, once_if, once_map, once_range}
 use Rattle.suit_cards.specs.Cards.{ClassLayout}
 use Rattle.suit_cards.specs.declared.seats.Seat.TheVariants.{N, S}
-use Rattle.suit_game.proofs.EachElement.{each_gives}
-use Rattle.suit_game.proofs.EachElement.{each_map, each_of}
-use Rattle.suit_game.proofs.DistinctElements.{IsOnce, once_append, once_filter, once_map}
 use Rattle.suit_classes.specs.declared.class_moves.ClassMove.{ClassMove}
 use Rattle.suit_classes.specs.declared.class_moves.ClassMove.TheVariants.{Lead, Follow}
 use Rattle.suit_classes.specs.ClassGame.{each_once}
@@ -25,29 +25,9 @@ range_above : (low from count : ℕ) → low < from → AllByRecursion (λ n. lo
 range_above low from zero above = tt
 range_above low from (suc count) above = (λ same. omega (arith, same), range_above low (from + 1) count (omega arith))
 
-pub once_range : (from count : ℕ) → IsOnce (range_with_len from count)
-unfolding IsOnce
-once_range from zero = tt
-once_range from (suc count) = (range_above from (from + 1) count (omega arith), once_range (from + 1) count)
-
 once_numbers : (test : ℕ → Bool) → IsOnce (filter test class_numbers)
 unfolding class_numbers
 once_numbers test = once_filter test (range_with_len 0 MOST_CLASSES) (once_range 0 MOST_CLASSES)
-
-pub once_unless : {X : Type 0} (b : Bool) (xs : List X) → IsOnce xs → IsOnce (if b then [] else xs)
-unfolding IsOnce
-once_unless true xs once = tt
-once_unless false xs once = once
-
-once_if : (b : Bool) (moves : List ClassMove) → IsOnce moves → IsOnce (if b then moves else [])
-unfolding IsOnce
-once_if true moves once = once
-once_if false moves once = tt
-
-pub each_if : (P : ClassMove → Type 0) (b : Bool) (moves : List ClassMove) → AllByRecursion P moves
-    → AllByRecursion P (if b then moves else [])
-each_if P true moves each = each
-each_if P false moves each = tt
 
 once_or_show_out : (moves : List ClassMove) → IsOnce moves → IsOnce (or_show_out moves)
 unfolding IsOnce
@@ -69,13 +49,13 @@ once_leads view =
     (once_if (may_lead view.lead view.entries_s S) south
     (once_map (Lead S) (counted_classes view.south) (λ class number same. ap class_named same)
     (once_numbers (λ class. nat_lt 0 (slice_index view.south class)))))
-    (each_if (λ move. AllByRecursion (λ other. move ≡ other → ⊥) (if may_lead view.lead view.entries_s S then south
+    (each_unless (λ move. AllByRecursion (λ other. move ≡ other → ⊥) (if may_lead view.lead view.entries_s S then south
     else [])) (may_lead view.lead view.entries_n N) north
     (each_map (λ move. AllByRecursion (λ other. move ≡ other → ⊥) (if may_lead view.lead view.entries_s S then south
     else [])) (Lead N) (counted_classes view.north)
     (each_of (λ class. AllByRecursion (λ other. Lead N class ≡ other
     → ⊥) (if may_lead view.lead view.entries_s S then south else [])) (counted_classes view.north)
-    (λ class. each_if (λ other. Lead N class ≡ other → ⊥) (may_lead view.lead view.entries_s S) south
+    (λ class. each_unless (λ other. Lead N class ≡ other → ⊥) (may_lead view.lead view.entries_s S) south
     (each_map (λ other. Lead N class ≡ other → ⊥) (Lead S) (counted_classes view.south)
     (each_of (λ number. Lead N class ≡ Lead S number → ⊥) (counted_classes view.south) (lead_kinds class)))))))
 

@@ -2,12 +2,14 @@
 use Rattle.std.proofs.Common.{◌≡◌, ℕ, Bool, true, false, cond, nat_lt, List, [], ◌∷◌, ◌++◌, refl, sym, ap, ◌∙◌, inl}
 use Rattle.std.proofs.Common.{inr}
 use Rattle.std.specs.Prelude.{◌&&◌, ◌||◌, Contains, map, filter, slice_index, if◌then◌else◌}
-use Rattle.std.specs.List.{AllByRecursion}
 use Rattle.std.proofs.lemmas.Bool.{cases_Bool, false≢true}
 use Rattle.std.proofs.lemmas.List.Elements.{filter-append}
+use Rattle.std.proofs.lemmas.List.{append-nil}
+use Rattle.suit_lists.proofs.Basics.{is_none}
+use Rattle.suit_lists.proofs.Elements.{each_in}
+use Rattle.suit_lists.proofs.Filters.{Contains-filter, filter_alike, filter_none, filter_of_map}
 use Rattle.suit_cards.specs.declared.seats.Seat.{Seat}
 use Rattle.suit_cards.specs.declared.seats.Seat.TheVariants.{N, E, S, W}
-use Rattle.suit_game.proofs.EachElement.{each_in, Contains-filter}
 use Rattle.suit_classes.specs.declared.class_moves.ClassMove.{ClassMove}
 use Rattle.suit_classes.specs.declared.class_moves.ClassMove.TheVariants.{Lead, Follow, ShowOut}
 use Rattle.suit_classes.specs.ClassMoves.{same_class_move}
@@ -16,7 +18,6 @@ use Rattle.suit_classes.specs.declared.class_trick.ClassTrick.{ClassTrick}
 use Rattle.suit_classes.specs.declared.class_trick.ClassTrick.TheVariants.{Closed, Open}
 use Rattle.suit_classes.specs.ClassPlaces.{class_moves, class_moves_in, class_numbers, classes_left, counted_classes}
 use Rattle.suit_classes.specs.ClassPlaces.{left, may_lead, or_show_out}
-use Rattle.suit_classes.proofs.MovesOnce.{filter_of_map}
 use Rattle.suit_classes.proofs.SameMoves.{among_contained, same_move_is}
 use Rattle.suit_classes.specs.WhatIsAllowed.{is_among, every_move}
 
@@ -46,14 +47,6 @@ among_kept may moves move found = elim (cases_Bool (may move)) [
   | inr fails ↦ among_kept-fails may moves move fails ∙ sym fails
 ]
 
--- tests that agree on a list keep the same of it
-pub filter_alike : {X : Type 0} (p q : X → Bool) (xs : List X) → AllByRecursion (λ x. p x ≡ q x) xs
-    → filter p xs ≡ filter q xs
-filter_alike p q [] alike = refl
-filter_alike {X} p q (x ∷ xs) alike =
-    ap (λ (b : Bool). cond b (x ∷ filter p xs) (filter p xs)) alike.0
-    ∙ ap (λ (l : List X). cond (q x) (x ∷ l) l) (filter_alike p q xs alike.1)
-
 -- what a test keeps of a list is also kept by asking what is among it
 pub kept_by_among : (may : ClassMove → Bool) (moves : List ClassMove)
     → filter may moves ≡ filter (is_among (filter may moves)) moves
@@ -61,14 +54,6 @@ kept_by_among may moves =
     filter_alike may (is_among (filter may moves)) moves
     (each_in (λ move. may move ≡ is_among (filter may moves) move) moves
     (λ move found. sym (among_kept may moves move found)))
-
-pub filter_none : {X : Type 0} (xs : List X) → filter (λ x. false) xs ≡ []
-filter_none [] = refl
-filter_none (x ∷ xs) = filter_none xs
-
-unfoldable pub is_none : {X : Type 0} → List X → Bool
-is_none [] = true
-is_none (x ∷ xs) = false
 
 -- whether a move may be made at a trick
 unfoldable pub may_make : ClassView → List ℕ → ClassTrick → ClassMove → Bool
@@ -90,16 +75,12 @@ led_kept : (may : Bool) (seat : Seat) (counts classes : List ℕ)
 led_kept true seat counts classes = refl
 led_kept false seat counts classes = ap (map (Lead seat)) (filter_none classes)
 
-append_nothing : {X : Type 0} (xs : List X) → xs ++ [] ≡ xs
-append_nothing [] = refl
-append_nothing {X} (x ∷ xs) = ap (λ (l : List X). x ∷ l) (append_nothing xs)
-
 shown_or_not : (classes : List ℕ)
     → or_show_out (map Follow classes) ≡ map Follow classes ++ cond (is_none classes) (ShowOut ∷ []) []
 unfolding is_none
 shown_or_not [] = refl
 shown_or_not (class ∷ classes) =
-    ap (λ (l : List ClassMove). Follow class ∷ l) (sym (append_nothing (map Follow classes)))
+    ap (λ (l : List ClassMove). Follow class ∷ l) (sym (append-nil (map Follow classes)))
 
 pub filter_joined : (may : ClassMove → Bool) (north south follow shown : List ClassMove)
     → filter may (north ++ south ++ follow ++ shown) ≡ filter may north ++ filter may south ++ filter may follow
@@ -149,8 +130,8 @@ moves_kept view counts Closed =
     sym
     (kinds_kept may
     ∙ ap (λ (l : List ℕ). leads_n ++ leads_s ++ map Follow l ++ []) (filter_none class_numbers)
-    ∙ append_nothing (leads_n ++ leads_s ++ [])
-    ∙ append_nothing (leads_n ++ leads_s)
+    ∙ append-nil (leads_n ++ leads_s ++ [])
+    ∙ append-nil (leads_n ++ leads_s)
     ∙ ap (λ (l : List ClassMove). l ++ leads_s) (led_kept may_n N view.north class_numbers)
     ∙ ap (λ (l : List ClassMove). (if may_n then map (Lead N) (counted_classes view.north) else [])
     ++ l) (led_kept may_s S view.south class_numbers))

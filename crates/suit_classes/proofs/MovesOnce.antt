@@ -5,6 +5,7 @@ use Rattle.std.specs.Prelude.{map, filter, nat_lt, ◌==◌}
 use Rattle.std.specs.List.{range_with_len}
 use Rattle.std.proofs.lemmas.Bool.{cases_eq, eq-eqb, ne_eqb, lt-ltb}
 use Rattle.std.proofs.lemmas.List.Elements.{filter-append, filter_agree}
+use Rattle.suit_lists.proofs.Filters.{filter_of_map}
 use Rattle.suit_cards.specs.Cards.{Cards, Indices}
 use Rattle.suit_cards.specs.declared.seats.Seat.TheVariants.{N, S}
 use Rattle.suit_cards.specs.Holdings.{IsHolding}
@@ -22,17 +23,6 @@ use Rattle.suit_classes.specs.declared.classes.TheConstants.{MOST_CLASSES}
 -- whether some of a list have a number
 abbrev has_number : (ℕ → ℕ) → List ℕ → ℕ → Bool
 has_number f xs number = nat_lt 0 (length (with_number f xs number))
-
--- what a test keeps of images
-pub filter_of_map : {X Y : Type 0} (p : Y → Bool) (f : X → Y) (xs : List X)
-    → filter p (map f xs) ≡ map f (filter (λ x. p (f x)) xs)
-filter_of_map p f [] = refl
-filter_of_map {X} {Y} p f (x ∷ xs) =
-    elim (p (f x)) as (λ b. cond b (f x ∷ filter p (map f xs)) (filter p (map f xs))
-    ≡ map f (cond b (x ∷ filter (λ y. p (f y)) xs) (filter (λ y. p (f y)) xs))) [
-      | true ↦ ap (λ (l : List Y). f x ∷ l) (filter_of_map p f xs)
-      | false ↦ filter_of_map p f xs
-    ]
 
 dropped_either : (number : ℕ) (xs : List ℕ) (b : Bool)
     → filter (λ n. not (number == n)) (cond b (number ∷ xs) xs) ≡ filter (λ n. not (number == n)) xs

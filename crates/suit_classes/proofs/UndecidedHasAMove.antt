@@ -2,6 +2,7 @@
 use Rattle.std.proofs.Common.{◌≡◌, Bool, true, false, List, [], ◌∷◌, refl, sym, ap, ◌∙◌, subst, map}
 use Rattle.std.specs.Prelude.{if◌then◌else◌}
 use Rattle.std.proofs.lemmas.Bool.{false≢true, or_parts}
+use Rattle.suit_lists.proofs.Firsts.{HasFirst}
 use Rattle.suit_cards.specs.Cards.{Cards, ClassLayout}
 use Rattle.suit_game.specs.declared.question.Question.{Question}
 use Rattle.suit_game.specs.declared.moves.Move.{Move}
@@ -15,12 +16,6 @@ use Rattle.suit_classes.specs.ClassGame.{Allows, MergesTo, decided_in, each_once
 use Rattle.suit_classes.specs.ClassMoves.{ClassHistory, merge}
 use Rattle.suit_classes.specs.ClassPlaces.{ClassView, class_after, class_decided, class_moves, class_turn, turn_of}
 use Rattle.suit_classes.proofs.ClassGameAgrees.{class_places_tell_cards}
-
--- a list with a first element
-pub record HasFirst {X : Type 0} (xs : List X) : Type 0 where
-  pub first : X
-  pub more : List X
-  pub parts : xs ≡ first ∷ more
 
 some_lead : (moves : List Move) → is_empty moves ≡ false → HasFirst moves
 some_lead [] none = absurd (false≢true (sym none))

@@ -1,5 +1,5 @@
 -- No legal move comes twice (`legal_once`).
-use Rattle.std.proofs.Common.{◌≡◌, ℕ, ◌≤◌, Bool, true, false, not, List, [], ◌∷◌, map, arith}
+use Rattle.std.proofs.Common.{◌≡◌, ℕ, ◌≤◌, Bool, true, false, not, [], ◌∷◌, map, arith}
 use Rattle.std.specs.Prelude.{if◌then◌else◌}
 use Rattle.std.specs.List.{AllByRecursion}
 use Rattle.suit_cards.specs.Cards.{Cards}
@@ -17,7 +17,7 @@ use Rattle.suit_game.specs.Positions.{may_lead_n, may_lead_s, without, after}
 use Rattle.suit_game.proofs.LayoutCards.{dealt-falls, layouts_are_deals}
 use Rattle.suit_lists.proofs.Elements.{each_of}
 use Rattle.suit_lists.proofs.Maps.{each_map}
-use Rattle.suit_lists.proofs.Once.{IsOnce, once_append, once_map}
+use Rattle.suit_lists.proofs.Once.{IsOnce, once_append, once_if, once_map}
 
 apart_above : (high top : ℕ) (cards : Cards) → top ≤ high → FallsBelow top cards
     → AllByRecursion (λ card. high ≡ card → ⊥) cards
@@ -35,11 +35,6 @@ once_falls top (card ∷ cards) falls = (apart_above card card cards (omega arit
 once_left : (cards gone : Cards) → IsHolding cards → IsOnce (without cards gone)
 unfolding without
 once_left cards gone falls = once_falls 15 _ (IsHolding-filter (λ card. not (holds gone card)) cards falls)
-
-once_if : (b : Bool) (moves : List Move) → IsOnce moves → IsOnce (if b then moves else [])
-unfolding IsOnce
-once_if true moves once = once
-once_if false moves once = tt
 
 same_lead : (seat : Seat) (card other : ℕ) → Lead seat card ≡ Lead seat other → card ≡ other
 same_lead seat card other same = cc

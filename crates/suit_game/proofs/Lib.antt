@@ -2,9 +2,7 @@ pub mod MovesByTheHand
 pub mod WaysPayAsLinesEnd
 pub mod ChoiceSums
 pub mod ChosenIsLegal
-pub mod DistinctElements
 pub mod DistinctLegalMoves
-pub mod EachElement
 pub mod EnoughMoves
 pub mod WhatAllLayoutsWeigh
 pub mod GainBounds
@@ -12,7 +10,6 @@ pub mod WhatAHandHolds
 pub mod PaysKeepWhatMovesKeep
 pub mod LayoutCards
 pub mod LegalPlays
-pub mod ListSums
 pub mod LongestPlay
 pub mod MovesCounted
 pub mod OneTrickHalves

@@ -7,6 +7,7 @@ use Rattle.std.proofs.lemmas.Bool.{cases_Bool, eqb-true}
 use Rattle.std.proofs.lemmas.Bool.Decides.{nat_tests}
 use Rattle.std.proofs.lemmas.List.Elements.{All-from_recursion}
 use Rattle.std.proofs.lemmas.List.{append_assoc, append-nil}
+use Rattle.suit_lists.proofs.Filters.{kept_parts}
 use Rattle.suit_cards.specs.Cards.{Text}
 use Rattle.suit_cards.specs.Holdings.{IsHolding, holds, others_of, suit}
 use Rattle.suit_cards.proofs.WhetherARankIsHeld.{length-IsHolding, shares_tells}
@@ -16,7 +17,6 @@ use Rattle.suit_num.specs.Binomials.{binomial, binomial_row, next_row}
 use Rattle.suit_game.specs.Layouts.{total}
 use Rattle.suit_game.specs.Validity.{IsValid}
 use Rattle.suit_game.specs.declared.question.Goal.TheVariants.{AtLeast}
-use Rattle.suit_game.proofs.EachElement.{kept_parts}
 use Rattle.suit_game.proofs.WhatAllLayoutsWeigh.{total_of_all}
 use Rattle.suit_question.proofs.ValuesBack.{holding_back, goal_back}
 use Rattle.suit_gen.proofs.Dealing.{north_some}

@@ -1,14 +1,15 @@
 -- Sums over the choices of two lists of cards together.
-use Rattle.std.proofs.Common.{◌≡◌, ℕ, Bool, true, false, cond, List, [], ◌∷◌, ◌++◌, map, length, refl, ap, arith}
-use Rattle.std.specs.List.{AllByRecursion, sum_by, count_by}
+use Rattle.std.proofs.Common.{◌≡◌, ℕ, true, List, [], ◌∷◌, ◌++◌, map, refl, arith}
+use Rattle.std.specs.List.{AllByRecursion, sum_by}
 use Rattle.std.proofs.lemmas.Bool.{or_left, or_right}
-use Rattle.std.proofs.lemmas.List.Sums.{sum_by-append, sum_by-cons}
+use Rattle.std.proofs.lemmas.List.Sums.{sum_by-append}
 use Rattle.std.proofs.Common.{nat_eq}
 use Rattle.std.proofs.lemmas.Bool.{eq-eqb}
+use Rattle.suit_lists.proofs.Elements.{each_append, each_gives}
+use Rattle.suit_lists.proofs.Maps.{each_map}
+use Rattle.suit_lists.proofs.Sums.{sum_by_map}
 use Rattle.suit_cards.specs.Holdings.{holds}
 use Rattle.suit_game.specs.Layouts.{choices_of}
-use Rattle.suit_game.proofs.EachElement.{each_append, each_gives, each_map}
-use Rattle.suit_game.proofs.ListSums.{sum_by_map}
 
 -- to choose among two lists is to choose among the first and then among the second
 pub choices_joined : (f : List ℕ → ℕ) (xs ys : List ℕ)
@@ -53,19 +54,3 @@ choices_held (first ∷ cards) =
     )) (choices_held cards)))
     (each_gives (AreHeld cards) (AreHeld (first ∷ cards)) (choices_of cards) (held_more first cards)
     (choices_held cards))
-
--- a count of what all pass
-pub count_all : {X : Type 0} (test : X → Bool) (xs : List X) → AllByRecursion (λ x. test x ≡ true) xs
-    → count_by test xs ≡ length xs
-count_all test [] each = refl
-count_all {X} test (x ∷ xs) each =
-    let counted : X → ℕ = λ y. cond (test y) 1 0 in
-    omega (arith, sum_by-cons counted x xs, ap {B = ℕ} (λ (b : Bool). cond b 1 0) each.0, count_all test xs each.1)
-
--- a count of what none passes
-pub count_none : {X : Type 0} (test : X → Bool) (xs : List X) → AllByRecursion (λ x. test x ≡ false) xs
-    → count_by test xs ≡ 0
-count_none test [] each = refl
-count_none {X} test (x ∷ xs) each =
-    let counted : X → ℕ = λ y. cond (test y) 1 0 in
-    omega (arith, sum_by-cons counted x xs, ap {B = ℕ} (λ (b : Bool). cond b 1 0) each.0, count_none test xs each.1)

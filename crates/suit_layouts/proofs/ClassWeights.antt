@@ -5,6 +5,7 @@ use Rattle.std.specs.Prelude.{bytes_eq, ◌==◌, if◌then◌else◌}
 use Rattle.std.specs.List.{filter, sum, sum_by, range_with_len}
 use Rattle.std.proofs.lemmas.Bool.{cases_Bool, cases_eq, cases_lt, eq-eqb, lt-ltb, ne_eqb}
 use Rattle.std.proofs.lemmas.List.Sums.{sum_by-cons}
+use Rattle.suit_lists.proofs.Sums.{sum_by-mul, sum_by_filter, sum_by_map, sum_by_none, sum_by_same}
 use Rattle.suit_cards.specs.Cards.{ClassLayout, Sizes}
 use Rattle.suit_cards.proofs.HoldingIsWhatItHolds.{IsHolding-others_of}
 use Rattle.suit_num.specs.Binomials.{binomial}
@@ -13,7 +14,6 @@ use Rattle.suit_game.specs.declared.question.Question.{Question}
 use Rattle.suit_game.specs.Layouts.{choices_of, is_west_length, layouts, weight, total}
 use Rattle.suit_game.specs.Question.{missing}
 use Rattle.suit_game.specs.Weights.{weight_in_range}
-use Rattle.suit_game.proofs.ListSums.{sum_by_filter, sum_by_none, sum_by_same, sum_by_map, sum_by-mul}
 use Rattle.suit_game.specs.Blocks.{counts_of}
 use Rattle.suit_layouts.specs.ClassLayouts.{class_layouts, class_weight, counts_up_to, same_counts, ways_of, weighed}
 use Rattle.suit_layouts.proofs.SumsByBlocks.{grouped, up_to-sum}

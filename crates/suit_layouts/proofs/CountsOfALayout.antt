@@ -7,13 +7,13 @@ use Rattle.std.proofs.lemmas.Bool.{cases_eq, eq-eqb, ne_eqb}
 use Rattle.std.proofs.lemmas.List.Elements.{All-contains, All-contains_itself, All-filter, filter_passes}
 use Rattle.std.proofs.lemmas.List.Sums.{length-filter}
 use Rattle.std.proofs.lemmas.Slice.Eq.{bytes_eq-Decides}
+use Rattle.suit_lists.proofs.Filters.{Contains-filter}
+use Rattle.suit_lists.proofs.Sums.{some_term, sum_by_filter, sum_by_none, sum_by_same, term_small}
 use Rattle.suit_cards.specs.Cards.{Cards, ClassLayout, Sizes}
 use Rattle.suit_cards.proofs.HoldingIsWhatItHolds.{IsHolding-others_of}
 use Rattle.suit_game.specs.declared.question.Question.{Question}
 use Rattle.suit_game.specs.Layouts.{choices_of, is_west_length, layouts, weight}
 use Rattle.suit_game.specs.Question.{missing}
-use Rattle.suit_game.proofs.ListSums.{sum_by_filter, sum_by_none, sum_by_same, term_small, some_term}
-use Rattle.suit_game.proofs.EachElement.{Contains-filter}
 use Rattle.suit_game.specs.Blocks.{counts_of}
 use Rattle.suit_layouts.specs.ClassLayouts.{class_weight, counts_up_to, same_counts, ways_of}
 use Rattle.suit_layouts.proofs.ClassWeights.{both_tests, selected}

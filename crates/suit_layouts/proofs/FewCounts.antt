@@ -2,24 +2,20 @@
 use Rattle.std.proofs.Common.{◌≡◌, ℕ, ◌+◌, ◌-◌, ◌*◌, ◌≤◌, Bool, true, nat_lt, List, [], ◌∷◌, map, length, get_or, refl}
 use Rattle.std.proofs.Common.{ap, ◌∙◌, arith}
 use Rattle.std.specs.Prelude.{nat_le}
-use Rattle.std.specs.List.{range_with_len, sum, sum_by}
+use Rattle.std.specs.List.{range_with_len, sum}
 use Rattle.std.proofs.lemmas.Bool.{agree_below, agree_below_at, leb-true}
 use Rattle.std.proofs.lemmas.List.{length-map}
 use Rattle.std.proofs.lemmas.List.Concat.{length-flat_map}
 use Rattle.std.proofs.lemmas.List.FromFn.{length-range_with_len}
-use Rattle.std.proofs.lemmas.List.Sums.{sum_by-cons, length-filter, count_by-le-length}
+use Rattle.std.proofs.lemmas.List.Sums.{length-filter, count_by-le-length}
 use Rattle.std.proofs.Math.Nat.{mul-le-mul_left}
+use Rattle.suit_lists.proofs.Sums.{sum_by_each}
 use Rattle.suit_cards.specs.Cards.{Sizes}
 use Rattle.suit_game.specs.declared.question.Question.{Question}
 use Rattle.suit_game.specs.Blocks.{AreSizes}
 use Rattle.suit_layouts.specs.ClassLayouts.{class_layouts, class_weight, counts_up_to, weighed}
 use Rattle.suit_layouts.proofs.SumsByBlocks.{sum-cons}
 use Rattle.suit_layouts.specs.declared.class_list.TheConstants.{MOST_CLASS_LAYOUTS}
-
--- equal terms
-sum_by_each : {X : Type 0} (k : ℕ) (f : X → ℕ) (xs : List X) → ((x : X) → f x ≡ k) → sum_by f xs ≡ length xs * k
-sum_by_each k f [] each = omega arith
-sum_by_each k f (x ∷ xs) each = omega (arith, sum_by-cons f x xs, each x, sum_by_each k f xs each)
 
 -- each count of the first block goes with all counts of the others
 pub length-up_to : (size : ℕ) (sizes : Sizes)

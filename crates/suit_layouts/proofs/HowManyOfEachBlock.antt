@@ -5,11 +5,12 @@ use Rattle.std.specs.List.{AllByRecursion, count_by}
 use Rattle.std.proofs.lemmas.Bool.{cases_Bool, eqb-true, or_cases, or_right, or_from, or_parts, both_ways}
 use Rattle.std.proofs.lemmas.List.{take-append-drop}
 use Rattle.std.proofs.lemmas.List.Sums.{sum_by-append}
+use Rattle.suit_lists.proofs.Elements.{each_gives}
+use Rattle.suit_lists.proofs.Sums.{count_all, count_none}
 use Rattle.suit_cards.specs.Holdings.{FallsBelow, holds}
 use Rattle.suit_cards.proofs.HoldingIsWhatItHolds.{holds-above}
-use Rattle.suit_game.proofs.EachElement.{each_gives}
 use Rattle.suit_game.specs.Blocks.{blocks_of, counts_in}
-use Rattle.suit_layouts.proofs.ChoicesOfTwoLists.{AreHeld, count_all, count_none}
+use Rattle.suit_layouts.proofs.ChoicesOfTwoLists.{AreHeld}
 
 -- what the second of two lists holds, both hold together
 holds-append : (xs ys : List ℕ) (card : ℕ) → holds ys card ≡ true → holds (xs ++ ys) card ≡ true

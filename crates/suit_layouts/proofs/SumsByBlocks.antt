@@ -3,17 +3,17 @@ use Rattle.std.proofs.Common.{◌≡◌, ℕ, ◌+◌, ◌*◌, List, [], ◌∷
 use Rattle.std.specs.List.{sum, sum_by, range_with_len}
 use Rattle.std.proofs.lemmas.List.{take-append-drop, length-append, length-take-le, length-drop}
 use Rattle.std.proofs.lemmas.List.Sums.{sum_by-cons}
+use Rattle.suit_lists.proofs.Elements.{each_gives}
+use Rattle.suit_lists.proofs.Sums.{sum_by-mul, sum_by_alike, sum_by_flat_map, sum_by_map, sum_by_same}
 use Rattle.suit_cards.specs.Cards.{ClassLayout, Sizes}
 use Rattle.suit_cards.specs.Holdings.{FallsBelow}
 use Rattle.suit_num.specs.Binomials.{binomial}
 use Rattle.suit_game.specs.Layouts.{choices_of}
 use Rattle.suit_game.proofs.ChoiceSums.{choices_summed}
-use Rattle.suit_game.proofs.EachElement.{each_gives}
 use Rattle.suit_game.specs.Blocks.{blocks_of, counts_in}
 use Rattle.suit_layouts.specs.ClassLayouts.{counts_up_to, ways_of}
 use Rattle.suit_layouts.proofs.HowManyOfEachBlock.{counts_joined, falls_after}
 use Rattle.suit_layouts.proofs.ChoicesOfTwoLists.{AreHeld, choices_held, choices_joined}
-use Rattle.suit_game.proofs.ListSums.{sum_by_same, sum_by_alike, sum_by_flat_map, sum_by_map, sum_by-mul}
 
 -- a sum by its first number
 pub sum-cons : (x : ℕ) (xs : List ℕ) → sum (x ∷ xs) ≡ x + sum xs

@@ -6,14 +6,17 @@ use Rattle.std.specs.List.{AllByRecursion, filter, range_with_len, sum}
 use Rattle.std.proofs.lemmas.Bool.{cases_lt, ltb-true, lt-ltb}
 use Rattle.std.proofs.lemmas.List.Elements.{All-contains, All-filter, All-from_recursion}
 use Rattle.std.proofs.lemmas.List.Elements.{filter_passes}
+use Rattle.suit_lists.proofs.Elements.{Contains-first, each_of}
+use Rattle.suit_lists.proofs.Filters.{Contains-filter}
+use Rattle.suit_lists.proofs.FlatMaps.{Contains-flat_map}
+use Rattle.suit_lists.proofs.Maps.{Contains-map, each_map}
+use Rattle.suit_lists.proofs.Walks.{Contains-range}
 use Rattle.suit_cards.specs.Cards.{ClassLayout, Sizes}
 use Rattle.suit_num.specs.Binomials.{binomial}
 use Rattle.suit_num.proofs.BinomialLaws.{binomial_past}
 use Rattle.suit_game.specs.declared.question.Question.{Question}
 use Rattle.suit_game.specs.Question.{missing}
 use Rattle.suit_game.specs.Weights.{weight_in_range}
-use Rattle.suit_game.proofs.EachElement.{Contains-first, each_map}
-use Rattle.suit_game.proofs.EachElement.{each_of, Contains-flat_map, Contains-map, Contains-range, Contains-filter}
 use Rattle.suit_layouts.specs.ClassLayouts.{class_layouts, class_weight, counts_up_to, ways_of, weighed}
 use Rattle.suit_layouts.proofs.ClassWeights.{class_weight_counted}
 use Rattle.suit_layouts.proofs.SumsByBlocks.{sum-cons}

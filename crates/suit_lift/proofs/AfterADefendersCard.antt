@@ -5,6 +5,7 @@ use Rattle.std.specs.Prelude.{Contains, not}
 use Rattle.std.specs.List.{sum_by}
 use Rattle.std.proofs.Math.Nat.{mul-pos}
 use Rattle.std.proofs.lemmas.Bool.{false≢true}
+use Rattle.suit_lists.proofs.Maps.{Contains-map}
 use Rattle.suit_cards.specs.Cards.{Cards}
 use Rattle.suit_game.specs.declared.question.Question.{Question}
 use Rattle.suit_game.specs.declared.moves.Move.{Move}
@@ -14,7 +15,6 @@ use Rattle.suit_game.specs.Histories.{History}
 use Rattle.suit_game.specs.PlaceViews.{IsPlay}
 use Rattle.suit_game.specs.Positions.{Position, Trick, after, follows_of, hand, legal, legal_in, step_in}
 use Rattle.suit_game.specs.Strategies.{counted}
-use Rattle.suit_game.proofs.EachElement.{Contains-map}
 use Rattle.suit_game.proofs.LegalPlays.{after_move}
 use Rattle.suit_classes.specs.declared.class_moves.ClassMove.{ClassMove}
 use Rattle.suit_classes.specs.Classes.{Hands, hands_of, class_of}

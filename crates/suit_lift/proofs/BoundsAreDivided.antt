@@ -7,6 +7,11 @@ use Rattle.std.specs.List.{AllByRecursion, sum_by}
 use Rattle.std.proofs.Math.Nat.{mul-le-mul_left}
 use Rattle.std.proofs.lemmas.Bool.{cases_Bool, true≢false}
 use Rattle.std.proofs.lemmas.List.Sums.{sum_by-cons}
+use Rattle.suit_lists.proofs.Elements.{each_of}
+use Rattle.suit_lists.proofs.Filters.{length_filter-most}
+use Rattle.suit_lists.proofs.Maps.{each_map}
+use Rattle.suit_lists.proofs.Once.{IsOnce, once_map}
+use Rattle.suit_lists.proofs.Sums.{sum_by-mul, sum_by_filter, sum_by_map, sum_by_none}
 use Rattle.suit_cards.specs.Cards.{Cards}
 use Rattle.suit_cards.specs.Holdings.{IsHolding, holds, suit}
 use Rattle.suit_cards.proofs.WhetherARankIsHeld.{length-IsHolding}
@@ -16,9 +21,7 @@ use Rattle.suit_game.specs.declared.moves.Move.{Move}
 use Rattle.suit_game.specs.declared.moves.Move.TheVariants as cards
 use Rattle.suit_game.specs.Positions.{without}
 use Rattle.suit_game.specs.Question.{missing}
-use Rattle.suit_game.proofs.EachElement.{each_map, each_of}
 use Rattle.suit_game.proofs.WhatAHandHolds.{holds-from_without}
-use Rattle.suit_game.proofs.ListSums.{sum_by-mul, sum_by_filter, sum_by_map, sum_by_none}
 use Rattle.suit_classes.specs.declared.class_moves.ClassMove.{ClassMove}
 use Rattle.suit_classes.specs.declared.class_moves.ClassMove.TheVariants.{Follow, ShowOut}
 use Rattle.suit_classes.specs.WhatIsAllowed.{is_among}
@@ -27,14 +30,12 @@ use Rattle.suit_classes.specs.ClassGame.{cards_in}
 use Rattle.suit_classes.specs.ClassMoves.{same_class_move}
 use Rattle.suit_classes.specs.MoveOrder.{class_named}
 use Rattle.suit_classes.proofs.OneSideHoldsAClass.{IsHolding-without}
-use Rattle.suit_game.proofs.DistinctElements.{IsOnce, once_map}
 use Rattle.suit_classes.proofs.SameMoves.{same_move_is}
 use Rattle.suit_lift.specs.Lifts.{common}
 use Rattle.suit_lift.specs.Naming.{unplayed}
 use Rattle.suit_lift.proofs.HowManyAreAlike.{choice_classes}
 use Rattle.suit_classes.proofs.CardsByClass.{once_defence}
 use Rattle.suit_lift.proofs.GoneAndLeft.{group_sum}
-use Rattle.suit_game.proofs.ListSums.{length_filter-most}
 use Rattle.suit_lift.proofs.WeightsAreShares.{common_divided}
 
 sum_at_most : {X : Type 0} (f g : X → ℕ) (xs : List X) → AllByRecursion (λ x. f x ≤ g x) xs → sum_by f xs ≤ sum_by g xs

@@ -6,6 +6,7 @@ use Rattle.std.specs.List.{filter}
 use Rattle.std.proofs.Math.Nat.{mul-pos}
 use Rattle.std.proofs.lemmas.Bool.{false≢true, true≢false}
 use Rattle.std.proofs.lemmas.List.Elements.{filter_agree}
+use Rattle.suit_lists.proofs.Filters.{filter_of_map}
 use Rattle.suit_cards.specs.Cards.{Cards}
 use Rattle.suit_cards.specs.declared.seats.Seat.{Seat}
 use Rattle.suit_cards.specs.declared.seats.Seat.TheVariants.{N, E, S, W}
@@ -25,7 +26,6 @@ use Rattle.suit_classes.specs.Classes.{hands_of, class_of}
 use Rattle.suit_classes.specs.ClassMoves.{merge}
 use Rattle.suit_classes.proofs.OneSideHoldsAClass.{IsDealt, IsHolding-dealt, IsHolding-without}
 use Rattle.suit_classes.proofs.ClassPlaceFollowsPlay.{play_dealt}
-use Rattle.suit_classes.proofs.MovesOnce.{filter_of_map}
 use Rattle.suit_lift.specs.Lifts.{fellows}
 use Rattle.suit_lift.specs.Naming.{is_one_of, unplayed}
 use Rattle.suit_lift.proofs.HowManyAreAlike.{alike_layouts}

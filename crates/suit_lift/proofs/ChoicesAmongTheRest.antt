@@ -7,15 +7,16 @@ use Rattle.std.proofs.lemmas.Bool.{cases_Bool, eq-eqb, false≢true, false_from_
 use Rattle.std.proofs.lemmas.List.Elements.{Contains-append_cases}
 use Rattle.std.proofs.lemmas.List.Sums.{sum_by-append}
 use Rattle.std.proofs.lemmas.Slice.Eq.{bytes_eq-Decides}
+use Rattle.suit_lists.proofs.Elements.{Contains-cons_cases, Contains-nil, each_at, each_gives}
+use Rattle.suit_lists.proofs.Maps.{Contains-map_from}
+use Rattle.suit_lists.proofs.Sums.{sum_by_alike, sum_by_map, sum_by_none}
 use Rattle.suit_cards.specs.Cards.{Cards}
 use Rattle.suit_cards.specs.Holdings.{FallsBelow, holds}
 use Rattle.suit_cards.proofs.HoldingIsWhatItHolds.{holds-above, holds-filter}
 use Rattle.suit_game.specs.Layouts.{choices_of}
 use Rattle.suit_game.specs.Positions.{without}
-use Rattle.suit_game.proofs.EachElement.{Contains-cons_cases, Contains-map_from, Contains-nil, each_at, each_gives}
 use Rattle.suit_game.proofs.WhatAHandHolds.{holds-first}
 use Rattle.suit_game.proofs.LayoutCards.{IsPart, choices_of-parts}
-use Rattle.suit_game.proofs.ListSums.{sum_by_alike, sum_by_map, sum_by_none}
 use Rattle.suit_lift.proofs.GoneAndLeft.{gone_of}
 
 -- the worth of what a choice has left, where it took these of the cards gone

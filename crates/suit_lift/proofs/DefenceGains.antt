@@ -7,6 +7,9 @@ use Rattle.std.proofs.Math.Nat.{mul-le-mul_left, mul-pos}
 use Rattle.std.proofs.lemmas.Bool.{lt-ltb, true≢false}
 use Rattle.std.proofs.lemmas.List.Sums.{sum_by-cons}
 use Rattle.std.proofs.lemmas.Slice.Eq.{bytes_eq-Decides}
+use Rattle.suit_lists.proofs.Elements.{each_in, each_of}
+use Rattle.suit_lists.proofs.Filters.{kept_parts}
+use Rattle.suit_lists.proofs.Sums.{sum_by_alike}
 use Rattle.suit_cards.specs.Cards.{Cards, ClassLayout}
 use Rattle.suit_game.specs.declared.question.Question.{Question}
 use Rattle.suit_game.specs.Blocks.{counts_of as block_counts}
@@ -15,9 +18,7 @@ use Rattle.suit_game.specs.Gains.{gain, pay}
 use Rattle.suit_game.specs.Layouts.{layouts, total, weight}
 use Rattle.suit_game.specs.Strategies.{Way, counted}
 use Rattle.suit_game.specs.Validity.{IsValid}
-use Rattle.suit_game.proofs.EachElement.{each_in, each_of, kept_parts}
 use Rattle.suit_game.proofs.LayoutCards.{layouts_are_deals}
-use Rattle.suit_game.proofs.ListSums.{sum_by_alike}
 use Rattle.suit_game.proofs.PayDenominators.{gain-den, pay-den, total_weight-gain}
 use Rattle.suit_classes.specs.Classes.{hands_of, sizes_of}
 use Rattle.suit_classes.specs.ClassGame.{counts_of}

@@ -7,6 +7,9 @@ use Rattle.std.proofs.Math.Nat.{eq_of_mul-eq-mul_right, mul-pos}
 use Rattle.std.proofs.lemmas.Bool.{and_parts}
 use Rattle.std.proofs.lemmas.List.{append-nil, append_assoc}
 use Rattle.std.proofs.lemmas.Slice.Eq.{bytes_eq-Decides}
+use Rattle.suit_lists.proofs.Elements.{each_in}
+use Rattle.suit_lists.proofs.Filters.{kept_parts}
+use Rattle.suit_lists.proofs.Maps.{each_map}
 use Rattle.suit_cards.specs.Cards.{Cards, ClassLayout}
 use Rattle.suit_game.specs.declared.question.Question.{Question}
 use Rattle.suit_game.specs.declared.moves.Move.{Move}
@@ -17,7 +20,6 @@ use Rattle.suit_game.specs.Layouts.{layouts, weight}
 use Rattle.suit_game.specs.PlaceViews.{IsPlay}
 use Rattle.suit_game.specs.Positions.{LegalFrom, after, legal, start_place}
 use Rattle.suit_game.specs.Strategies.{counted}
-use Rattle.suit_game.proofs.EachElement.{each_in, each_map, kept_parts}
 use Rattle.suit_game.proofs.LegalPlays.{after_move}
 use Rattle.suit_game.proofs.PlaceSeenAfterAMove.{play_more, play_none}
 use Rattle.suit_game.proofs.MeansLieBetween.{weighted_sum-den}

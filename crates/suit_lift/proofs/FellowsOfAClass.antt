@@ -6,6 +6,11 @@ use Rattle.std.specs.List.{AllByRecursion, filter, sum_by}
 use Rattle.std.proofs.lemmas.Bool.{cases_Bool}
 use Rattle.std.proofs.lemmas.List.{length-map}
 use Rattle.std.proofs.lemmas.List.Sums.{sum_by-cons}
+use Rattle.suit_lists.proofs.Elements.{Contains-cons_cases, Contains-nil, each_gives, each_in}
+use Rattle.suit_lists.proofs.Filters.{filter_of_map}
+use Rattle.suit_lists.proofs.Maps.{Contains-map, Contains-map_from}
+use Rattle.suit_lists.proofs.Once.{IsOnce}
+use Rattle.suit_lists.proofs.Sums.{sum_by-mul, sum_by_alike, sum_by_none, sum_by_same}
 use Rattle.suit_cards.specs.Cards.{Cards}
 use Rattle.suit_cards.specs.Holdings.{holds}
 use Rattle.suit_game.specs.declared.question.Question.{Question}
@@ -15,9 +20,6 @@ use Rattle.suit_game.specs.Gains.{is_declarer_turn}
 use Rattle.suit_game.specs.Histories.{History}
 use Rattle.suit_game.specs.PlaceViews.{IsPlay}
 use Rattle.suit_game.specs.Positions.{after, follows_of, legal}
-use Rattle.suit_game.proofs.EachElement.{Contains-cons_cases, Contains-map, Contains-map_from, Contains-nil, each_gives}
-use Rattle.suit_game.proofs.EachElement.{each_in}
-use Rattle.suit_game.proofs.ListSums.{sum_by-mul, sum_by_alike, sum_by_none, sum_by_same}
 use Rattle.suit_classes.specs.declared.class_moves.ClassMove.{ClassMove}
 use Rattle.suit_classes.specs.Classes.{Hands, hands_of, class_of}
 use Rattle.suit_classes.specs.ClassGame.{cards_in, each_once}
@@ -25,8 +27,6 @@ use Rattle.suit_classes.specs.ClassMoves.{merge, merged, same_class_move}
 use Rattle.suit_classes.specs.ClassGame.{counts_of}
 use Rattle.suit_classes.proofs.AllowedMoveByMove.{Contains-each_once, each_once-Contains}
 use Rattle.suit_classes.proofs.DistinctMoves.{once_each_once}
-use Rattle.suit_game.proofs.DistinctElements.{IsOnce}
-use Rattle.suit_classes.proofs.MovesOnce.{filter_of_map}
 use Rattle.suit_classes.proofs.SameMoves.{same_move-itself, same_move_is}
 use Rattle.suit_plans.specs.declared.defence.Defence.{Defence}
 use Rattle.suit_plans.specs.Masses.{defence_shares_at}

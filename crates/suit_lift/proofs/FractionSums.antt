@@ -5,8 +5,8 @@ use Rattle.std.specs.Prelude.{Contains, if◌then◌else◌}
 use Rattle.std.specs.List.{AllByRecursion, filter, sum_by}
 use Rattle.std.proofs.Math.Nat.{le_of_mul-le-mul_left, mul-le-mul_left, mul-pos}
 use Rattle.std.proofs.lemmas.List.Sums.{sum_by-cons}
+use Rattle.suit_lists.proofs.Elements.{each_gives, each_of}
 use Rattle.suit_game.specs.Fractions.{Fraction, whole}
-use Rattle.suit_game.proofs.EachElement.{each_gives, each_of}
 
 -- a fraction is no more than another, and both have denominators above 0
 pub record IsNoMore (here there : Fraction) : Type 0 where

@@ -13,6 +13,11 @@ use Rattle.std.proofs.lemmas.Bool.{and_from, and_parts, cases_Bool, not-true}
 use Rattle.std.proofs.lemmas.List.Elements.{All-from_recursion}
 use Rattle.std.proofs.lemmas.List.Kept.{AllPairs-cons}
 use Rattle.std.proofs.lemmas.Slice.Eq.{bytes_eq-Decides}
+use Rattle.suit_lists.proofs.Elements.{each_at, each_gives, each_in}
+use Rattle.suit_lists.proofs.Filters.{Contains-filter, kept_parts}
+use Rattle.suit_lists.proofs.FlatMaps.{Contains-flat_map, each_flat_map}
+use Rattle.suit_lists.proofs.Maps.{Contains-map, each_map}
+use Rattle.suit_lists.proofs.Once.{IsOnce, once_filter}
 use Rattle.suit_cards.specs.Cards.{Cards}
 use Rattle.suit_game.specs.declared.question.Question.{Question}
 use Rattle.suit_game.specs.declared.moves.Move.{Move}
@@ -23,10 +28,6 @@ use Rattle.suit_game.specs.PlaceViews.{IsPlay}
 use Rattle.suit_game.specs.Positions.{IsLegal, after, has_ended, legal}
 use Rattle.suit_game.specs.Strategies.{DefenceWay, DefenceWayRow, Way, WayRow, by_defence_rows, by_rows, number_of}
 use Rattle.suit_game.specs.Validity.{IsValid}
-use Rattle.suit_game.proofs.DistinctElements.{IsOnce, each_flat_map, once_filter}
-use Rattle.suit_game.proofs.EachElement.{Contains-filter, Contains-flat_map, Contains-map, each_at, each_gives, each_in}
-use Rattle.suit_game.proofs.EachElement.{kept_parts}
-use Rattle.suit_game.proofs.EachElement.{each_map}
 use Rattle.suit_plans.specs.declared.plan.Plan.{Plan}
 use Rattle.suit_plans.specs.declared.defence.Defence.{Defence}
 use Rattle.suit_lift.specs.FullLists.{DefencesAreLists, IsFull, IsFullDefence, IsToMove, NamesMoves, PlansAreLists}

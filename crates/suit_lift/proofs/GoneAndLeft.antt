@@ -5,16 +5,16 @@ use Rattle.std.specs.Prelude.{Contains, ◌==◌, ◌&&◌, if◌then◌else◌}
 use Rattle.std.specs.List.{AllByRecursion, filter, sum_by}
 use Rattle.std.proofs.lemmas.Bool.{cases_eq, eq-eqb, ne_eqb}
 use Rattle.std.proofs.lemmas.List.Sums.{sum_by-cons}
+use Rattle.suit_lists.proofs.Elements.{each_gives, each_in}
+use Rattle.suit_lists.proofs.Once.{IsOnce}
+use Rattle.suit_lists.proofs.Sums.{sum_by_alike, sum_by_both, sum_by_none}
 use Rattle.suit_cards.specs.Cards.{Cards}
 use Rattle.suit_cards.specs.Holdings.{holds}
 use Rattle.suit_cards.proofs.HoldingIsWhatItHolds.{holds-filter}
 use Rattle.suit_game.specs.Positions.{without}
-use Rattle.suit_game.proofs.EachElement.{each_gives, each_in}
-use Rattle.suit_game.proofs.ListSums.{sum_by_alike, sum_by_both, sum_by_none}
 use Rattle.suit_classes.specs.Classes.{Hands, class_of}
 use Rattle.suit_classes.specs.ClassGame.{cards_in}
 use Rattle.suit_classes.proofs.CardsByClass.{cards_in-more}
-use Rattle.suit_game.proofs.DistinctElements.{IsOnce}
 
 -- the cards of a hand that are gone
 abbrev pub gone_of : Cards → Cards → Cards

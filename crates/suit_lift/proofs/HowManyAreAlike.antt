@@ -7,6 +7,10 @@ use Rattle.std.specs.List.{AllByRecursion, filter, sum_by}
 use Rattle.std.proofs.lemmas.Bool.{cases_eq, eq-eqb, ne_eqb, false≢true}
 use Rattle.std.proofs.lemmas.List.Sums.{sum_by-cons}
 use Rattle.std.proofs.lemmas.Slice.Eq.{bytes_eq-Decides}
+use Rattle.suit_lists.proofs.Elements.{each_at, each_in}
+use Rattle.suit_lists.proofs.Filters.{kept_parts}
+use Rattle.suit_lists.proofs.Maps.{map_same}
+use Rattle.suit_lists.proofs.Sums.{length_filter, sum_by_alike, sum_by_filter}
 use Rattle.suit_cards.specs.Cards.{Cards}
 use Rattle.suit_cards.specs.declared.seats.Seat.{Seat}
 use Rattle.suit_cards.specs.declared.seats.Seat.TheVariants.{N, E, S, W}
@@ -17,10 +21,8 @@ use Rattle.suit_game.specs.Gains.{is_declarer}
 use Rattle.suit_game.specs.Layouts.{choices_of, is_west_length, layouts}
 use Rattle.suit_game.specs.Positions.{dealt, without}
 use Rattle.suit_game.specs.Question.{missing}
-use Rattle.suit_game.proofs.EachElement.{each_at, each_in, map_same, kept_parts}
 use Rattle.suit_game.proofs.WhatAHandHolds.{each_held, holds-from_without, holds-without, without_away}
 use Rattle.suit_game.proofs.LayoutCards.{IsPart, choices_of-parts}
-use Rattle.suit_game.proofs.ListSums.{length_filter, sum_by_alike, sum_by_filter}
 use Rattle.suit_classes.specs.Classes.{Hands, hands_of, class_of, defence_classes}
 use Rattle.suit_classes.specs.ClassGame.{cards_in, counts_of}
 use Rattle.suit_classes.proofs.OneSideHoldsAClass.{IsDealt, IsHolding-without, cards_in-played}

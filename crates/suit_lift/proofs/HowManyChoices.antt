@@ -6,15 +6,16 @@ use Rattle.std.specs.Prelude.{Contains, bytes_eq, ◌==◌, ◌&&◌, if◌then�
 use Rattle.std.specs.List.{AllByRecursion, sum_by}
 use Rattle.std.proofs.lemmas.Bool.{cases_Bool, cases_eq, eq-eqb, eqb-false, ne_eqb, false≢true, false_from_ne_true}
 use Rattle.std.proofs.lemmas.Slice.Eq.{bytes_eq-Decides}
+use Rattle.suit_lists.proofs.Elements.{Contains-cons_cases, Contains-nil}
+use Rattle.suit_lists.proofs.Maps.{map_same}
+use Rattle.suit_lists.proofs.Once.{IsOnce}
+use Rattle.suit_lists.proofs.Sums.{sum_by_none, sum_by_same}
 use Rattle.suit_num.specs.Binomials.{binomial}
 use Rattle.suit_num.proofs.BinomialLaws.{binomial-absorbed, binomial-none, binomial_past, pascal}
 use Rattle.suit_cards.specs.Cards.{Cards}
 use Rattle.suit_game.specs.Layouts.{choices_of}
-use Rattle.suit_game.proofs.EachElement.{Contains-cons_cases, Contains-nil, map_same}
-use Rattle.suit_game.proofs.ListSums.{sum_by_none, sum_by_same}
 use Rattle.suit_classes.specs.Classes.{Hands, class_of}
 use Rattle.suit_classes.specs.ClassGame.{cards_in}
-use Rattle.suit_game.proofs.DistinctElements.{IsOnce}
 use Rattle.suit_layouts.specs.ClassLayouts.{ways_of}
 use Rattle.suit_lift.proofs.ChoicesAmongTheRest.{choices_parted}
 use Rattle.suit_lift.proofs.GoneAndLeft.{cards_in-other, cards_in-same}

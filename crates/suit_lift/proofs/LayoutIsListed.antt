@@ -5,13 +5,15 @@ use Rattle.std.specs.Prelude.{Contains, IsTrue, nat_le}
 use Rattle.std.specs.List.{filter, list_any}
 use Rattle.std.proofs.lemmas.Bool.{and_from, false_from_ne_true, le-leb}
 use Rattle.std.proofs.lemmas.List.Elements.{Contains-append_left, Contains-append_right}
+use Rattle.suit_lists.proofs.Elements.{Contains-first}
+use Rattle.suit_lists.proofs.Filters.{Contains-filter}
+use Rattle.suit_lists.proofs.Maps.{Contains-map}
 use Rattle.suit_cards.specs.Cards.{Cards}
 use Rattle.suit_cards.specs.Holdings.{IsHolding, holds}
 use Rattle.suit_cards.proofs.HoldingIsWhatItHolds.{IsHolding-filter, IsHolding-others_of, holds-filter, same_holding}
 use Rattle.suit_game.specs.declared.question.Question.{Question}
 use Rattle.suit_game.specs.Layouts.{choices_of, is_west_length, layouts}
 use Rattle.suit_game.specs.Question.{missing}
-use Rattle.suit_game.proofs.EachElement.{Contains-filter, Contains-first, Contains-map}
 use Rattle.suit_game.proofs.LayoutCards.{holds-missing}
 use Rattle.suit_game.proofs.LongestPlay.{none_shared}
 

@@ -4,6 +4,7 @@ use Rattle.std.specs.Prelude.{Contains, bytes_eq, fold, ◌&&◌}
 use Rattle.std.proofs.lemmas.Bool.{and_from, and_parts, cases_Bool, false≢true, false_from_ne_true, or_cases, or_left}
 use Rattle.std.proofs.lemmas.Bool.{or_right}
 use Rattle.std.proofs.lemmas.Slice.Eq.{bytes_eq-Decides}
+use Rattle.suit_lists.proofs.Elements.{Contains-cons_cases, Contains-first, Contains-later, Contains-nil}
 use Rattle.suit_cards.specs.Cards.{Cards}
 use Rattle.suit_game.specs.declared.question.Question.{Question}
 use Rattle.suit_game.specs.declared.moves.Move.{Move}
@@ -12,7 +13,6 @@ use Rattle.suit_game.specs.Layouts.{layouts}
 use Rattle.suit_game.specs.PlaceViews.{IsPlay}
 use Rattle.suit_game.specs.Positions.{LegalFrom, Position, after, legal, legal_at, start_place, step}
 use Rattle.suit_game.specs.Strategies.{same_move}
-use Rattle.suit_game.proofs.EachElement.{Contains-cons_cases, Contains-first, Contains-later, Contains-nil}
 use Rattle.suit_game.proofs.SameCardMoves.{same_card_move-itself, same_card_move_is}
 use Rattle.suit_game.proofs.LayoutCards.{layouts_are_deals}
 use Rattle.suit_classes.specs.Classes.{hands_of}

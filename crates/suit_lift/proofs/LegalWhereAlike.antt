@@ -5,6 +5,8 @@ use Rattle.std.proofs.Common.{inl, inr, arith}
 use Rattle.std.specs.Prelude.{Contains, ◌&&◌, ◌↔◌, fold}
 use Rattle.std.proofs.lemmas.Bool.{eqb-true, false≢true, false_from_ne_true, or_cases, or_right}
 use Rattle.std.proofs.lemmas.List.{nil_from_length}
+use Rattle.suit_lists.proofs.Elements.{Contains-first}
+use Rattle.suit_lists.proofs.Maps.{Contains-map}
 use Rattle.suit_cards.specs.Cards.{Cards}
 use Rattle.suit_cards.specs.declared.seats.Seat.{Seat}
 use Rattle.suit_cards.specs.declared.seats.Seat.TheVariants.{N, E, S, W}
@@ -19,7 +21,6 @@ use Rattle.suit_game.specs.Positions.{IsLegal, LegalFrom, Position, Trick, after
 use Rattle.suit_game.specs.Positions.{start_place, step, step_in, without}
 use Rattle.suit_game.specs.Histories.{History}
 use Rattle.suit_game.specs.Question.{missing}
-use Rattle.suit_game.proofs.EachElement.{Contains-first, Contains-map}
 use Rattle.suit_game.proofs.WhatAHandHolds.{holds-first, holds-from_without, holds-without}
 use Rattle.suit_game.proofs.LegalPlays.{follow_or_show}
 use Rattle.suit_classes.proofs.OneSideHoldsAClass.{IsDealt, IsHolding-dealt}

@@ -6,6 +6,10 @@ use Rattle.std.specs.Int.{int_min}
 use Rattle.std.specs.List.{AllByRecursion, sum_by}
 use Rattle.std.proofs.Math.Nat.{mul-le-mul_left, mul-pos}
 use Rattle.std.proofs.lemmas.Bool.{cases_Bool, true≢false}
+use Rattle.suit_lists.proofs.Elements.{each_in}
+use Rattle.suit_lists.proofs.Firsts.{HasFirst}
+use Rattle.suit_lists.proofs.Maps.{Contains-map, each_map}
+use Rattle.suit_lists.proofs.Sums.{sum_by-mul, sum_by_same}
 use Rattle.suit_cards.specs.Cards.{Cards}
 use Rattle.suit_game.specs.declared.question.Question.{Question}
 use Rattle.suit_game.specs.declared.moves.Move.{Move}
@@ -17,10 +21,8 @@ use Rattle.suit_game.specs.PlaceViews.{IsPlay}
 use Rattle.suit_game.specs.Positions.{after, legal, payoff}
 use Rattle.suit_game.specs.Strategies.{DefenceWay, Weighed, chosen, counted}
 use Rattle.suit_game.proofs.ChosenIsLegal.{chosen_each}
-use Rattle.suit_game.proofs.EachElement.{Contains-map, each_in, each_map}
 use Rattle.suit_game.proofs.EnoughMoves.{ended_with_no_room, pay_where_on, room_after_move}
 use Rattle.suit_game.proofs.DistinctLegalMoves.{legal_once}
-use Rattle.suit_game.proofs.ListSums.{sum_by-mul, sum_by_same}
 use Rattle.suit_game.proofs.PayDenominators.{pay-den}
 use Rattle.suit_game.proofs.PlaceSeenAfterAMove.{play_more}
 use Rattle.suit_game.proofs.MeansLieBetween.{mean-least}
@@ -38,7 +40,6 @@ use Rattle.suit_plans.specs.Properness.{IsProperPlan, sum_of}
 use Rattle.suit_plans.proofs.MassSteps.{mass_kept}
 use Rattle.suit_plans.proofs.ProperPlans.{plans_are_realised}
 use Rattle.suit_plans.proofs.TurnMoves.{declarers_moves}
-use Rattle.suit_classes.proofs.UndecidedHasAMove.{HasFirst}
 use Rattle.suit_lift.specs.Lifts.{RowCounts, class_share, common, is_lowest, plan_share, plan_way}
 use Rattle.suit_lift.proofs.PayOfADecidedPlay.{decided_pay}
 use Rattle.suit_lift.proofs.LegalMoves.{declarers_legal}

@@ -3,11 +3,11 @@ use Rattle.std.proofs.Common.{◌≡◌, ℕ, zero, suc, ◌+◌, ◌*◌, ◌<�
 use Rattle.std.specs.List.{AllByRecursion, sum_by}
 use Rattle.std.proofs.Math.Nat.{mul-pos}
 use Rattle.std.proofs.lemmas.List.Sums.{sum_by-cons}
+use Rattle.suit_lists.proofs.Maps.{each_map}
 use Rattle.suit_game.specs.declared.moves.Move.{Move}
 use Rattle.suit_game.specs.Fractions.{Fraction, mean, total_weight, weighted_sum, whole}
 use Rattle.suit_game.specs.Strategies.{Weighed, chosen, kept, weighed}
 use Rattle.suit_game.proofs.MeansLieBetween.{weighted_sum-den}
-use Rattle.suit_game.proofs.EachElement.{each_map}
 use Rattle.suit_lift.proofs.FractionSums.{IsNoMore, no_more_itself, no_more_same, no_more_then, parts_of, plus}
 use Rattle.suit_lift.proofs.FractionSums.{plus_no_more, plus_nothing, sum_of, times}
 use Rattle.suit_lift.proofs.MeanOfShares.{chosen_weighed, valued, weighed_weight}

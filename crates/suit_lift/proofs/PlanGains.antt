@@ -6,6 +6,8 @@ use Rattle.std.specs.List.{AllByRecursion, sum_by}
 use Rattle.std.proofs.Math.Nat.{mul-le-mul_left, mul-pos}
 use Rattle.std.proofs.lemmas.Int.{ints}
 use Rattle.std.proofs.lemmas.List.Sums.{sum_by-cons}
+use Rattle.suit_lists.proofs.Elements.{each_in, each_of}
+use Rattle.suit_lists.proofs.Sums.{sum_by_alike, sum_by_same}
 use Rattle.suit_num.proofs.IntegerLaws.{mul_not_negative, int_le-true}
 use Rattle.suit_cards.specs.Cards.{Cards, ClassLayout}
 use Rattle.suit_game.specs.declared.question.Question.{Question}
@@ -15,9 +17,7 @@ use Rattle.suit_game.specs.Gains.{gain, pay}
 use Rattle.suit_game.specs.Layouts.{layouts, total, weight}
 use Rattle.suit_game.specs.Strategies.{DefenceWay, counted}
 use Rattle.suit_game.specs.Validity.{IsValid}
-use Rattle.suit_game.proofs.EachElement.{each_in, each_of}
 use Rattle.suit_game.proofs.LayoutCards.{layouts_are_deals}
-use Rattle.suit_game.proofs.ListSums.{sum_by_alike, sum_by_same}
 use Rattle.suit_game.proofs.PayDenominators.{gain-den, total_weight-gain}
 use Rattle.suit_game.proofs.PlaceSeenAfterAMove.{play_none}
 use Rattle.suit_classes.specs.Classes.{hands_of, sizes_of}

@@ -3,6 +3,8 @@ use Rattle.std.proofs.Common.{◌≡◌, ◌<◌, Bool, false, not, List, [], �
 use Rattle.std.specs.Prelude.{Contains, if◌then◌else◌}
 use Rattle.std.proofs.lemmas.Bool.{or_parts}
 use Rattle.std.proofs.lemmas.List.{length-append, length-map}
+use Rattle.suit_lists.proofs.Elements.{Contains-first}
+use Rattle.suit_lists.proofs.Firsts.{HasFirst}
 use Rattle.suit_cards.specs.Cards.{Cards}
 use Rattle.suit_cards.specs.declared.seats.Seat.TheVariants.{N, E, S, W}
 use Rattle.suit_game.specs.declared.question.Question.{Question}
@@ -13,7 +15,6 @@ use Rattle.suit_game.specs.Histories.{History}
 use Rattle.suit_game.specs.Positions.{Position, Trick, Closed, Open, after, ended_in, has_ended, is_empty, leads_at}
 use Rattle.suit_game.specs.Positions.{legal}
 use Rattle.suit_game.specs.PlaceViews.{IsPlay, turn_on}
-use Rattle.suit_game.proofs.EachElement.{Contains-first}
 use Rattle.suit_game.proofs.LegalPlays.{legal_moves_extend}
 use Rattle.suit_game.proofs.LongestPlay.{histories_are_short}
 use Rattle.suit_game.proofs.PayDenominators.{legal_at-some}
@@ -25,7 +26,6 @@ use Rattle.suit_classes.specs.declared.class_view.ClassView.{ClassView}
 use Rattle.suit_classes.specs.ClassPlaces.{class_after, class_decided, class_moves, class_turn}
 use Rattle.suit_classes.proofs.ClassGameAgrees.{class_game_agrees}
 use Rattle.suit_plans.specs.Masses.{is_declarers, is_defences}
-use Rattle.suit_classes.proofs.UndecidedHasAMove.{HasFirst}
 
 -- the place of the class game after the class history that a history merges to
 abbrev pub view_after : Question → History → ClassView

@@ -3,11 +3,11 @@ use Rattle.std.proofs.Common.{◌≡◌, List, [], ◌∷◌, refl, sym, ◌∙�
 use Rattle.std.specs.Prelude.{Contains, IsTrue}
 use Rattle.std.specs.List.{list_any}
 use Rattle.std.proofs.lemmas.Bool.{false≢true, or_cases}
+use Rattle.suit_lists.proofs.Elements.{Contains-first, Contains-later}
 use Rattle.suit_cards.specs.declared.seats.Seat.TheVariants.{N, E, S, W}
 use Rattle.suit_game.specs.declared.moves.Move.{Move}
 use Rattle.suit_game.specs.declared.moves.Move.TheVariants.{Lead, Follow, ShowOut}
 use Rattle.suit_game.specs.Strategies.{same_move}
-use Rattle.suit_game.proofs.EachElement.{Contains-first, Contains-later}
 use Rattle.suit_game.proofs.SameCardMoves.{same_card_move_is}
 use Rattle.suit_game.specs.contracts.moves.MovePartialEq.TheImpl as equal
 

@@ -6,6 +6,11 @@ use Rattle.std.specs.List.{AllByRecursion, list_all, sum_by, filter}
 use Rattle.std.proofs.lemmas.Bool.{and_parts, cases_eq, eq-eqb, eqb-true, false≢true, true≢false}
 use Rattle.std.proofs.lemmas.Int.{ints}
 use Rattle.std.proofs.lemmas.List.Sums.{sum_by-cons}
+use Rattle.suit_lists.proofs.Elements.{Contains-cons_cases, Contains-first, Contains-later, Contains-nil, each_gives}
+use Rattle.suit_lists.proofs.Elements.{each_in}
+use Rattle.suit_lists.proofs.Firsts.{HasFirst}
+use Rattle.suit_lists.proofs.Once.{IsOnce}
+use Rattle.suit_lists.proofs.Sums.{sum_by_alike, sum_by_none, term_small}
 use Rattle.suit_cards.specs.Cards.{Cards, ClassLayout}
 use Rattle.suit_game.specs.declared.question.Question.{Question}
 use Rattle.suit_game.specs.declared.moves.Move.{Move}
@@ -13,9 +18,6 @@ use Rattle.suit_game.specs.Histories.{History}
 use Rattle.suit_game.specs.Positions.{legal}
 use Rattle.suit_game.specs.PlaceViews.{IsPlay}
 use Rattle.suit_game.specs.Strategies.{counted}
-use Rattle.suit_game.proofs.EachElement.{Contains-first, Contains-later, Contains-nil, Contains-cons_cases, each_gives}
-use Rattle.suit_game.proofs.EachElement.{each_in}
-use Rattle.suit_game.proofs.ListSums.{sum_by_alike, sum_by_none, term_small}
 use Rattle.suit_classes.specs.declared.class_moves.ClassMove.{ClassMove}
 use Rattle.suit_classes.specs.Classes.{hands_of}
 use Rattle.suit_classes.specs.ClassGame.{Allows, counts_of, each_once, merged_moves}
@@ -23,13 +25,11 @@ use Rattle.suit_classes.specs.ClassMoves.{merge, merged, same_class_move}
 use Rattle.suit_classes.specs.ClassPlaces.{class_moves, class_turn}
 use Rattle.suit_classes.proofs.AllowedMoveByMove.{Contains-each_once, allowed_moves, each_once-Contains}
 use Rattle.suit_classes.proofs.DistinctMoves.{once_each_once}
-use Rattle.suit_game.proofs.DistinctElements.{IsOnce}
 use Rattle.suit_classes.proofs.SameMoves.{same_move-itself}
 use Rattle.suit_plans.specs.Masses.{Side, count_of, is_first, mass_of, share}
 use Rattle.suit_plans.specs.PlanLaws.{AreRealised}
 use Rattle.suit_plans.specs.Properness.{sum_of}
 use Rattle.suit_plans.proofs.MassSteps.{mass_shared}
-use Rattle.suit_classes.proofs.UndecidedHasAMove.{HasFirst}
 use Rattle.suit_lift.specs.Lifts.{RowCounts, class_share, row_count}
 use Rattle.suit_lift.proofs.SumsOverMergedMoves.{other_class}
 use Rattle.suit_lift.proofs.PlayGoesOn.{IsOn, view_after}

@@ -9,6 +9,11 @@ use Rattle.std.proofs.Math.Nat.{mul-le-mul_left, mul-pos}
 use Rattle.std.proofs.lemmas.Bool.{cases_Bool, true≢false}
 use Rattle.std.proofs.lemmas.List.Sums.{sum_by-cons}
 use Rattle.std.proofs.lemmas.Slice.Eq.{bytes_eq-Decides}
+use Rattle.suit_lists.proofs.Elements.{Contains-first, each_in, each_of}
+use Rattle.suit_lists.proofs.Filters.{Contains-filter, kept_parts}
+use Rattle.suit_lists.proofs.Firsts.{HasFirst}
+use Rattle.suit_lists.proofs.Maps.{Contains-map}
+use Rattle.suit_lists.proofs.Sums.{sum_by-mul, sum_by_same}
 use Rattle.suit_cards.specs.Cards.{Cards, ClassLayout}
 use Rattle.suit_cards.specs.Holdings.{holds}
 use Rattle.suit_game.specs.declared.question.Question.{Question}
@@ -24,9 +29,7 @@ use Rattle.suit_game.specs.Positions.{after, legal, payoff}
 use Rattle.suit_game.specs.Strategies.{Way, Weighed, chosen, counted}
 use Rattle.suit_game.specs.Validity.{IsValid}
 use Rattle.suit_game.proofs.ChosenIsLegal.{chosen_from, chosen-weight}
-use Rattle.suit_game.proofs.EachElement.{Contains-filter, Contains-first, Contains-map, each_in, each_of, kept_parts}
 use Rattle.suit_game.proofs.EnoughMoves.{ended_with_no_room, pay_where_on, room_after_move}
-use Rattle.suit_game.proofs.ListSums.{sum_by-mul, sum_by_same}
 use Rattle.suit_game.proofs.PayDenominators.{pay-den}
 use Rattle.suit_game.proofs.PlaceSeenAfterAMove.{play_more}
 use Rattle.suit_classes.specs.declared.class_moves.ClassMove.{ClassMove}
@@ -44,7 +47,6 @@ use Rattle.suit_plans.specs.declared.defence.Defence.{Defence}
 use Rattle.suit_plans.specs.Masses.{defence_mass, defenders}
 use Rattle.suit_plans.specs.Properness.{IsProperDefence, some_allows, sum_of as whole_sum}
 use Rattle.suit_plans.proofs.MassSteps.{mass_kept}
-use Rattle.suit_classes.proofs.UndecidedHasAMove.{HasFirst}
 use Rattle.suit_lift.specs.Lifts.{common, defence_way}
 use Rattle.suit_lift.specs.Naming.{is_one_of, unplayed}
 use Rattle.suit_lift.proofs.HowManyAreAlike.{alike_layouts}

@@ -5,10 +5,10 @@ use Rattle.std.specs.Prelude.{if◌then◌else◌}
 use Rattle.std.specs.List.{AllByRecursion, filter, sum_by}
 use Rattle.std.proofs.lemmas.Bool.{cases_Bool, false≢true, false_from_ne_true}
 use Rattle.std.proofs.lemmas.List.Sums.{sum_by-cons}
+use Rattle.suit_lists.proofs.Elements.{each_gives}
+use Rattle.suit_lists.proofs.Once.{IsOnce, IsOnce as IsCardOnce}
+use Rattle.suit_lists.proofs.Sums.{sum_by_alike}
 use Rattle.suit_game.specs.declared.moves.Move.{Move}
-use Rattle.suit_game.proofs.DistinctElements.{IsOnce as IsCardOnce, IsOnce}
-use Rattle.suit_game.proofs.EachElement.{each_gives}
-use Rattle.suit_game.proofs.ListSums.{sum_by_alike}
 use Rattle.suit_game.proofs.SameCardMoves.{same_card_move-itself}
 use Rattle.suit_classes.specs.declared.class_moves.ClassMove.{ClassMove}
 use Rattle.suit_classes.specs.WhatIsAllowed.{is_among}

@@ -4,6 +4,7 @@ use Rattle.std.proofs.Common.{refl, ap, arith}
 use Rattle.std.specs.Prelude.{Contains, ◌==◌}
 use Rattle.std.proofs.lemmas.Bool.{agree_below_at, eqb-true, true≢false}
 use Rattle.std.proofs.lemmas.List.{length-map}
+use Rattle.suit_lists.proofs.Filters.{Contains-filter, length_filter-most}
 use Rattle.suit_cards.specs.Cards.{Cards}
 use Rattle.suit_cards.specs.Holdings.{IsHolding}
 use Rattle.suit_cards.proofs.WhetherARankIsHeld.{length-IsHolding}
@@ -15,8 +16,6 @@ use Rattle.suit_game.specs.Histories.{History}
 use Rattle.suit_game.specs.Positions.{Position, Trick, Closed, Open, after, dealt, follows_of, hand, legal, legal_in}
 use Rattle.suit_game.specs.PlaceViews.{IsPlay}
 use Rattle.suit_game.specs.Strategies.{counted}
-use Rattle.suit_game.proofs.EachElement.{Contains-filter}
-use Rattle.suit_game.proofs.ListSums.{length_filter-most}
 use Rattle.suit_classes.specs.declared.class_moves.ClassMove.{ClassMove}
 use Rattle.suit_classes.specs.Classes.{Hands, hands_of}
 use Rattle.suit_classes.specs.ClassMoves.{merge, same_class_move}

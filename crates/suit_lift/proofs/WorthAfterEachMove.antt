@@ -2,14 +2,13 @@
 use Rattle.std.proofs.Common.{◌≡◌, ◌-◌, ◌<◌, List, [], ◌∷◌, ◌++◌, length, map, refl, ap, ◌∙◌}
 use Rattle.std.specs.Prelude.{Contains, ℤ, ◌≤ℤ◌, if◌then◌else◌}
 use Rattle.std.specs.Int.{int_min, int_max}
-use Rattle.suit_game.proofs.EachElement.{Contains-map}
+use Rattle.suit_lists.proofs.Firsts.{HasFirst, HasFirst-found, HasFirst-map}
+use Rattle.suit_lists.proofs.Maps.{Contains-map}
 use Rattle.suit_classes.specs.declared.class_moves.ClassMove.{ClassMove}
 use Rattle.suit_plans.specs.BestReplies.{Reply, best_of, worth, worth_at}
 use Rattle.suit_plans.specs.Properness.{sum_of}
-use Rattle.suit_plans.proofs.PublicMoves.{HasFirst-found}
-use Rattle.suit_plans.proofs.WorthsAtTurns.{HasFirst-map, ended_worth, least_of as least_number, most_of as most_number}
+use Rattle.suit_plans.proofs.WorthsAtTurns.{ended_worth, least_of as least_number, most_of as most_number}
 use Rattle.suit_plans.proofs.WorthsAtTurns.{worth_next}
-use Rattle.suit_classes.proofs.UndecidedHasAMove.{HasFirst}
 use Rattle.suit_classes.specs.ClassMoves.{ClassHistory}
 
 -- without a move it is worth what is earned

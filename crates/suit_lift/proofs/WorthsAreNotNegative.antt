@@ -4,10 +4,11 @@ use Rattle.std.specs.Prelude.{ℤ, pos, ◌*ℤ◌, ◌≤ℤ◌, if◌then◌el
 use Rattle.std.specs.Int.{int_max, int_min}
 use Rattle.std.specs.List.{AllByRecursion}
 use Rattle.std.proofs.lemmas.Int.{clamps, ints}
+use Rattle.suit_lists.proofs.Elements.{each_of}
+use Rattle.suit_lists.proofs.Maps.{each_map}
 use Rattle.suit_num.proofs.IntegerLaws.{mul_not_negative}
 use Rattle.suit_cards.specs.Cards.{ClassLayout}
 use Rattle.suit_game.specs.declared.question.Question.{Question}
-use Rattle.suit_game.proofs.EachElement.{each_map, each_of}
 use Rattle.suit_classes.specs.declared.class_moves.ClassMove.{ClassMove}
 use Rattle.suit_classes.specs.ClassPlaces.{class_after, class_payoff}
 use Rattle.suit_plans.specs.BestReplies.{Reply, allowing_layouts, best_of, reply_to_defence, reply_to_plan, worth}

@@ -8,11 +8,11 @@ use Rattle.std.proofs.lemmas.Int.{ints}
 use Rattle.std.proofs.lemmas.List.{length-append}
 use Rattle.std.proofs.lemmas.List.Concat.{flat_map-append}
 use Rattle.std.proofs.lemmas.List.Elements.{filter-append}
+use Rattle.suit_lists.proofs.Elements.{Contains-first, Contains-later}
 use Rattle.suit_num.proofs.IntegerLaws.{int_lt-false}
 use Rattle.suit_cards.specs.Cards.{Text}
 use Rattle.suit_game.specs.declared.question.Question.{Question}
 use Rattle.suit_game.specs.Validity.{IsValid}
-use Rattle.suit_game.proofs.EachElement.{Contains-first, Contains-later}
 use Rattle.suit_classes.specs.declared.class_moves.ClassMove.{ClassMove}
 use Rattle.suit_classes.specs.ClassMoves.{ClassHistory}
 use Rattle.suit_classes.specs.ClassPlaces.{class_after, class_decided, class_turn}

@@ -3,6 +3,8 @@ use Rattle.std.proofs.Common.{Bool, true, false, List, [], ◌∷◌, ◌++◌, 
 use Rattle.std.specs.Prelude.{Contains, if◌then◌else◌}
 use Rattle.std.specs.List.{AllByRecursion}
 use Rattle.std.proofs.lemmas.List.Elements.{recursion_from_All}
+use Rattle.suit_lists.proofs.Elements.{each_append, each_at, each_gives}
+use Rattle.suit_lists.proofs.Maps.{Contains-map_from, each_map}
 use Rattle.suit_cards.specs.declared.seats.Seat.TheVariants.{N, S}
 use Rattle.suit_cards.specs.Cards.{Cards, ClassLayout}
 use Rattle.suit_cards.specs.Holdings.{IsHolding}
@@ -15,7 +17,6 @@ use Rattle.suit_game.specs.Positions.{Closed as NoTrick, Open as InTrick, Positi
 use Rattle.suit_game.specs.Positions.{follows_of, hand, legal, legal_in, may_lead_n, may_lead_s}
 use Rattle.suit_game.specs.Positions.{dealt, without}
 use Rattle.suit_game.specs.Validity.{IsValid}
-use Rattle.suit_game.proofs.EachElement.{Contains-map_from, each_append, each_at, each_gives, each_map}
 use Rattle.suit_classes.specs.declared.class_moves.ClassMove.{ClassMove}
 use Rattle.suit_classes.specs.Classes.{class_count, hands_of}
 use Rattle.suit_classes.specs.ClassGame.{Allows, MergesTo}

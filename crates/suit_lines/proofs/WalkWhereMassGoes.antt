@@ -12,18 +12,19 @@ use Rattle.std.proofs.lemmas.Int.{ints}
 use Rattle.std.proofs.lemmas.List.{append_assoc, flat_map_more, length-append, length-map, take_all, take_at}
 use Rattle.std.proofs.lemmas.List.{take_more}
 use Rattle.std.proofs.lemmas.List.Elements.{All-append, All-cons, Contains-get_or, filter_agree}
+use Rattle.suit_lists.proofs.Elements.{Contains-first}
+use Rattle.suit_lists.proofs.Filters.{filter_of_map, kept_parts}
+use Rattle.suit_lists.proofs.Maps.{Contains-map_from}
 use Rattle.suit_num.proofs.IntegerLaws.{int_le-true, int_lt-true}
 use Rattle.suit_cards.specs.Cards.{ClassLayout, Text}
 use Rattle.suit_game.specs.declared.question.Question.{Question}
 use Rattle.suit_game.specs.Validity.{IsValid}
-use Rattle.suit_game.proofs.EachElement.{Contains-first, Contains-map_from, kept_parts}
 use Rattle.suit_classes.specs.declared.class_moves.ClassMove.{ClassMove}
 use Rattle.suit_classes.specs.WhatIsAllowed.{allows, every_move, is_among}
 use Rattle.suit_classes.specs.Classes.{class_count, hands_of, sizes_of}
 use Rattle.suit_classes.specs.ClassMoves.{ClassHistory}
 use Rattle.suit_classes.specs.ClassPlaces.{ClassView, class_after, class_decided, class_moves, class_start, class_turn}
 use Rattle.suit_classes.specs.ClassPlaces.{turn_of}
-use Rattle.suit_classes.proofs.MovesOnce.{filter_of_map}
 use Rattle.suit_classes.proofs.AllowsOneMoveMore.{allows-push}
 use Rattle.suit_classes.proofs.UndecidedHasAMove.{undecided_turn}
 use Rattle.suit_layouts.specs.ClassLayouts.{class_layouts}

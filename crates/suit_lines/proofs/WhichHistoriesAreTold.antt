@@ -6,13 +6,14 @@ use Rattle.std.specs.List.{AllByRecursion, flat_map}
 use Rattle.std.specs.Int.{int_max}
 use Rattle.std.proofs.lemmas.Bool.{and_from, and_parts, lt-ltb, ltb-true}
 use Rattle.std.proofs.lemmas.Int.{ints}
+use Rattle.suit_lists.proofs.Chains.{Chained, chained_filter, chained_pairs, pairs_chained}
+use Rattle.suit_lists.proofs.Elements.{Contains-first, Contains-later, Contains-nil, each_at}
+use Rattle.suit_lists.proofs.Filters.{Contains-filter, kept_parts}
+use Rattle.suit_lists.proofs.FlatMaps.{Contains-flat_map, each_flat_map}
 use Rattle.suit_num.proofs.IntegerLaws.{int_lt-true}
 use Rattle.suit_cards.specs.Cards.{ClassLayout}
 use Rattle.suit_game.specs.declared.question.Question.{Question}
 use Rattle.suit_game.specs.Validity.{IsValid}
-use Rattle.suit_game.proofs.DistinctElements.{each_flat_map}
-use Rattle.suit_game.proofs.EachElement.{Contains-filter, Contains-first, Contains-flat_map, Contains-later}
-use Rattle.suit_game.proofs.EachElement.{Contains-nil, each_at, kept_parts}
 use Rattle.suit_classes.specs.declared.class_moves.ClassMove.{ClassMove}
 use Rattle.suit_classes.specs.WhatIsAllowed.{every_move}
 use Rattle.suit_classes.specs.Classes.{sizes_of}
@@ -24,7 +25,7 @@ use Rattle.suit_classes.specs.MoveOrder.{stands_before}
 use Rattle.suit_classes.proofs.AllowedMoveByMove.{allowed_moves}
 use Rattle.suit_classes.proofs.CountsAllowAsTold.{allows_before}
 use Rattle.suit_classes.proofs.DecidedStaysDecided.{class_histories_are_short}
-use Rattle.suit_classes.proofs.ClassMovesRise.{Chained, chained_filter, chained_pairs, every_move_rises}
+use Rattle.suit_classes.proofs.ClassMovesRise.{every_move_rises}
 use Rattle.suit_classes.proofs.SmallCounts.{class_after_move}
 use Rattle.suit_classes.proofs.AllowsOneMoveMore.{and-assoc, and-last}
 use Rattle.suit_layouts.specs.ClassLayouts.{class_layouts}
@@ -34,7 +35,7 @@ use Rattle.suit_plans.specs.Orders.{history_before}
 use Rattle.suit_plans.specs.Properness.{goes_undecided, some_allows}
 use Rattle.suit_plans.specs.declared.plan.Plan.{Plan}
 use Rattle.suit_plans.proofs.RepliesAreBounded.{some_allow_none}
-use Rattle.suit_plans.proofs.ChoiceOrder.{chained_within, pairs_chained}
+use Rattle.suit_plans.proofs.ChoiceOrder.{chained_within}
 use Rattle.suit_plans.proofs.PublicMoves.{Contains-allowing, Contains-public, allowing_parts, own_moves_on}
 use Rattle.suit_plans.proofs.PublicMoves.{public_allowed, some_layout}
 use Rattle.suit_plans.proofs.TurnMoves.{declarers_moves}

@@ -56,6 +56,11 @@ pub Contains-if : {X : Type 0} (b : Bool) (xs : List X) (y : X) → Contains (if
 Contains-if true xs y found = found
 Contains-if false xs y found = absurd (Contains-nil y found)
 
+-- and what a choice between none and a list contains
+pub Contains-unless : {X : Type 0} (b : Bool) (xs : List X) (y : X) → Contains (if b then [] else xs) y → Contains xs y
+Contains-unless true xs y found = absurd (Contains-nil y found)
+Contains-unless false xs y found = found
+
 pub some_of : {X : Type 0} (xs : List X) (x : X) → Contains xs x → 0 < length xs
 some_of xs x found = omega (arith, found.1)
 

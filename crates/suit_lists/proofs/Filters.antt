@@ -155,6 +155,21 @@ fewer_kept p q (x ∷ xs) gives =
     (sym (filter_length (q x) x (filter q xs)))
     (counted_more (p x) (q x) (length (filter p xs)) (length (filter q xs)) (gives x) (fewer_kept p q xs gives)))
 
+apart_kept : {X : Type 0} (p q : Bool) (x : X) (xs ys : List X) (n : ℕ) → (p ≡ true → q ≡ true → ⊥)
+    → length xs + length ys ≤ n
+    → length (cond p (x ∷ xs) xs) + length (cond q (x ∷ ys) ys) ≤ suc n
+apart_kept true true x xs ys n apart fit = absurd (apart refl refl)
+apart_kept true false x xs ys n apart fit = omega arith
+apart_kept false true x xs ys n apart fit = omega arith
+apart_kept false false x xs ys n apart fit = omega arith
+
+-- two tests that nothing passes both keep no more than there is
+pub kept_apart : {X : Type 0} (p q : X → Bool) (xs : List X) → ((x : X) → p x ≡ true → q x ≡ true → ⊥)
+    → length (filter p xs) + length (filter q xs) ≤ length xs
+kept_apart p q [] apart = omega arith
+kept_apart p q (x ∷ xs) apart =
+    apart_kept (p x) (q x) x (filter p xs) (filter q xs) (length xs) (apart x) (kept_apart p q xs apart)
+
 kept_less : (p q : Bool) (kept others : ℕ) → p ≡ false → q ≡ true → kept ≤ others
     → (if p then kept + 1 else kept) < (if q then others + 1 else others)
 kept_less true q kept others fails passes le = absurd (cc)

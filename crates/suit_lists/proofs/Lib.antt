@@ -1,5 +1,6 @@
 pub mod Basics
 pub mod Elements
+pub mod Firsts
 pub mod Maps
 pub mod Tests
 pub mod Filters

@@ -1,9 +1,9 @@
 -- Lists in which no element comes twice.
-use Rattle.std.proofs.Common.{Bool, List, [], ap, append-nil, arith, cond, false, inl, inr, map, sym, true, ◌++◌, ◌∙◌}
-use Rattle.std.proofs.Common.{◌∷◌, ◌≡◌}
+use Rattle.std.proofs.Common.{Bool, List, [], ap, append-nil, arith, cond, false, inl, inr, map, suc, sym, true, zero}
+use Rattle.std.proofs.Common.{ℕ, ◌++◌, ◌+◌, ◌<◌, ◌∙◌, ◌∷◌, ◌≡◌}
 use Rattle.std.proofs.lemmas.List.Elements.{All-from_recursion}
 use Rattle.std.proofs.lemmas.List.Kept.{AllPairs-cons}
-use Rattle.std.specs.List.{AllByRecursion, flat_map}
+use Rattle.std.specs.List.{AllByRecursion, flat_map, range_with_len}
 use Rattle.std.specs.Prelude.{AllPairs, Contains, filter, if◌then◌else◌, ◌≢◌}
 use Rattle.suit_lists.proofs.Elements.{Contains-cons_cases, Contains-first, Contains-later, Contains-nil, each_append}
 use Rattle.suit_lists.proofs.Elements.{each_at, each_gives, each_in}
@@ -20,6 +20,21 @@ pub once_unless : {X : Type 0} (b : Bool) (xs : List X) → IsOnce xs → IsOnce
 unfolding IsOnce
 once_unless true xs once = tt
 once_unless false xs once = once
+
+pub once_if : {X : Type 0} (b : Bool) (xs : List X) → IsOnce xs → IsOnce (if b then xs else [])
+unfolding IsOnce
+once_if true xs once = once
+once_if false xs once = tt
+
+range_above : (low from count : ℕ) → low < from → AllByRecursion (λ n. low ≡ n → ⊥) (range_with_len from count)
+range_above low from zero above = tt
+range_above low from (suc count) above = (λ same. omega (arith, same), range_above low (from + 1) count (omega arith))
+
+-- the numbers of a run come once each
+pub once_range : (from count : ℕ) → IsOnce (range_with_len from count)
+unfolding IsOnce
+once_range from zero = tt
+once_range from (suc count) = (range_above from (from + 1) count (omega arith), once_range (from + 1) count)
 
 -- so no two elements are equal
 pub once_pairs : {X : Type 0} (xs : List X) → IsOnce xs → AllPairs (λ x y. x ≢ y) xs

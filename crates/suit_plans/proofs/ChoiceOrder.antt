@@ -3,22 +3,22 @@
 use Rattle.std.proofs.Common.{◌≡◌, ℕ, zero, suc, ◌+◌, ◌<◌, ◌≤◌, Bool, true, false, List, [], ◌∷◌, ◌++◌, length, refl}
 use Rattle.std.proofs.Common.{sym}
 use Rattle.std.proofs.Common.{◌∙◌, subst, arith, append-nil, append_assoc}
-use Rattle.std.specs.Prelude.{AllPairs, Contains, ◌&&◌, ◌==◌, filter, nat_lt, if◌then◌else◌}
+use Rattle.std.specs.Prelude.{Contains, ◌&&◌, ◌==◌, filter, nat_lt, if◌then◌else◌}
 use Rattle.std.specs.List.{AllByRecursion, flat_map, range_with_len}
 use Rattle.std.proofs.lemmas.Bool.{and_from, eq-eqb, lt-ltb, or_left, or_right}
 use Rattle.std.proofs.lemmas.List.FromFn.{get_or-range_with_len, length-range_with_len}
-use Rattle.std.proofs.lemmas.List.Elements.{recursion_from_All}
+use Rattle.suit_lists.proofs.Chains.{Chained, chained_append, chained_filter, chained_map, chained_pairs, pairs_chained}
+use Rattle.suit_lists.proofs.Elements.{each_at, each_gives, each_of}
+use Rattle.suit_lists.proofs.FlatMaps.{each_flat_map}
+use Rattle.suit_lists.proofs.Maps.{each_map}
 use Rattle.suit_cards.specs.Cards.{Indices}
 use Rattle.suit_game.specs.declared.question.Question.{Question}
-use Rattle.suit_game.proofs.EachElement.{each_at, each_gives, each_map, each_of}
 use Rattle.suit_classes.specs.declared.class_moves.ClassMove.{ClassMove}
 use Rattle.suit_classes.specs.WhatIsAllowed.{every_move}
 use Rattle.suit_classes.specs.ClassMoves.{ClassHistory, same_class_move}
 use Rattle.suit_classes.specs.MoveOrder.{stands_before}
 use Rattle.suit_classes.specs.Classes.{sizes_of}
 use Rattle.suit_classes.specs.ClassPlaces.{class_after, class_decided, class_moves}
-use Rattle.suit_game.proofs.DistinctElements.{each_flat_map}
-use Rattle.suit_classes.proofs.ClassMovesRise.{Chained, chained_append, chained_filter, chained_map, chained_pairs}
 use Rattle.suit_classes.proofs.ClassMovesRise.{class_moves_rise, every_move_rises}
 use Rattle.suit_classes.proofs.SameMoves.{same_move-itself}
 use Rattle.suit_layouts.specs.ClassLayouts.{class_layouts}
@@ -40,15 +40,6 @@ IsBefore here there = stands_before here there ≡ true
 
 abbrev IsEarlier : ClassHistory → ClassHistory → Type 0
 IsEarlier here there = history_before here there ≡ true
-
--- what holds of each element and all later ones, element by element
-pub pairs_chained : {X : Type 0} (R : X → X → Type 0) (xs : List X) → AllPairs R xs → Chained R xs
-unfolding Chained
-pairs_chained R [] pairs = tt
-pairs_chained R (x ∷ xs) pairs = (
-  recursion_from_All (R x) xs (λ k d below. pairs zero (suc k) d (omega arith) (omega (arith, below))),
-  pairs_chained R xs (λ i j d lt within. pairs (suc i) (suc j) d (omega (arith, lt)) (omega (arith, within))),
-)
 
 -- histories that part at a move stand as these moves do
 parted : (start : ClassHistory) (move other : ClassMove) (rest later : ClassHistory) → IsBefore move other

@@ -9,10 +9,12 @@ use Rattle.std.specs.Int.Signed.{≤ℤ_refl}
 use Rattle.std.proofs.lemmas.Bool.{and_from, and_parts, cases_Bool, ltb-false}
 use Rattle.std.proofs.lemmas.Int.{ints}
 use Rattle.std.proofs.lemmas.List.{length-append}
+use Rattle.suit_lists.proofs.Elements.{Contains-cons_cases, Contains-first, Contains-later, Contains-nil}
+use Rattle.suit_lists.proofs.Filters.{Contains-filter}
+use Rattle.suit_lists.proofs.FlatMaps.{Contains-flat_map}
+use Rattle.suit_lists.proofs.Tests.{passing_some}
 use Rattle.suit_cards.specs.Cards.{ClassLayout}
 use Rattle.suit_game.specs.declared.question.Question.{Question}
-use Rattle.suit_game.proofs.EachElement.{Contains-filter, Contains-first, Contains-flat_map, Contains-later}
-use Rattle.suit_game.proofs.EachElement.{Contains-nil, Contains-cons_cases}
 use Rattle.suit_classes.specs.declared.class_moves.ClassMove.{ClassMove}
 use Rattle.suit_classes.specs.ClassGame.{Allows}
 use Rattle.suit_classes.specs.ClassMoves.{ClassHistory, same_class_move}
@@ -31,7 +33,7 @@ use Rattle.suit_plans.proofs.MassBounds.{mass_falls}
 use Rattle.suit_plans.proofs.PlanWorths.{moves_going}
 use Rattle.suit_plans.proofs.ProperDefences.{defences_are_realised}
 use Rattle.suit_plans.proofs.ProperPlans.{plans_are_realised}
-use Rattle.suit_plans.proofs.PublicMoves.{Contains-allowing, allowing_parts, layout_weighs, passing_some}
+use Rattle.suit_plans.proofs.PublicMoves.{Contains-allowing, allowing_parts, layout_weighs}
 use Rattle.suit_plans.proofs.ReplyChoices.{choice_parts, least_choices, least_entry, least_listed, most_choices}
 use Rattle.suit_plans.proofs.ReplyChoices.{most_entry}
 use Rattle.suit_plans.proofs.ReplyChoices.{most_listed}

@@ -3,8 +3,8 @@ use Rattle.std.proofs.Common.{◌≡◌, ℕ, zero, suc, Bool, true, false, cond
 use Rattle.std.proofs.Common.{arith}
 use Rattle.std.specs.Prelude.{Contains, filter, if◌then◌else◌, ℤ, pos, ◌+ℤ◌, ◌*ℤ◌, ◌≤ℤ◌}
 use Rattle.std.proofs.lemmas.Int.{ints}
+use Rattle.suit_lists.proofs.Elements.{Contains-first, Contains-later}
 use Rattle.suit_num.proofs.IntegerLaws.{mul-add_left}
-use Rattle.suit_game.proofs.EachElement.{Contains-first, Contains-later}
 use Rattle.suit_plans.specs.Properness.{sum_of}
 
 -- numbers that are all 0 add up to 0

@@ -4,9 +4,10 @@ use Rattle.std.proofs.Common.{sym, ap, ◌∙◌, subst, arith}
 use Rattle.std.specs.Prelude.{Contains, if◌then◌else◌, ℤ}
 use Rattle.std.specs.Int.{int_min}
 use Rattle.std.proofs.lemmas.List.{length-append}
+use Rattle.suit_lists.proofs.Elements.{Contains-first}
+use Rattle.suit_lists.proofs.Firsts.{HasFirst, HasFirst-map}
 use Rattle.suit_cards.specs.Cards.{ClassLayout}
 use Rattle.suit_game.specs.declared.question.Question.{Question}
-use Rattle.suit_game.proofs.EachElement.{Contains-first}
 use Rattle.suit_classes.specs.declared.class_moves.ClassMove.{ClassMove}
 use Rattle.suit_classes.specs.ClassGame.{Allows}
 use Rattle.suit_classes.specs.ClassPlaces.{class_after, class_decided, class_moves, class_payoff, class_turn}
@@ -21,9 +22,9 @@ use Rattle.suit_plans.specs.ReplyLaws.{IsLeastOf, IsPaid, NoMassIsWorthNothing, 
 use Rattle.suit_plans.specs.ReplyLaws.{PlansAtDeclarers, PlansAtDefences, worths_with}
 use Rattle.suit_plans.proofs.AtMostThirteenTricks.{none_paid, one_paid, paid_most, product_paid, sum_paid}
 use Rattle.suit_plans.proofs.ProperPlans.{plans_are_realised as plans_realised}
-use Rattle.suit_classes.proofs.UndecidedHasAMove.{HasFirst, some_move}
+use Rattle.suit_classes.proofs.UndecidedHasAMove.{some_move}
 use Rattle.suit_plans.proofs.WhoseTurns.{Declarers, Defences, Over, WhoseTurn, own_turn, their_turn, whose_turn}
-use Rattle.suit_plans.proofs.WorthsAtTurns.{HasFirst-map, best_turn, ended_worth, least_of, left_after, summed_turn}
+use Rattle.suit_plans.proofs.WorthsAtTurns.{best_turn, ended_worth, least_of, left_after, summed_turn}
 use Rattle.suit_game.specs.declared.limits.TheConstants.{MOST_MOVES}
 use Rattle.suit_classes.specs.ClassMoves.{ClassHistory}
 

@@ -1,18 +1,14 @@
 -- The moves with which a class history goes on for declarer, against the class moves in a class layout that allows it
 -- (`held_moves`, `own_moves_on`).
 use Rattle.std.proofs.Common.{◌≡◌, ℕ, ◌<◌, ◌≤◌, Bool, true, false, List, [], ◌∷◌, ◌++◌, length, refl, sym, ap}
-use Rattle.std.proofs.Common.{◌∙◌, subst, inl, inr, arith}
+use Rattle.std.proofs.Common.{◌∙◌, subst, arith}
 use Rattle.std.specs.Prelude.{◌&&◌, Contains, filter, if◌then◌else◌}
 use Rattle.std.specs.Bool.{Decides}
-use Rattle.std.specs.List.{list_any}
-use Rattle.std.proofs.lemmas.Bool.{false≢true, or_cases, or_left, or_right}
 use Rattle.std.proofs.lemmas.Bool.Decides.{same_from_decides}
 use Rattle.std.proofs.lemmas.List.Elements.{filter_agree}
 use Rattle.suit_cards.specs.Cards.{ClassLayout}
 use Rattle.suit_game.specs.declared.question.Question.{Question}
 use Rattle.suit_game.specs.Validity.{IsValid}
-use Rattle.suit_game.proofs.EachElement.{Contains-cons_cases, Contains-filter, Contains-first, Contains-later}
-use Rattle.suit_game.proofs.EachElement.{Contains-nil, kept_parts}
 use Rattle.suit_classes.specs.declared.class_moves.ClassMove.{ClassMove}
 use Rattle.suit_classes.specs.WhatIsAllowed.{allows, every_move, is_among}
 use Rattle.suit_classes.specs.Classes.{defence_sizes, hands_of, sizes_of}
@@ -22,7 +18,10 @@ use Rattle.suit_classes.specs.ClassPlaces.{class_after, class_decided, class_mov
 use Rattle.suit_classes.proofs.AllowedMoveByMove.{allowed_moves}
 use Rattle.suit_classes.proofs.CountsAllowAsTold.{allows_tells}
 use Rattle.suit_classes.proofs.DefenceSizes.{sum-defence_sizes}
-use Rattle.suit_lists.proofs.Filters.{filter-filter}
+use Rattle.suit_lists.proofs.Elements.{Contains-first, Contains-nil}
+use Rattle.suit_lists.proofs.Filters.{Contains-filter, filter-filter, kept_parts}
+use Rattle.suit_lists.proofs.Firsts.{HasFirst, HasFirst-found}
+use Rattle.suit_lists.proofs.Tests.{passing_some, some_passing}
 use Rattle.suit_classes.proofs.SameMoves.{among-Contains, among_contained, among_decides, both_second}
 use Rattle.suit_classes.proofs.AllowsOneMoveMore.{allows-push}
 use Rattle.suit_layouts.proofs.WhatHasWeightIsListed.{class_layouts_exact}
@@ -34,33 +33,11 @@ use Rattle.suit_plans.proofs.AllowedSoFar.{start_allows}
 use Rattle.suit_classes.proofs.EveryMove.{class_moves_listed}
 use Rattle.suit_plans.proofs.RowLimits.{some_allowed_short}
 use Rattle.suit_plans.proofs.TurnMoves.{declarers_moves}
-use Rattle.suit_classes.proofs.UndecidedHasAMove.{HasFirst, some_move}
+use Rattle.suit_classes.proofs.UndecidedHasAMove.{some_move}
 use Rattle.suit_game.specs.declared.limits.TheConstants.{MOST_MOVES}
 use Rattle.suit_classes.specs.ClassMoves.{ClassHistory}
 
 -- ---- lists
-
--- where an element passes a test, one that does is in the list
-pub some_passing : {X : Type 0} (test : X → Bool) (xs : List X) → list_any test xs ≡ true → (x : X) × Contains xs x
-    × (test x ≡ true)
-some_passing test [] some = absurd (false≢true some)
-some_passing test (x ∷ xs) some = elim (or_cases (test x) (list_any test xs) some) [
-  | inl here ↦ (x, Contains-first x xs, here)
-  | inr there ↦ let later = some_passing test xs there in (later.0, Contains-later x xs later.0 later.1, later.2)
-]
-
-pub passing_some : {X : Type 0} (test : X → Bool) (xs : List X) (x : X) → Contains xs x → test x ≡ true
-    → list_any test xs ≡ true
-passing_some test [] x found passes = absurd (Contains-nil x found)
-passing_some test (first ∷ xs) x found passes = elim (Contains-cons_cases first xs x found) [
-  | inl here ↦ or_left (test first) (list_any test xs) (ap test here ∙ passes)
-  | inr there ↦ or_right (test first) (list_any test xs) (passing_some test xs x there passes)
-]
-
--- a list with an element has a first one
-pub HasFirst-found : {X : Type 0} (xs : List X) (x : X) → Contains xs x → HasFirst xs
-HasFirst-found [] x found = absurd (Contains-nil x found)
-HasFirst-found (first ∷ xs) x found = record { first = first; more = xs; parts = refl }
 
 and-true : (b c : Bool) → c ≡ true → (b && c) ≡ b
 and-true true c is = is

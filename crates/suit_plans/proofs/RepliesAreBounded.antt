@@ -1,17 +1,19 @@
 -- The least that a proper plan earns and the most that a proper defence lets declarer earn stay below their bound
 -- (`leasts_bounded`, `mosts_bounded`).
-use Rattle.std.proofs.Common.{◌≡◌, ℕ, ◌+◌, ◌*◌, ◌<◌, ◌≤◌, Bool, true, List, [], ◌∷◌, map, sum_by, refl, sym, ap, ◌∙◌}
+use Rattle.std.proofs.Common.{◌≡◌, ℕ, ◌+◌, ◌*◌, ◌<◌, ◌≤◌, true, List, [], ◌∷◌, map, sum_by, refl, sym, ap, ◌∙◌}
 use Rattle.std.proofs.Common.{subst, arith}
-use Rattle.std.specs.Prelude.{Contains, filter, cond, ◌^◌, ℤ, pos, ◌+ℤ◌, ◌*ℤ◌, ◌≤ℤ◌, ◌<ℤ◌}
+use Rattle.std.specs.Prelude.{Contains, ◌^◌, ℤ, pos, ◌+ℤ◌, ◌*ℤ◌, ◌≤ℤ◌, ◌<ℤ◌}
 use Rattle.std.proofs.lemmas.Int.{ints}
 use Rattle.std.proofs.lemmas.List.Sums.{sum_by-cons}
 use Rattle.std.proofs.Math.IntN.{*ℤ_comm, zero-*ℤ}
+use Rattle.suit_lists.proofs.Elements.{Contains-first}
+use Rattle.suit_lists.proofs.Filters.{filter_all}
+use Rattle.suit_lists.proofs.Maps.{map_same}
 use Rattle.suit_cards.specs.Cards.{ClassLayout}
 use Rattle.suit_num.proofs.IntegerLaws.{le-mul_right, mul-add_right, mul_left_comm, mul_not_negative, int_le-true}
 use Rattle.suit_game.specs.declared.question.Question.{Question}
 use Rattle.suit_game.specs.Layouts.{total}
 use Rattle.suit_game.specs.Validity.{IsValid}
-use Rattle.suit_game.proofs.EachElement.{Contains-first, map_same}
 use Rattle.suit_game.proofs.WhatAllLayoutsWeigh.{total_at_most}
 use Rattle.suit_classes.specs.WhatIsAllowed.{allows, allows_from}
 use Rattle.suit_classes.specs.Classes.{defence_sizes, hands_of, sizes_of}
@@ -63,12 +65,6 @@ sum_weighed den (layout ∷ layouts) =
   where
     added : (m n : ℕ) → pos m +ℤ pos n ≡ pos (m + n)
     added m n = omega (arith, ints)
-
-filter_all : {X : Type 0} (test : X → Bool) (xs : List X) → ((x : X) → test x ≡ true) → filter test xs ≡ xs
-filter_all test [] all = refl
-filter_all {X} test (x ∷ xs) all =
-    ap (λ (b : Bool). cond b (x ∷ filter test xs) (filter test xs)) (all x)
-    ∙ ap (λ (l : List X). x ∷ l) (filter_all test xs all)
 
 module _ (question : Question) where
   abbrev layouts : List (ClassLayout × ℕ)

@@ -2,20 +2,24 @@
 -- `most_choices`).
 use Rattle.std.proofs.Common.{◌≡◌, ◌⊎◌, ℕ, zero, suc, ◌<◌, Bool, true, false, cond, List, [], ◌∷◌, ◌++◌, length, get_or}
 use Rattle.std.proofs.Common.{refl, sym, ap, ◌∙◌, subst, inl, inr, arith}
-use Rattle.std.specs.Prelude.{Contains, ◌&&◌, filter, nat_lt, if◌then◌else◌, ℤ, pos, int_lt}
+use Rattle.std.specs.Prelude.{Contains, ◌&&◌, filter, nat_lt, ℤ, pos, int_lt}
 use Rattle.std.specs.List.{AllByRecursion, flat_map, range_with_len}
 use Rattle.std.specs.Ordering.{int_eq}
 use Rattle.std.proofs.lemmas.Bool.{and_parts, false≢true, ltb-true}
 use Rattle.std.proofs.lemmas.Bool.Decides.{Decides-int_eq}
 use Rattle.std.proofs.lemmas.List.Elements.{All-contains, Contains-get_or}
+use Rattle.suit_lists.proofs.Elements.{Contains-cons_cases, Contains-first, Contains-later, Contains-nil}
+use Rattle.suit_lists.proofs.Elements.{Contains-unless, each_at, each_in}
+use Rattle.suit_lists.proofs.Filters.{kept_parts}
+use Rattle.suit_lists.proofs.Firsts.{HasFirst, HasFirst-many}
+use Rattle.suit_lists.proofs.FlatMaps.{Contains-flat_map, each_flat_map}
+use Rattle.suit_lists.proofs.Maps.{Contains-map, Contains-map_from}
+use Rattle.suit_lists.proofs.Tests.{some_passing}
+use Rattle.suit_lists.proofs.Walks.{Contains-range}
 use Rattle.suit_cards.specs.Cards.{ClassLayout}
 use Rattle.suit_num.proofs.IntegerLaws.{int_lt-true}
 use Rattle.suit_game.specs.declared.question.Question.{Question}
 use Rattle.suit_game.specs.Validity.{IsValid}
-use Rattle.suit_game.proofs.EachElement.{Contains-cons_cases, Contains-first, Contains-flat_map, Contains-later}
-use Rattle.suit_game.proofs.EachElement.{kept_parts}
-use Rattle.suit_game.proofs.EachElement.{Contains-map, Contains-map_from, Contains-nil, Contains-range, each_at}
-use Rattle.suit_game.proofs.EachElement.{each_in}
 use Rattle.suit_classes.specs.declared.class_moves.ClassMove.{ClassMove}
 use Rattle.suit_classes.specs.Classes.{sizes_of}
 use Rattle.suit_classes.specs.ClassGame.{Allows}
@@ -23,7 +27,6 @@ use Rattle.suit_classes.specs.ClassMoves.{ClassHistory}
 use Rattle.suit_classes.specs.ClassPlaces.{class_after, class_decided, class_moves}
 use Rattle.suit_classes.proofs.AllowedMoveByMove.{allowed_moves}
 use Rattle.suit_classes.proofs.DefenceSizes.{range_below}
-use Rattle.suit_game.proofs.DistinctElements.{each_flat_map}
 use Rattle.suit_layouts.specs.ClassLayouts.{class_layouts}
 use Rattle.suit_plans.specs.declared.moves.DeclarerMove.{DeclarerMove}
 use Rattle.suit_plans.specs.declared.moves.DefenceMove.{DefenceMove}
@@ -40,8 +43,7 @@ use Rattle.suit_plans.proofs.AllowedSoFar.{start_allows}
 use Rattle.suit_plans.proofs.RepliesAreBounded.{some_allow_none}
 use Rattle.suit_plans.proofs.DefenceWorths.{room as defence_room}
 use Rattle.suit_plans.proofs.PlanWorths.{moves_going, room as plan_room}
-use Rattle.suit_plans.proofs.PublicMoves.{layout_weighs, public_allowed, some_passing}
-use Rattle.suit_classes.proofs.UndecidedHasAMove.{HasFirst}
+use Rattle.suit_plans.proofs.PublicMoves.{layout_weighs, public_allowed}
 use Rattle.suit_plans.proofs.WhoseTurns.{own_turn, their_turn}
 use Rattle.suit_plans.proofs.WorthsAtTurns.{best_attained, best_turn, max_picks, min_picks}
 use Rattle.suit_game.specs.declared.limits.TheConstants.{MOST_MOVES}
@@ -109,16 +111,6 @@ reply_move_found reply history picks short some own =
     from.0 from.1
     ((Decides-int_eq (worth reply (history ++ from.0 ∷ [])) (worth reply history)).1 (from.2 ∙ sym turn))
 
--- more moves than one are at least one
-many_first : (moves : List ClassMove) → 1 < length moves → HasFirst moves
-many_first [] many = absurd (omega (arith, many))
-many_first (move ∷ moves) many = record { first = move; more = moves; parts = refl }
-
-going_moves : (b : Bool) (moves : List ClassMove) (move : ClassMove) → Contains (if b then [] else moves) move
-    → Contains moves move
-going_moves true moves move found = absurd (Contains-nil move found)
-going_moves false moves move found = found
-
 -- ---- against a plan
 
 plan_choice : (question : Question) (plan : Plan) (counts : ClassLayout) (history : ClassHistory)
@@ -131,7 +123,7 @@ plan_choice question plan counts history starts found =
     let parts = choice_parts (Allows question counts) reply
     (λ other move allows there. (allowed_moves question counts other move).1 (
       allows,
-      going_moves (class_decided (class_after question other)) (legal other) move there,
+      Contains-unless (class_decided (class_after question other)) (legal other) move there,
     ))
     starts history found in
     let chosen = and_parts (reply.replies history) (nat_lt 1 (length (reply.moves history))) parts.1 in
@@ -146,7 +138,7 @@ plan_choice question plan counts history starts found =
       many = subst (λ (l : List ClassMove). 1 < length l) same many;
       legal = subst (λ (l : List ClassMove). Contains l (reply_move reply history)) same
           (reply_move_found reply history min_picks (plan_room question plan counts history parts.0 going)
-          (many_first (reply.moves history) many) chosen.0);
+          (HasFirst-many (reply.moves history) many) chosen.0);
       live = int_lt-true (pos 0) (plan_mass question plan history) reached.0;
     }
 
@@ -233,7 +225,7 @@ defence_choice question defence history valid found =
       turn = chosen.0;
       many = many;
       legal = reply_move_found reply history max_picks (defence_room question defence valid history parts.0 going)
-          (many_first (public_moves question history) many) chosen.0;
+          (HasFirst-many (public_moves question history) many) chosen.0;
       live = (some.0, some.1, int_lt-true (pos 0) (defence_mass question defence some.0.0 history) some.2);
     }
 

@@ -1,10 +1,11 @@
 -- In rows that stand in order, the row of a key stands where the rows before the key end.
 use Rattle.std.proofs.Common.{◌≡◌, ℕ, zero, suc, ◌<◌, ◌≤◌, Bool, true, false, cond, List, [], ◌∷◌, length, Option, Some}
-use Rattle.std.proofs.Common.{None, slice_index_or, refl, sym, ap, ◌∙◌, subst, inl, inr, arith}
+use Rattle.std.proofs.Common.{None, slice_index_or, sym, ap, ◌∙◌, subst, inl, inr, arith}
 use Rattle.std.specs.Prelude.{find, AllPairs}
 use Rattle.std.specs.List.Sorted.{IsPartitionPoint, IsPartitionedBy}
 use Rattle.std.proofs.Math.Nat.{eq-or-lt_of_le}
 use Rattle.std.proofs.lemmas.Bool.{false≢true, false_from_ne_true}
+use Rattle.suit_lists.proofs.Indices.{none_here}
 
 -- how a test for the rows before a key and a test for those of the key stand to an order of rows
 pub record Keyed {R : Type 0} (before : R → R → Bool) (earlier here : R → Bool) : Type 0 where
@@ -20,12 +21,6 @@ parted_by before earlier here rows keyed order i j d within below passes = elim 
   | inl same ↦ subst (λ (k : ℕ). earlier (slice_index_or rows k d) ≡ true) (sym same) passes
   | inr less ↦ keyed.chain (slice_index_or rows i d) (slice_index_or rows j d) (order i j d less below) passes
 ]
-
-none_here : {R : Type 0} (here : R → Bool) (rows : List R)
-    → ((k : ℕ) (d : R) → k < length rows → here (slice_index_or rows k d) ≡ false) → find here rows ≡ None
-none_here here [] none = refl
-none_here here (row ∷ rows) none =
-    rw (none 0 row (omega arith)) (none_here here rows (λ k d below. none (suc k) d (omega (arith, below))))
 
 not_here : {R : Type 0} (before : R → R → Bool) (earlier here : R → Bool) (row other : R) → Keyed before earlier here
     → before row other ≡ true → earlier row ≡ false → here other ≡ false

@@ -8,7 +8,8 @@ use Rattle.std.proofs.lemmas.Option.{none-some}
 use Rattle.std.specs.Prelude.{AllPairs}
 use Rattle.std.proofs.lemmas.List.Elements.{All-from_recursion}
 use Rattle.std.proofs.lemmas.List.Kept.{AllPairs-cons}
-use Rattle.suit_game.proofs.EachElement.{each_gives}
+use Rattle.suit_lists.proofs.Elements.{each_gives}
+use Rattle.suit_lists.proofs.Indices.{find_none, find_start}
 use Rattle.suit_plans.specs.declared.faults.PlanKind.{PlanKind}
 use Rattle.suit_plans.specs.Orders.{InOrder, defence_row_before, plan_row_before}
 use Rattle.suit_plans.specs.Properness.{last_passes}
@@ -96,17 +97,6 @@ pub FoundRow-from : {R : Type 0} (passes : R → Bool) (rows : List R) (row : R)
 FoundRow-from passes [] row found = absurd (none-some row found)
 FoundRow-from passes (first ∷ rows) row found =
     found_case passes first rows row (passes first) refl found (FoundRow-from passes rows row)
-
-find_none : {R : Type 0} (passes : R → Bool) (rows : List R) → AllByRecursion (λ row. passes row ≡ false) rows
-    → find passes rows ≡ None
-find_none passes [] none = refl
-find_none passes (row ∷ rows) none = rw none.0 (find_none passes rows none.1)
-
-find_start : {R : Type 0} (passes : R → Bool) (start rest : List R) → find passes rest ≡ None
-    → find passes (start ++ rest) ≡ find passes start
-find_start passes [] rest none = none
-find_start {R} passes (row ∷ start) rest none =
-    ap (λ (o : Option R). cond (passes row) (Some row) o) (find_start passes start rest none)
 
 -- a test that only rows before a row pass finds the same among the rows before it as among all
 pub find_before : {R : Type 0} (before : R → R → Bool) (fault : List R → R → Option PlanKind) (passes : R

@@ -5,13 +5,14 @@ use Rattle.std.specs.Prelude.{ℤ, pos, ◌≤ℤ◌, ◌+ℤ◌, int_le, if◌t
 use Rattle.std.specs.List.{AllByRecursion, list_all}
 use Rattle.std.proofs.lemmas.Bool.{and_parts, cond-false, cond-true, false≢true, false_from_ne_true}
 use Rattle.std.proofs.lemmas.Int.{ints}
-use Rattle.suit_game.proofs.EachElement.{Contains-cons_cases, Contains-first, Contains-later, Contains-nil, each_at}
-use Rattle.suit_game.proofs.EachElement.{each_gives, map_same}
+use Rattle.suit_lists.proofs.Elements.{Contains-cons_cases, Contains-first, Contains-later, Contains-nil, each_at}
+use Rattle.suit_lists.proofs.Elements.{each_gives}
+use Rattle.suit_lists.proofs.Maps.{map_same}
+use Rattle.suit_lists.proofs.Once.{IsOnce}
 use Rattle.suit_classes.specs.declared.class_moves.ClassMove.{ClassMove}
 use Rattle.suit_classes.specs.WhatIsAllowed.{is_among}
 use Rattle.suit_classes.specs.ClassMoves.{same_class_move}
 use Rattle.suit_classes.specs.MoveOrder.{stands_before}
-use Rattle.suit_game.proofs.DistinctElements.{IsOnce}
 use Rattle.suit_num.proofs.IntegerLaws.{int_le-true}
 use Rattle.suit_classes.proofs.SameMoves.{among-Contains, same_move-itself, same_move_is}
 use Rattle.suit_plans.specs.Masses.{Shares, count_of, is_first, share}

@@ -3,23 +3,24 @@ use Rattle.std.proofs.Common.{◌≡◌, Bool, true, false, List, [], ◌∷◌,
 use Rattle.std.proofs.Common.{subst, map}
 use Rattle.std.specs.Prelude.{ℤ, pos, ◌≤ℤ◌, int_le}
 use Rattle.std.specs.List.{list_all}
+use Rattle.suit_lists.proofs.Firsts.{HasFirst}
+use Rattle.suit_lists.proofs.Maps.{map_same}
+use Rattle.suit_lists.proofs.Once.{IsOnce}
 use Rattle.suit_cards.specs.Cards.{ClassLayout}
 use Rattle.suit_game.specs.declared.question.Question.{Question}
-use Rattle.suit_game.proofs.EachElement.{map_same}
 use Rattle.suit_classes.specs.declared.class_moves.ClassMove.{ClassMove}
 use Rattle.suit_classes.specs.declared.class_turn.ClassTurn.TheVariants as turns
 use Rattle.suit_classes.specs.WhatIsAllowed.{is_among}
 use Rattle.suit_classes.specs.ClassGame.{Allows}
 use Rattle.suit_classes.specs.ClassPlaces.{class_after, class_moves, class_turn}
 use Rattle.suit_classes.proofs.DistinctMoves.{once_class_moves}
-use Rattle.suit_game.proofs.DistinctElements.{IsOnce}
 use Rattle.suit_plans.specs.Masses.{Shares, Side, is_first, mass_from, mass_of, let_through, share}
 use Rattle.suit_plans.specs.PlanLaws.{AreRealised}
 use Rattle.suit_plans.specs.Properness.{are_rising, moves_of, sum_of}
 use Rattle.suit_plans.proofs.MassSteps.{mass_kept, mass_shared}
 use Rattle.suit_plans.proofs.SharesAddUpToTheMass.{count_case, count_positive, sum_counts, sum_first}
 use Rattle.suit_num.proofs.IntegerLaws.{int_le-true}
-use Rattle.suit_classes.proofs.UndecidedHasAMove.{HasFirst, turn_move}
+use Rattle.suit_classes.proofs.UndecidedHasAMove.{turn_move}
 use Rattle.suit_classes.specs.ClassMoves.{ClassHistory}
 
 -- counts share out the mass of a history among legal moves

@@ -1,9 +1,9 @@
 -- A walk over the class layouts of positive weight that looks for one which allows a class history.
 use Rattle.std.proofs.Common.{◌≡◌, ℕ, ◌<◌, Bool, true, false, ◌||◌, List, [], ◌∷◌, refl, ap, ◌∙◌, arith}
 use Rattle.std.specs.List.{AllByRecursion, list_any}
+use Rattle.suit_lists.proofs.Elements.{each_in}
 use Rattle.suit_cards.specs.Cards.{ClassLayout}
 use Rattle.suit_game.specs.declared.question.Question.{Question}
-use Rattle.suit_game.proofs.EachElement.{each_in}
 use Rattle.suit_classes.specs.declared.class_moves.ClassMove.{ClassMove}
 use Rattle.suit_classes.specs.WhatIsAllowed.{allows}
 use Rattle.suit_classes.specs.Classes.{defence_sizes, hands_of, sizes_of}

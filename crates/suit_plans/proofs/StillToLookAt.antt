@@ -1,29 +1,10 @@
 -- What a walk over a list has still to look at.
 use Rattle.std.proofs.Common.{◌≡◌, ℕ, ◌+◌, ◌-◌, ◌<◌, ◌≤◌, Bool, true, ◌&&◌, List, [], ◌∷◌, length, length-drop, get_or}
-use Rattle.std.proofs.Common.{drop, map, refl, sym, ap, ◌∙◌, arith}
-use Rattle.std.specs.List.{list_all}
-use Rattle.std.proofs.lemmas.List.{at_drop_more, drop_all, drop_more}
+use Rattle.std.proofs.Common.{drop, refl, sym, ap, ◌∙◌, arith}
+use Rattle.std.proofs.lemmas.List.{at_drop_more, drop_more}
 use Rattle.suit_classes.specs.declared.class_moves.ClassMove.{ClassMove}
 use Rattle.suit_classes.specs.MoveOrder.{stands_before}
 use Rattle.suit_plans.specs.Properness.{are_rising}
-
--- all pass from a place on where the one there does and all after it do
-pub all_from : {X : Type 0} (p : X → Bool) (xs : List X) (place : ℕ) (d : X) (b : Bool) → place < length xs
-    → b ≡ p (get_or xs place d)
-    → list_all p (drop place xs) ≡ (b && list_all p (drop (place + 1) xs))
-all_from p xs place d b below is =
-    at_drop_more (list_all p) xs place d below ∙ ap (λ (t : Bool). t && list_all p (drop (place + 1) xs)) (sym is)
-
--- past the last all pass
-pub all_past : {X : Type 0} (p : X → Bool) (xs : List X) (place : ℕ) → length xs ≤ place
-    → list_all p (drop place xs) ≡ true
-all_past p xs place past = ap (list_all p) (drop_all place xs past)
-
--- a test of what a map gives
-pub all_mapped : {X Y : Type 0} (p : Y → Bool) (f : X → Y) (xs : List X)
-    → list_all p (map f xs) ≡ list_all (λ x. p (f x)) xs
-all_mapped p f [] = refl
-all_mapped p f (x ∷ xs) = ap (λ (b : Bool). p (f x) && b) (all_mapped p f xs)
 
 rises_on : (move next : ClassMove) (moves : List ClassMove)
     → are_rising (move ∷ next ∷ moves) ≡ (stands_before move next && are_rising (next ∷ moves))

@@ -6,12 +6,13 @@ use Rattle.std.specs.Int.{int_max, int_min}
 use Rattle.std.specs.Int.Signed.{≤ℤ_refl}
 use Rattle.std.proofs.lemmas.Int.{ints, clamps}
 use Rattle.std.proofs.lemmas.List.{length-append}
-use Rattle.suit_game.proofs.EachElement.{Contains-cons_cases, Contains-first, Contains-later, Contains-nil, map_same}
+use Rattle.suit_lists.proofs.Elements.{Contains-cons_cases, Contains-first, Contains-later, Contains-nil}
+use Rattle.suit_lists.proofs.Firsts.{HasFirst}
+use Rattle.suit_lists.proofs.Maps.{map_same}
 use Rattle.suit_classes.specs.declared.class_moves.ClassMove.{ClassMove}
 use Rattle.suit_plans.specs.BestReplies.{Reply, best_of, worth, worth_at, worth_within}
 use Rattle.suit_plans.specs.Properness.{sum_of}
 use Rattle.suit_plans.specs.ReplyLaws.{IsLeastOf, IsMostOf, WorthsUnfold, worths_with}
-use Rattle.suit_classes.proofs.UndecidedHasAMove.{HasFirst}
 use Rattle.suit_game.specs.declared.limits.TheConstants.{MOST_MOVES}
 use Rattle.suit_classes.specs.ClassMoves.{ClassHistory}
 
@@ -143,11 +144,3 @@ most_of numbers some = subst (λ (l : List ℤ). IsMostOf l (best_of int_max l))
       most = λ other found. best_bounds int_max max_picks (λ best number. number
           ≤ℤ best) ≤ℤ_refl greater_first greater_later some.first some.more other found;
     })
-
--- what a list with a first element gives has one
-pub HasFirst-map : {X Y : Type 0} (f : X → Y) (xs : List X) → HasFirst xs → HasFirst (map f xs)
-HasFirst-map {X} f xs some = record {
-  first = f some.first;
-  more = map f some.more;
-  parts = ap (λ (l : List X). map f l) some.parts;
-}

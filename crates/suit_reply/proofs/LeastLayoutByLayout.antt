@@ -10,10 +10,10 @@ use Rattle.std.proofs.lemmas.List.Concat.{flat_map-append}
 use Rattle.std.proofs.lemmas.List.Elements.{Contains-get_or}
 use Rattle.std.proofs.lemmas.List.FromFn.{get_or-range_with_len, length-range_with_len}
 use Rattle.std.proofs.lemmas.Simd.{map-map}
+use Rattle.suit_lists.proofs.Walks.{Contains-range}
 use Rattle.suit_cards.specs.Cards.{ClassLayout, Indices}
 use Rattle.suit_game.specs.declared.question.Question.{Question}
 use Rattle.suit_game.specs.Validity.{IsValid}
-use Rattle.suit_game.proofs.EachElement.{Contains-range}
 use Rattle.suit_classes.specs.ClassMoves.{ClassHistory}
 use Rattle.suit_plans.specs.declared.moves.DefenceMove.{DefenceMove}
 use Rattle.suit_plans.specs.declared.plan.Plan.{Plan}

@@ -7,12 +7,13 @@ use Rattle.std.specs.Prelude.{Contains, cond, filter, ℤ, pos, ◌^◌, ◌*ℤ
 use Rattle.std.specs.List.{range_with_len}
 use Rattle.std.proofs.lemmas.Int.{ints}
 use Rattle.std.proofs.lemmas.List.Elements.{Contains-get_or}
+use Rattle.suit_lists.proofs.Elements.{Contains-first, Contains-later}
+use Rattle.suit_lists.proofs.Maps.{map_same}
 use Rattle.suit_num.proofs.IntegerLaws.{le-mul_right, int_le-true}
 use Rattle.suit_cards.specs.Cards.{ClassLayout, Indices}
 use Rattle.suit_game.specs.declared.question.Question.{Question}
 use Rattle.suit_game.specs.Layouts.{total as all_weights}
 use Rattle.suit_game.specs.Validity.{IsValid}
-use Rattle.suit_game.proofs.EachElement.{Contains-first, Contains-later, map_same}
 use Rattle.suit_game.proofs.WhatAllLayoutsWeigh.{total_at_most}
 use Rattle.suit_classes.specs.declared.class_moves.ClassMove.{ClassMove}
 use Rattle.suit_classes.specs.Classes.{defence_sizes, hands_of, sizes_of}

@@ -5,11 +5,13 @@ use Rattle.std.proofs.Common.{sym, ap, ◌∙◌, subst, Some, None, Ok, Err, ar
 use Rattle.std.specs.Prelude.{Contains, get_or, not, sum_by, if◌then◌else◌}
 use Rattle.std.proofs.lemmas.Bool.{le-ltb, lt-ltb}
 use Rattle.std.proofs.lemmas.List.Sums.{sum_by-cons}
+use Rattle.suit_lists.proofs.Elements.{each_in}
+use Rattle.suit_lists.proofs.Filters.{length_filter-most}
+use Rattle.suit_lists.proofs.Maps.{Contains-map}
 use Rattle.suit_cards.specs.Cards.{ClassLayout}
 use Rattle.suit_game.specs.declared.question.Question.{Question}
 use Rattle.suit_game.specs.Validity.{IsValid}
 use Rattle.suit_game.specs.declared.limits.TheConstants.{MOST_NODES}
-use Rattle.suit_game.proofs.ListSums.{length_filter-most}
 use Rattle.suit_classes.specs.declared.class_moves.ClassMove.{ClassMove}
 use Rattle.suit_classes.specs.WhatIsAllowed.{every_move, is_among}
 use Rattle.suit_classes.specs.ClassMoves.{ClassHistory}
@@ -30,7 +32,6 @@ use Rattle.suit_program.proofs.lemmas.Supports.TurnCases.{own_legal}
 use Rattle.suit_plans.proofs.ReplyChoices.{least_choices, most_choices}
 use Rattle.suit_solve.proofs.ReplyPlaces.{own_place, their_place}
 use Rattle.std.proofs.lemmas.List.Elements.{All-from_recursion}
-use Rattle.suit_game.proofs.EachElement.{Contains-map, each_in}
 use Rattle.suit_program.specs.Supports.{Support, first_support, layouts_of, legal_moves, supported_moves, with_moves}
 use Rattle.suit_answer.specs.declared.answer.Answer.{Answer}
 use Rattle.suit_solve.specs.declared.ends.SolveEnd.{SolveEnd}

@@ -6,6 +6,7 @@ use Rattle.std.specs.List.{list_any}
 use Rattle.std.proofs.lemmas.Bool.{and_from, or_cases}
 use Rattle.std.proofs.lemmas.Bool.Decides.{Decides-int_eq}
 use Rattle.std.proofs.lemmas.Slice.Eq.{bytes_eq-Decides}
+use Rattle.suit_lists.proofs.Tests.{passing_some, some_passing}
 use Rattle.suit_cards.specs.Cards.{ClassLayout}
 use Rattle.suit_game.specs.declared.question.Question.{Question}
 use Rattle.suit_classes.specs.declared.class_moves.ClassMove.{ClassMove}
@@ -22,7 +23,6 @@ use Rattle.suit_plans.specs.Masses.{is_declarers}
 use Rattle.suit_plans.specs.Orders.{same_class_history}
 use Rattle.suit_plans.specs.ReplyLaws.{counts_at}
 use Rattle.suit_plans.proofs.HistoryOrder.{same_class_history-itself}
-use Rattle.suit_plans.proofs.PublicMoves.{passing_some, some_passing}
 use Rattle.suit_plans.proofs.WhoseTurns.{their_turn}
 use Rattle.suit_program.specs.Readings.ReadingLaws.{defence_read, plan_read}
 use Rattle.suit_program.specs.Readings.{defence_of, parts_of, plan_at, plan_den, plan_point}

@@ -3,12 +3,13 @@ use Rattle.std.proofs.Common.{◌≡◌, ℕ, suc, ◌+◌, ◌≤◌, ◌==◌,
 use Rattle.std.specs.Prelude.{Contains, nat_lt}
 use Rattle.std.specs.List.{AllByRecursion, range_with_len}
 use Rattle.std.proofs.lemmas.List.{length-map}
+use Rattle.suit_lists.proofs.Elements.{each_at, each_of}
+use Rattle.suit_lists.proofs.Filters.{kept_parts, length_filter-most}
+use Rattle.suit_lists.proofs.FlatMaps.{each_flat_map}
+use Rattle.suit_lists.proofs.Maps.{Contains-map_from, each_map}
 use Rattle.suit_cards.specs.Cards.{ClassLayout, Sizes}
 use Rattle.suit_cards.specs.Holdings.{suit}
 use Rattle.suit_game.specs.declared.question.Question.{Question}
-use Rattle.suit_game.proofs.DistinctElements.{each_flat_map}
-use Rattle.suit_game.proofs.EachElement.{Contains-map_from, each_at, each_map, each_of, kept_parts}
-use Rattle.suit_game.proofs.ListSums.{length_filter-most}
 use Rattle.suit_classes.specs.Classes.{Hands, class_of, class_size, defence_classes, hands_of, sizes_of}
 use Rattle.suit_classes.proofs.DefenceSizes.{defence_sizes-some, length-defence_sizes, sum-defence_sizes}
 use Rattle.suit_layouts.specs.ClassLayouts.{class_layouts, class_weight, counts_up_to, weighed}

@@ -10,13 +10,14 @@ use Rattle.std.proofs.Math.IntN.{*ℤ_comm}
 use Rattle.std.proofs.lemmas.Bool.{and_parts}
 use Rattle.std.proofs.lemmas.Int.{ints}
 use Rattle.std.proofs.lemmas.List.Elements.{All-from_recursion}
+use Rattle.suit_lists.proofs.Elements.{Contains-cons_cases, Contains-nil, each_in}
+use Rattle.suit_lists.proofs.Maps.{Contains-map}
+use Rattle.suit_lists.proofs.Tests.{some_passing}
 use Rattle.suit_num.proofs.IntegerLaws.{int_le-true, le-mul_right}
 use Rattle.suit_num.specs.declared.fraction.Frac.{Frac}
 use Rattle.suit_cards.specs.Cards.{ClassLayout}
 use Rattle.suit_game.specs.declared.question.Question.{Question}
 use Rattle.suit_game.specs.Layouts.{total}
-use Rattle.suit_game.proofs.EachElement.{Contains-cons_cases}
-use Rattle.suit_game.proofs.EachElement.{Contains-map, Contains-nil, each_in}
 use Rattle.suit_game.proofs.WhatAllLayoutsWeigh.{total_at_most}
 use Rattle.suit_classes.specs.declared.class_moves.ClassMove.{ClassMove}
 use Rattle.suit_classes.specs.WhatIsAllowed.{allows, is_among}
@@ -44,7 +45,7 @@ use Rattle.suit_plans.proofs.ProperDefences.{defence_row_fits, defences_are_real
 use Rattle.suit_plans.proofs.ProperDefences.{stands_after as defence_stands}
 use Rattle.suit_plans.proofs.ProperPlans.{plan_row_fits, plans_are_realised, proper_plan}
 use Rattle.suit_plans.proofs.ProperPlans.{stands_after as plan_stands}
-use Rattle.suit_plans.proofs.PublicMoves.{layout_tells, some_passing}
+use Rattle.suit_plans.proofs.PublicMoves.{layout_tells}
 use Rattle.suit_plans.proofs.RowLimits.{weight_at_most}
 use Rattle.suit_plans.proofs.SharesAddUpToTheMass.{within_sum}
 use Rattle.suit_layouts.specs.ClassLayouts.{class_layouts}

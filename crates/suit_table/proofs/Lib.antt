@@ -1,7 +1,7 @@
 pub mod Entering
 pub mod SummaryIsMet
 pub mod Misfits
-pub mod RelatedIndexByIndex
+pub mod OutcomesFitQuestions
 pub mod Putting
 pub mod Reaching
 pub mod Telling

@@ -1,5 +1,6 @@
 -- Questions that are judged as records have the outcomes of a summary (`summary_met`).
 use Rattle.std.proofs.Common.{◌≡◌, ◌≢◌, ◌<◌, ◌∷◌, [], List, ℕ, All, Ok, IfOk, length, get_or, sym, subst, arith}
+use Rattle.suit_lists.proofs.Basics.{ArePlaced}
 use Rattle.suit_cards.specs.Cards.{Text}
 use Rattle.suit_game.specs.Validity.{IsValid}
 use Rattle.suit_game.specs.declared.question.Question.{Question}
@@ -12,7 +13,7 @@ use Rattle.suit_table.specs.declared.judging.Finding.TheVariants.{Judged, Faulty
 use Rattle.suit_table.specs.declared.judging.Told.{Told}
 use Rattle.suit_table.specs.declared.outcomes.Outcome.{Outcome}
 use Rattle.suit_table.specs.declared.outcomes.Outcome.TheVariants.{Memory}
-use Rattle.suit_table.proofs.RelatedIndexByIndex.{ArePlaced, are_outcomes}
+use Rattle.suit_table.proofs.OutcomesFitQuestions.{are_outcomes}
 
 -- a record has read the question
 abbrev pub HasRead : Entry → Question → Type 0

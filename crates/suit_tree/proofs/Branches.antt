@@ -6,10 +6,11 @@ use Rattle.std.proofs.lemmas.Bool.{false≢true, lt-ltb}
 use Rattle.std.proofs.lemmas.Bool.Decides.{nat_tests}
 use Rattle.std.proofs.lemmas.List.{append-nil, map-append}
 use Rattle.std.proofs.lemmas.List.Elements.{filter-append, filter_agree, filter_more}
+use Rattle.suit_lists.proofs.Filters.{filter_none}
+use Rattle.suit_lists.proofs.Maps.{map_same}
 use Rattle.suit_cards.specs.Cards.{ClassLayout, Indices}
 use Rattle.suit_cards.specs.declared.seats.Seat.{Seat}
 use Rattle.suit_cards.specs.declared.seats.Seat.TheVariants.{N, E, S, W}
-use Rattle.suit_game.proofs.EachElement.{map_same}
 use Rattle.suit_classes.specs.declared.class_moves.ClassMove.{ClassMove}
 use Rattle.suit_classes.specs.declared.class_moves.ClassMove.TheVariants.{Lead, Follow, ShowOut}
 use Rattle.suit_classes.specs.declared.class_turn.ClassTurn.{ClassTurn}
@@ -24,7 +25,7 @@ use Rattle.suit_classes.proofs.SameMoves.{among_contained}
 use Rattle.suit_tree.specs.declared.branch.Branch.{Branch}
 use Rattle.suit_tree.specs.Growing.{branch_seen, branched, is_theirs, keeping, moves_from, moves_within, their_moves}
 use Rattle.suit_tree.specs.Trees.{counts_at}
-use Rattle.suit_classes.proofs.EveryMove.{class_moves_listed, filter_joined, filter_none}
+use Rattle.suit_classes.proofs.EveryMove.{class_moves_listed, filter_joined}
 
 -- whether nothing is in a list
 pub is_some : (n : ℕ) → false ≡ (n == 0) → 0 < n

@@ -5,9 +5,11 @@ use Rattle.std.specs.Prelude.{◌↔◌, ◌≢◌, AllPairs, Contains, fold, if
 use Rattle.std.specs.List.{AllByRecursion, flat_map}
 use Rattle.std.proofs.lemmas.Bool.{and_from, and_parts}
 use Rattle.std.proofs.lemmas.List.{append-nil, append_assoc, append_cancel_left, length-append}
+use Rattle.suit_lists.proofs.Elements.{Contains-first, Contains-later, each_at, each_gives}
+use Rattle.suit_lists.proofs.FlatMaps.{Contains-flat_map, each_flat_map}
+use Rattle.suit_lists.proofs.Once.{IsOnce, once_flat_map, once_pairs, once_unless}
 use Rattle.suit_game.specs.declared.question.Question.{Question}
 use Rattle.suit_game.specs.Validity.{IsValid}
-use Rattle.suit_game.proofs.EachElement.{Contains-first, Contains-later, each_at, each_gives, Contains-flat_map}
 use Rattle.suit_classes.specs.declared.class_moves.ClassMove.{ClassMove}
 use Rattle.suit_classes.specs.declared.class_view.ClassView.{ClassView}
 use Rattle.suit_classes.specs.ClassPlaces.{class_after, class_decided, class_moves, class_start, class_step}
@@ -19,8 +21,6 @@ use Rattle.suit_tree.specs.Paths.{IsCounted}
 use Rattle.suit_classes.proofs.SameMoves.{among-Contains, among_contained}
 use Rattle.suit_tree.proofs.ToldIsAllowed.{listed_tells}
 use Rattle.suit_classes.proofs.DistinctMoves.{once_class_moves}
-use Rattle.suit_game.proofs.DistinctElements.{IsOnce, each_flat_map, once_flat_map, once_pairs}
-use Rattle.suit_classes.proofs.DistinctMoves.{once_unless}
 use Rattle.suit_classes.specs.Classes.{sizes_of}
 use Rattle.suit_layouts.specs.ClassLayouts.{class_layouts}
 use Rattle.suit_game.specs.declared.limits.TheConstants.{MOST_MOVES}

@@ -5,10 +5,13 @@ use Rattle.std.specs.Prelude.{Contains, filter, nat_lt, slice_index, if◌then�
 use Rattle.std.specs.List.{AllByRecursion, range_with_len}
 use Rattle.std.proofs.lemmas.Bool.{and_from, and_parts, ltb-true, lt-ltb}
 use Rattle.std.proofs.lemmas.List.Elements.{All-contains, Contains-append_left, Contains-append_right, filter_passes}
+use Rattle.suit_lists.proofs.Elements.{Contains-first, Contains-nil, each_append, each_at, each_gives, each_in, each_of}
+use Rattle.suit_lists.proofs.Elements.{each_unless}
+use Rattle.suit_lists.proofs.Filters.{Contains-filter, each_filter}
+use Rattle.suit_lists.proofs.Maps.{Contains-map, each_map}
+use Rattle.suit_lists.proofs.Once.{IsOnce, once_append, once_filter, once_map, once_range, once_unless}
 use Rattle.suit_cards.specs.declared.seats.Seat.TheVariants.{N, S}
 use Rattle.suit_game.specs.declared.question.Question.{Question}
-use Rattle.suit_game.proofs.EachElement.{Contains-first, Contains-nil, each_append, each_at, each_filter, each_gives}
-use Rattle.suit_game.proofs.EachElement.{each_in, each_map, each_of, Contains-filter, Contains-map}
 use Rattle.suit_classes.specs.declared.class_moves.ClassMove.{ClassMove}
 use Rattle.suit_classes.specs.declared.class_moves.ClassMove.TheVariants.{Lead, Follow, ShowOut}
 use Rattle.suit_classes.specs.MoveOrder.{class_named, kind_of}
@@ -22,9 +25,6 @@ use Rattle.suit_classes.specs.WhatIsAllowed.{allows, allows_from, is_among, ever
 use Rattle.suit_tree.specs.Trees.{allowing, counts_at, layout_indices, moves_on}
 use Rattle.suit_classes.proofs.ClassNumbers.{kept_some}
 use Rattle.suit_classes.proofs.SameMoves.{among-Contains}
-use Rattle.suit_classes.proofs.DistinctMoves.{each_if, once_range}
-use Rattle.suit_game.proofs.DistinctElements.{IsOnce, once_append, once_filter, once_map}
-use Rattle.suit_classes.proofs.DistinctMoves.{once_unless}
 use Rattle.suit_classes.proofs.AllowsOneMoveMore.{allows-push}
 use Rattle.suit_classes.specs.Classes.{sizes_of}
 use Rattle.suit_layouts.specs.ClassLayouts.{class_layouts}
@@ -84,9 +84,9 @@ each_move_in view counts Closed =
     let south : List ClassMove = map (Lead S) (counted_classes view.south) in
     each_append (Contains every_move) (if may_lead view.lead view.entries_n N then north
     else []) (if may_lead view.lead view.entries_s S then south else [])
-    (each_if (Contains every_move) (may_lead view.lead view.entries_n N) north
+    (each_unless (Contains every_move) (may_lead view.lead view.entries_n N) north
     (each_named (Lead N) (λ class. nat_lt 0 (slice_index view.north class)) Contains-lead_n))
-    (each_if (Contains every_move) (may_lead view.lead view.entries_s S) south
+    (each_unless (Contains every_move) (may_lead view.lead view.entries_s S) south
     (each_named (Lead S) (λ class. nat_lt 0 (slice_index view.south class)) Contains-lead_s))
 each_move_in view counts (Open turn after winner highest) =
     each_or_show_out (map Follow (classes_left view counts turn))

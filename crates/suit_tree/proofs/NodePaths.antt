@@ -5,8 +5,9 @@ use Rattle.std.specs.Prelude.{Contains, Some}
 use Rattle.std.specs.List.{AllByRecursion, flat_map}
 use Rattle.std.proofs.lemmas.Bool.{both_ways, cases_Bool, cases_lt, false_from_ne_true}
 use Rattle.std.proofs.lemmas.List.{append-nil, append_assoc}
+use Rattle.suit_lists.proofs.Elements.{Contains-cons_cases, Contains-nil, each_at, each_in}
+use Rattle.suit_lists.proofs.Once.{IsOnce}
 use Rattle.suit_game.specs.declared.question.Question.{Question}
-use Rattle.suit_game.proofs.EachElement.{Contains-cons_cases, Contains-nil, each_at, each_in}
 use Rattle.suit_classes.specs.declared.class_moves.ClassMove.{ClassMove}
 use Rattle.suit_classes.specs.ClassMoves.{same_class_move, ClassHistory}
 use Rattle.suit_classes.specs.declared.class_view.ClassView.{ClassView}
@@ -17,7 +18,6 @@ use Rattle.suit_tree.specs.Nodes.{children_of, move_to}
 use Rattle.suit_tree.specs.Paths.{is_by, nodes_at, nodes_by}
 use Rattle.suit_tree.specs.Trees.{AllFit, IsTreeAt, StandsAt, allowing, moves_on}
 use Rattle.suit_classes.proofs.SameMoves.{same_move-itself, same_move_is}
-use Rattle.suit_game.proofs.DistinctElements.{IsOnce}
 use Rattle.suit_tree.proofs.MovesOn.{Contains-moves_on, allowing_start, moves_on-parts, once_moves_on}
 use Rattle.suit_tree.proofs.EachHistoryIsCountedOnce.{GoesOn}
 

@@ -4,8 +4,8 @@
 use Rattle.std.proofs.Common.{◌≡◌, ◌<◌, ◌≤◌, ℕ, zero, suc, Bool, true, false, cond, nat_lt, List, [], ◌∷◌, ◌++◌, length}
 use Rattle.std.proofs.Common.{get_or, map, refl, ap, ◌∙◌, subst, arith}
 use Rattle.std.specs.Prelude.{Contains, Some, filter, if◌then◌else◌}
+use Rattle.suit_lists.proofs.Elements.{Contains-first, Contains-later}
 use Rattle.suit_game.specs.declared.question.Question.{Question}
-use Rattle.suit_game.proofs.EachElement.{Contains-first, Contains-later}
 use Rattle.suit_classes.specs.declared.class_moves.ClassMove.{ClassMove}
 use Rattle.suit_tree.specs.declared.node.Node.{Node}
 use Rattle.suit_classes.specs.WhatIsAllowed.{every_move}

@@ -6,7 +6,8 @@ use Rattle.std.specs.List.{AllByRecursion, AllZip}
 use Rattle.std.proofs.lemmas.List.{take_more}
 use Rattle.std.proofs.lemmas.List.Elements.{Contains-get_or}
 use Rattle.std.proofs.lemmas.List.Folds.{list_any_more}
-use Rattle.suit_game.proofs.EachElement.{each_append, each_at, each_in, each_map}
+use Rattle.suit_lists.proofs.Elements.{each_append, each_at, each_in}
+use Rattle.suit_lists.proofs.Maps.{each_map}
 use Rattle.suit_classes.specs.declared.class_moves.ClassMove.{ClassMove}
 use Rattle.suit_classes.specs.declared.class_moves.ClassMove.TheVariants.{Lead, Follow, ShowOut}
 use Rattle.suit_classes.specs.WhatIsAllowed.{is_among}

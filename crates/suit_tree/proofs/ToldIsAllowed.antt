@@ -1,10 +1,10 @@
 -- The listed class layouts are told to allow the class histories that they allow (listed_tells).
 use Rattle.std.proofs.Common.{◌≡◌, ℕ, ◌<◌, true, List, [], ◌∙◌, arith}
 use Rattle.std.specs.Prelude.{◌↔◌, Contains}
+use Rattle.suit_lists.proofs.Maps.{Contains-map_from}
 use Rattle.suit_cards.specs.Cards.{ClassLayout}
 use Rattle.suit_game.specs.declared.question.Question.{Question}
 use Rattle.suit_game.specs.Validity.{IsValid}
-use Rattle.suit_game.proofs.EachElement.{Contains-map_from}
 use Rattle.suit_layouts.specs.ClassLayouts.{class_layouts, class_weight}
 use Rattle.suit_layouts.proofs.CountsOfALayout.{class_layouts_held}
 use Rattle.suit_layouts.proofs.WhatHasWeightIsListed.{class_layouts_exact}

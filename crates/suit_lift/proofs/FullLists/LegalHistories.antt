@@ -3,14 +3,14 @@ use Rattle.std.proofs.Common.{ℕ, zero, suc, ◌≤◌, List, [], ◌∷◌, �
 use Rattle.std.proofs.Common.{append-nil, append_assoc}
 use Rattle.std.specs.Prelude.{Contains}
 use Rattle.std.specs.List.{AllByRecursion, flat_map}
+use Rattle.suit_lists.proofs.Elements.{Contains-first, Contains-later}
+use Rattle.suit_lists.proofs.FlatMaps.{Contains-flat_map, each_flat_map}
 use Rattle.suit_cards.specs.Cards.{Cards}
 use Rattle.suit_game.specs.declared.question.Question.{Question}
 use Rattle.suit_game.specs.declared.moves.Move.{Move}
 use Rattle.suit_game.specs.Histories.{History}
 use Rattle.suit_game.specs.Positions.{IsLegal, LegalFrom, Position, after, legal}
 use Rattle.suit_game.specs.Validity.{IsValid}
-use Rattle.suit_game.proofs.DistinctElements.{each_flat_map}
-use Rattle.suit_game.proofs.EachElement.{Contains-first, Contains-flat_map, Contains-later}
 use Rattle.suit_game.proofs.LegalPlays.{after_move, legal_moves_extend}
 use Rattle.suit_game.proofs.LongestPlay.{histories_are_short}
 

@@ -4,9 +4,9 @@ use Rattle.std.specs.Prelude.{Contains}
 use Rattle.std.specs.Bool.{Decides}
 use Rattle.std.specs.List.{AllByRecursion, filter}
 use Rattle.std.proofs.lemmas.Bool.{cases_Bool, false≢true, not-true}
-use Rattle.suit_game.proofs.DistinctElements.{IsOnce, once_filter}
-use Rattle.suit_game.proofs.EachElement.{Contains-cons_cases, Contains-filter, Contains-first, Contains-later}
-use Rattle.suit_game.proofs.EachElement.{each_filter}
+use Rattle.suit_lists.proofs.Elements.{Contains-cons_cases, Contains-first, Contains-later}
+use Rattle.suit_lists.proofs.Filters.{Contains-filter, each_filter}
+use Rattle.suit_lists.proofs.Once.{IsOnce, once_filter}
 
 module _ {X : Type 0} (same : X → X → Bool) (decides : (x y : X) → Decides (same x y) (x ≡ y)) where
   -- the first of each kind

@@ -7,6 +7,9 @@ use Rattle.std.specs.List.{sum_by}
 use Rattle.std.proofs.lemmas.Bool.{and_from, and_parts, cases_Bool, false≢true}
 use Rattle.std.proofs.lemmas.List.Elements.{All-from_recursion}
 use Rattle.std.proofs.lemmas.Slice.Eq.{bytes_eq-Decides}
+use Rattle.suit_lists.proofs.Elements.{Contains-cons_cases, Contains-nil, each_contained}
+use Rattle.suit_lists.proofs.Maps.{each_map}
+use Rattle.suit_lists.proofs.Sums.{some_term}
 use Rattle.suit_cards.specs.Cards.{Cards}
 use Rattle.suit_game.specs.declared.question.Question.{Question}
 use Rattle.suit_game.specs.declared.moves.Move.{Move}
@@ -14,8 +17,6 @@ use Rattle.suit_game.specs.Histories.{History}
 use Rattle.suit_game.specs.Positions.{legal}
 use Rattle.suit_game.specs.Strategies.{DefenceWay, DefenceWayRow, Way, WayRow, by_defence_rows, by_rows, number_of}
 use Rattle.suit_game.specs.Strategies.{same_move, same_play}
-use Rattle.suit_game.proofs.EachElement.{Contains-cons_cases, Contains-nil, each_contained, each_map}
-use Rattle.suit_game.proofs.ListSums.{some_term}
 use Rattle.suit_game.proofs.SameCardMoves.{decides_same_move}
 use Rattle.suit_lift.specs.FullLists.{NamesMoves}
 

@@ -3,6 +3,8 @@ use Rattle.std.proofs.Common.{◌≡◌, ℕ, ◌*◌, ◌<◌, Bool, true, fals
 use Rattle.std.specs.Prelude.{◌==◌, if◌then◌else◌}
 use Rattle.std.specs.List.{list_all, sum_by}
 use Rattle.std.proofs.Math.Nat.{mul-pos}
+use Rattle.suit_lists.proofs.Firsts.{HasFirst}
+use Rattle.suit_lists.proofs.Sums.{sum_by-mul, sum_by_same, term_small}
 use Rattle.suit_cards.specs.Cards.{Cards}
 use Rattle.suit_game.specs.declared.question.Question.{Question}
 use Rattle.suit_game.specs.declared.moves.Move.{Move}
@@ -11,7 +13,6 @@ use Rattle.suit_game.specs.Histories.{History}
 use Rattle.suit_game.specs.PlaceViews.{IsPlay}
 use Rattle.suit_game.specs.Positions.{after, has_ended, legal}
 use Rattle.suit_game.proofs.DistinctLegalMoves.{legal_once}
-use Rattle.suit_game.proofs.ListSums.{sum_by-mul, sum_by_same, term_small}
 use Rattle.suit_game.proofs.PayDenominators.{legal_at-some}
 use Rattle.suit_classes.specs.declared.class_moves.ClassMove.{ClassMove}
 use Rattle.suit_classes.specs.Classes.{Hands, hands_of}
@@ -21,7 +22,6 @@ use Rattle.suit_classes.proofs.AllowedMoveByMove.{each_once-Contains}
 use Rattle.suit_plans.specs.declared.plan.Plan.{Plan}
 use Rattle.suit_plans.specs.declared.defence.Defence.{Defence}
 use Rattle.suit_plans.specs.Masses.{defence_shares_at, plan_shares_at}
-use Rattle.suit_classes.proofs.UndecidedHasAMove.{HasFirst}
 use Rattle.suit_lift.specs.Lifts.{RowCounts, class_share, common, defence_way, is_lowest, plan_way, row_count}
 use Rattle.suit_lift.proofs.FellowsOfAClass.{weights_total}
 use Rattle.suit_lift.proofs.SumsOverMergedMoves.{lowest_sum}

@@ -1,6 +1,8 @@
 -- Ways that agree at the legal moves of each position pay the same (agreed_pay).
 use Rattle.std.proofs.Common.{◌≡◌, ℕ, zero, suc, Bool, true, false, cond, List, [], ◌∷◌, ◌++◌, map, refl, ap, ◌∙◌}
 use Rattle.std.specs.Prelude.{Contains}
+use Rattle.suit_lists.proofs.Elements.{Contains-first, Contains-later}
+use Rattle.suit_lists.proofs.Maps.{map_same}
 use Rattle.suit_cards.specs.Cards.{Cards}
 use Rattle.suit_game.specs.declared.question.Question.{Question}
 use Rattle.suit_game.specs.declared.moves.Move.{Move}
@@ -11,7 +13,6 @@ use Rattle.suit_game.specs.Positions.{after, has_ended, legal, payoff}
 use Rattle.suit_game.specs.PlaceViews.{IsPlay}
 use Rattle.suit_game.specs.Strategies.{DefenceWay, Way, Weighed, chosen, kept, or_first, weighed}
 use Rattle.suit_game.proofs.ChosenIsLegal.{chosen_from}
-use Rattle.suit_game.proofs.EachElement.{Contains-first, Contains-later, map_same}
 use Rattle.suit_game.proofs.PlaceSeenAfterAMove.{play_more}
 
 weighed_same : (weight_of other : Move → ℕ) (moves : List Move)

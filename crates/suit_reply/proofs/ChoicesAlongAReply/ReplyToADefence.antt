@@ -5,18 +5,18 @@ use Rattle.std.specs.Prelude.{Contains, filter, if◌then◌else◌, pos, ◌≤
 use Rattle.std.proofs.lemmas.Bool.{and_parts, false_from_ne_true}
 use Rattle.std.proofs.lemmas.List.{length-append}
 use Rattle.std.proofs.lemmas.Simd.{map-map}
+use Rattle.suit_lists.proofs.Filters.{Contains-filter, kept_parts}
+use Rattle.suit_lists.proofs.Once.{once_filter, once_unless}
+use Rattle.suit_lists.proofs.Tests.{passing_some, some_passing}
 use Rattle.suit_cards.specs.Cards.{ClassLayout}
 use Rattle.suit_game.specs.declared.question.Question.{Question}
 use Rattle.suit_game.specs.Validity.{IsValid}
-use Rattle.suit_game.proofs.EachElement.{Contains-filter, kept_parts}
 use Rattle.suit_classes.specs.declared.class_moves.ClassMove.{ClassMove}
 use Rattle.suit_classes.specs.WhatIsAllowed.{allows, every_move, is_among}
 use Rattle.suit_classes.specs.ClassGame.{Allows}
 use Rattle.suit_classes.specs.ClassPlaces.{class_after, class_decided, class_moves}
 use Rattle.suit_classes.proofs.CountsAllowAsTold.{allows_tells}
 use Rattle.suit_classes.proofs.DecidedStaysDecided.{class_histories_are_short}
-use Rattle.suit_classes.proofs.DistinctMoves.{once_unless}
-use Rattle.suit_game.proofs.DistinctElements.{once_filter}
 use Rattle.suit_classes.proofs.SameMoves.{among-Contains}
 use Rattle.suit_classes.proofs.AllowsOneMoveMore.{allows-push}
 use Rattle.suit_classes.specs.ClassMoves.{ClassHistory}
@@ -27,7 +27,7 @@ use Rattle.suit_plans.specs.BestReplies.{Reply, allowing_layouts, choices, most_
 use Rattle.suit_plans.specs.Masses.{defence_mass, defenders}
 use Rattle.suit_plans.specs.Properness.{IsProperDefence, some_allows}
 use Rattle.suit_plans.proofs.MassBounds.{mass_falls}
-use Rattle.suit_plans.proofs.PublicMoves.{layout_weighs, passing_some, some_passing}
+use Rattle.suit_plans.proofs.PublicMoves.{layout_weighs}
 use Rattle.suit_plans.proofs.WorthsAtTurns.{max_picks}
 use Rattle.suit_plans.proofs.ProperDefences.{defences_are_realised}
 use Rattle.suit_tree.proofs.MovesOn.{once_every_move}

@@ -4,11 +4,11 @@ use Rattle.std.specs.Prelude.{Contains, sum_by, ℤ, pos, ◌*ℤ◌}
 use Rattle.std.proofs.lemmas.List.Elements.{Contains-get_or}
 use Rattle.std.proofs.lemmas.List.FromFn.{length-range_with_len}
 use Rattle.std.proofs.lemmas.Simd.{map-map}
+use Rattle.suit_lists.proofs.Maps.{map_same}
 use Rattle.suit_cards.specs.Cards.{ClassLayout, Indices}
 use Rattle.suit_game.specs.declared.question.Question.{Question}
 use Rattle.suit_game.specs.Layouts.{total as all_weights}
 use Rattle.suit_game.specs.Validity.{IsValid}
-use Rattle.suit_game.proofs.EachElement.{map_same}
 use Rattle.suit_classes.specs.Classes.{defence_sizes, hands_of}
 use Rattle.suit_classes.proofs.DefenceSizes.{sum-defence_sizes}
 use Rattle.suit_layouts.proofs.WhatHasWeightIsListed.{class_layouts_exact}

@@ -4,8 +4,9 @@ use Rattle.std.proofs.Common.{arith}
 use Rattle.std.specs.Prelude.{Contains, filter, nat_lt, ℤ, pos, ◌+ℤ◌, ◌≤ℤ◌, int_lt}
 use Rattle.std.specs.List.{list_any}
 use Rattle.std.proofs.lemmas.Int.{ints}
+use Rattle.suit_lists.proofs.Elements.{Contains-cons_cases, Contains-first, Contains-later, Contains-nil}
+use Rattle.suit_lists.proofs.Maps.{map_same}
 use Rattle.suit_cards.specs.Cards.{Indices}
-use Rattle.suit_game.proofs.EachElement.{Contains-cons_cases, Contains-first, Contains-later, Contains-nil, map_same}
 use Rattle.suit_plans.specs.Properness.{sum_of}
 use Rattle.suit_reply.specs.AgainstDefence.{LayoutMasses, is_live}
 use Rattle.suit_reply.proofs.MostByNodes.WhichLayoutsAllow.{any_kept, any_of_map}

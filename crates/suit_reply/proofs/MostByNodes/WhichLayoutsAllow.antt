@@ -7,6 +7,7 @@ use Rattle.std.proofs.lemmas.Bool.{lt-ltb}
 use Rattle.std.proofs.lemmas.List.{length-map}
 use Rattle.std.proofs.lemmas.List.Elements.{filter_agree}
 use Rattle.std.proofs.lemmas.Simd.{map-map}
+use Rattle.suit_lists.proofs.Filters.{filter_of_map}
 use Rattle.suit_cards.specs.Cards.{ClassLayout}
 use Rattle.suit_game.specs.declared.question.Question.{Question}
 use Rattle.suit_classes.specs.declared.class_moves.ClassMove.{ClassMove}
@@ -14,7 +15,6 @@ use Rattle.suit_classes.specs.WhatIsAllowed.{allows, every_move}
 use Rattle.suit_classes.specs.ClassPlaces.{class_after, class_decided, class_payoff}
 use Rattle.suit_classes.specs.Classes.{defence_sizes, hands_of}
 use Rattle.suit_classes.proofs.DefenceSizes.{defence_sizes-some, length-defence_sizes, sum-defence_sizes}
-use Rattle.suit_classes.proofs.MovesOnce.{filter_of_map}
 use Rattle.suit_classes.specs.ClassMoves.{ClassHistory}
 use Rattle.suit_layouts.proofs.FewCounts.{class_layouts_few}
 use Rattle.suit_plans.specs.BestReplies.{allowing_layouts, reply_to_defence}

@@ -1,7 +1,7 @@
 use Rattle.std.proofs.Common.{take, arith, ◌==◌}
 use Rattle.std.proofs.lemmas.List.{length-take-le}
+use Rattle.suit_lists.proofs.Filters.{length_filter-most}
 use Rattle.suit_classes.specs.Classes.{class_of}
-use Rattle.suit_game.proofs.ListSums.{length_filter-most}
 use Rattle.suit_lift.proofs.merges.cards_in.Goals as goal
 
 pub overflow_add-count : goal.overflow_add-count

@@ -1,8 +1,9 @@
 use Rattle.std.proofs.Common.{◌∙◌, sym, true, false, pos}
+use Rattle.suit_lists.proofs.Tests.{all_mapped}
+use Rattle.suit_lists.proofs.Walks.{all_from, all_past}
 use Rattle.suit_cards.specs.declared.seats.Seat.TheVariants.{N}
 use Rattle.suit_classes.specs.declared.class_moves.ClassMove.TheVariants.{Lead}
 use Rattle.suit_classes.specs.WhatIsAllowed.{is_among}
-use Rattle.suit_plans.proofs.StillToLookAt.{all_from, all_mapped, all_past}
 use Rattle.suit_plans.proofs.row_faults.are_legal.Goals as goal
 
 pub returns-then-not-is_among : goal.returns-then-not-is_among

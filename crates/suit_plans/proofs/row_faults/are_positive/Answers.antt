@@ -1,9 +1,9 @@
 use Rattle.std.proofs.Common.{◌∙◌, sym, ap, true, false, pos, int_le, get_or, SFits, rules}
 use Rattle.std.proofs.lemmas.Int.{to_z-of_z}
 use Rattle.std.specs.Int.{w128}
+use Rattle.suit_lists.proofs.Walks.{all_from, all_past}
 use Rattle.suit_cards.specs.declared.seats.Seat.TheVariants.{N}
 use Rattle.suit_classes.specs.declared.class_moves.ClassMove.TheVariants.{Lead}
-use Rattle.suit_plans.proofs.StillToLookAt.{all_from, all_past}
 use Rattle.suit_plans.proofs.row_faults.are_positive.Goals as goal
 
 pub returns-then-not-is_positive : goal.returns-then-not-is_positive

@@ -5,11 +5,11 @@ use Rattle.std.specs.Prelude.{Contains, ℤ, pos, ◌*ℤ◌, ◌≤ℤ◌, if�
 use Rattle.std.specs.Int.Signed.{≤ℤ_refl}
 use Rattle.std.proofs.lemmas.List.{length-append}
 use Rattle.std.proofs.Math.IntN.{*ℤ_comm}
+use Rattle.suit_lists.proofs.Maps.{Contains-map, map_same}
 use Rattle.suit_cards.specs.Cards.{ClassLayout}
 use Rattle.suit_num.proofs.IntegerLaws.{le-mul_right, mul_left_comm}
 use Rattle.suit_game.specs.declared.question.Question.{Question}
 use Rattle.suit_game.specs.Validity.{IsValid}
-use Rattle.suit_game.proofs.EachElement.{Contains-map, map_same}
 use Rattle.suit_classes.specs.declared.class_moves.ClassMove.{ClassMove}
 use Rattle.suit_classes.specs.WhatIsAllowed.{is_among}
 use Rattle.suit_classes.specs.ClassPlaces.{class_after, class_decided, class_moves, class_payoff, class_turn}

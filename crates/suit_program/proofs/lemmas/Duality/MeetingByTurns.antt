@@ -2,6 +2,7 @@
 use Rattle.std.proofs.Common.{◌≡◌, ◌-◌, Bool, true, false, List, [], length, refl}
 use Rattle.std.proofs.Common.{sym, ap, ◌∙◌, subst}
 use Rattle.std.specs.Prelude.{if◌then◌else◌, pos, ◌*ℤ◌}
+use Rattle.suit_lists.proofs.Firsts.{HasFirst}
 use Rattle.suit_cards.specs.Cards.{ClassLayout}
 use Rattle.suit_game.specs.declared.question.Question.{Question}
 use Rattle.suit_classes.specs.declared.class_moves.ClassMove.{ClassMove}
@@ -14,7 +15,7 @@ use Rattle.suit_plans.specs.Masses.{defence_mass, plan_mass}
 use Rattle.suit_plans.specs.Properness.{sum_of}
 use Rattle.suit_plans.specs.ReplyLaws.{worths_with}
 use Rattle.suit_plans.proofs.PlanWorths.{room}
-use Rattle.suit_classes.proofs.UndecidedHasAMove.{HasFirst, some_move}
+use Rattle.suit_classes.proofs.UndecidedHasAMove.{some_move}
 use Rattle.suit_plans.proofs.WorthsAtTurns.{ended_worth, summed_turn}
 use Rattle.suit_program.specs.Duality.{meeting}
 

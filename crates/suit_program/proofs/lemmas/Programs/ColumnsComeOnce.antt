@@ -8,13 +8,14 @@ use Rattle.std.proofs.lemmas.Bool.{and_from, and_parts, false≢true, false_from
 use Rattle.std.proofs.lemmas.Int.{ints}
 use Rattle.std.proofs.lemmas.List.Elements.{Contains-get_or}
 use Rattle.std.proofs.lemmas.Slice.Eq.{bytes_eq-Decides}
+use Rattle.suit_lists.proofs.Chains.{chained_filter}
+use Rattle.suit_lists.proofs.Elements.{Contains-cons_cases, Contains-nil, each_at}
+use Rattle.suit_lists.proofs.Maps.{Contains-map_from}
+use Rattle.suit_lists.proofs.Once.{IsOnce, once_map, once_pairs}
 use Rattle.suit_cards.specs.Cards.{ClassLayout}
 use Rattle.suit_game.specs.declared.question.Question.{Question}
-use Rattle.suit_game.proofs.EachElement.{Contains-cons_cases, Contains-map_from, Contains-nil, each_at}
 use Rattle.suit_classes.specs.declared.class_moves.ClassMove.{ClassMove}
 use Rattle.suit_classes.specs.ClassMoves.{same_class_move}
-use Rattle.suit_game.proofs.DistinctElements.{IsOnce, once_map, once_pairs}
-use Rattle.suit_classes.proofs.ClassMovesRise.{chained_filter}
 use Rattle.suit_classes.proofs.SameMoves.{same_move-itself, same_move_is}
 use Rattle.suit_plans.specs.Orders.{counts_before, history_before, same_class_history}
 use Rattle.suit_plans.proofs.HistoryOrder.{same_class_history-itself, same_class_history_is}

@@ -5,15 +5,16 @@ use Rattle.std.specs.Prelude.{Contains, ◌&&◌, if◌then◌else◌, ℤ, pos,
 use Rattle.std.specs.List.{AllByRecursion, flat_map}
 use Rattle.std.proofs.lemmas.Bool.{and_parts, cases_Bool, false≢true, false_from_ne_true}
 use Rattle.std.proofs.lemmas.Int.{ints}
+use Rattle.suit_lists.proofs.Chains.{Chained}
+use Rattle.suit_lists.proofs.Elements.{Contains-cons_cases, Contains-nil, each_at}
+use Rattle.suit_lists.proofs.FlatMaps.{Contains-flat_map, each_flat_map}
+use Rattle.suit_lists.proofs.Maps.{Contains-map, map_same}
+use Rattle.suit_lists.proofs.Once.{IsOnce}
 use Rattle.suit_cards.specs.Cards.{ClassLayout}
 use Rattle.suit_game.specs.declared.question.Question.{Question}
 use Rattle.suit_game.specs.Validity.{IsValid}
-use Rattle.suit_game.proofs.EachElement.{Contains-cons_cases, Contains-flat_map, Contains-map, Contains-nil}
-use Rattle.suit_game.proofs.EachElement.{each_at, map_same}
 use Rattle.suit_classes.specs.declared.class_moves.ClassMove.{ClassMove}
 use Rattle.suit_classes.specs.ClassMoves.{same_class_move}
-use Rattle.suit_game.proofs.DistinctElements.{IsOnce, each_flat_map}
-use Rattle.suit_classes.proofs.ClassMovesRise.{Chained}
 use Rattle.suit_classes.proofs.SameMoves.{same_move-itself, same_move_is}
 use Rattle.suit_plans.specs.Masses.{mass_from, mass_of}
 use Rattle.suit_plans.specs.Orders.{history_before, same_class_history}

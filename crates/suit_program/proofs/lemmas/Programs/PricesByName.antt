@@ -8,12 +8,13 @@ use Rattle.std.proofs.lemmas.Bool.{and_from, and_parts, false≢true, false_from
 use Rattle.std.proofs.lemmas.Int.{ints}
 use Rattle.std.proofs.lemmas.List.Elements.{Contains-get_or}
 use Rattle.std.proofs.lemmas.Slice.Eq.{bytes_eq-Decides}
+use Rattle.suit_lists.proofs.Elements.{Contains-first, Contains-later, each_at}
+use Rattle.suit_lists.proofs.Maps.{map_same}
+use Rattle.suit_lists.proofs.Once.{IsOnce}
 use Rattle.suit_cards.specs.Cards.{ClassLayout}
 use Rattle.suit_num.proofs.IntegerLaws.{mul-add_left, mul_left_comm}
-use Rattle.suit_game.proofs.EachElement.{Contains-first, Contains-later, each_at, map_same}
 use Rattle.suit_classes.specs.declared.class_moves.ClassMove.{ClassMove}
 use Rattle.suit_classes.specs.ClassMoves.{same_class_move}
-use Rattle.suit_game.proofs.DistinctElements.{IsOnce}
 use Rattle.suit_classes.proofs.SameMoves.{same_move-itself, same_move_is}
 use Rattle.suit_plans.specs.Orders.{same_class_history}
 use Rattle.suit_plans.specs.Properness.{sum_of}

@@ -7,17 +7,17 @@ use Rattle.std.specs.Ordering.{nat_cmp, ordering_then}
 use Rattle.std.specs.Cmp.Lexicographic.{slice_cmp}
 use Rattle.std.specs.declared.cmp.Ordering.TheVariants.{Less, Equal, Greater}
 use Rattle.std.proofs.lemmas.Bool.{false≢true}
+use Rattle.suit_lists.proofs.Chains.{Chained, chained_filter, pairs_chained}
+use Rattle.suit_lists.proofs.Elements.{Contains-cons_cases, Contains-nil, each_at, each_gives, each_in}
+use Rattle.suit_lists.proofs.FlatMaps.{each_flat_map}
+use Rattle.suit_lists.proofs.Maps.{Contains-map_from}
+use Rattle.suit_lists.proofs.Once.{IsOnce, once_append, once_map}
 use Rattle.suit_cards.specs.Cards.{ClassLayout}
 use Rattle.suit_game.specs.declared.question.Question.{Question}
-use Rattle.suit_game.proofs.EachElement.{Contains-cons_cases, Contains-map_from, Contains-nil, each_at, each_gives}
-use Rattle.suit_game.proofs.EachElement.{each_in}
 use Rattle.suit_classes.specs.declared.class_moves.ClassMove.{ClassMove}
 use Rattle.suit_classes.specs.Classes.{sizes_of}
-use Rattle.suit_game.proofs.DistinctElements.{IsOnce, each_flat_map, once_append, once_map}
-use Rattle.suit_classes.proofs.ClassMovesRise.{Chained, chained_filter}
 use Rattle.suit_layouts.proofs.ClassLayoutsRise.{class_layouts_rise}
 use Rattle.suit_plans.specs.Orders.{counts_before, history_before, is_earlier}
-use Rattle.suit_plans.proofs.ChoiceOrder.{pairs_chained}
 use Rattle.suit_plans.proofs.HistoryOrder.{IsStrict-numbers, earlier-never}
 use Rattle.suit_plans.proofs.KeyOrder.{history-never}
 use Rattle.suit_program.specs.Programs.{Answered, Limit, Shared, answered_limits, limits, limits_at}

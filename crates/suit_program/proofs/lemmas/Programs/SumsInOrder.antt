@@ -3,7 +3,7 @@ use Rattle.std.proofs.Common.{List, [], ◌∷◌, map}
 use Rattle.std.proofs.Common.{arith}
 use Rattle.std.specs.Prelude.{Contains, ℤ, ◌≤ℤ◌, ◌+ℤ◌}
 use Rattle.std.proofs.lemmas.Int.{ints}
-use Rattle.suit_game.proofs.EachElement.{Contains-first, Contains-later}
+use Rattle.suit_lists.proofs.Elements.{Contains-first, Contains-later}
 use Rattle.suit_plans.specs.Properness.{sum_of}
 
 pub le_trans : (a b c : ℤ) → a ≤ℤ b → b ≤ℤ c → a ≤ℤ c

@@ -7,12 +7,12 @@ use Rattle.std.proofs.lemmas.Bool.{and_parts}
 use Rattle.std.proofs.lemmas.Int.{ints}
 use Rattle.std.proofs.lemmas.List.{length-map}
 use Rattle.std.proofs.lemmas.List.Elements.{All-from_recursion, All-map}
+use Rattle.suit_lists.proofs.Elements.{each_in}
 use Rattle.suit_cards.specs.Cards.{ClassLayout}
 use Rattle.suit_num.specs.Narrow.{IsNarrow}
 use Rattle.suit_game.specs.declared.question.Question.{Question}
 use Rattle.suit_game.specs.Layouts.{total}
 use Rattle.suit_game.specs.Validity.{IsValid}
-use Rattle.suit_game.proofs.EachElement.{each_in}
 use Rattle.suit_game.proofs.WhatAllLayoutsWeigh.{total_at_most}
 use Rattle.suit_game.specs.declared.limits.TheConstants.{MOST_TOTAL}
 use Rattle.suit_classes.specs.declared.class_moves.ClassMove.{ClassMove}

@@ -10,10 +10,11 @@ use Rattle.std.proofs.lemmas.Bool.{false≢true}
 use Rattle.std.proofs.lemmas.Int.{ints}
 use Rattle.std.proofs.lemmas.List.{length-map}
 use Rattle.std.proofs.Math.IntN.{*ℤ_comm}
+use Rattle.suit_lists.proofs.Elements.{Contains-first, Contains-later}
+use Rattle.suit_lists.proofs.Maps.{map_same}
 use Rattle.suit_cards.specs.Cards.{ClassLayout}
 use Rattle.suit_num.proofs.IntegerLaws.{mul-add_left}
 use Rattle.suit_game.specs.declared.question.Question.{Question}
-use Rattle.suit_game.proofs.EachElement.{Contains-first, Contains-later, map_same}
 use Rattle.suit_classes.specs.declared.class_moves.ClassMove.{ClassMove}
 use Rattle.suit_plans.specs.Properness.{sum_of}
 use Rattle.suit_plans.proofs.NumberSums.{sum_nothing}

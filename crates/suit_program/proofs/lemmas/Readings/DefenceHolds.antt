@@ -14,11 +14,13 @@ use Rattle.std.proofs.lemmas.List.Elements.{filter_agree}
 use Rattle.std.proofs.Math.IntN.{*ℤ_comm}
 use Rattle.suit_cards.specs.Cards.{ClassLayout}
 use Rattle.suit_num.proofs.IntegerLaws.{int_lt-false, int_lt-true, le-mul_right, mul_assoc}
+use Rattle.suit_lists.proofs.Elements.{Contains-first}
 use Rattle.suit_lists.proofs.Filters.{filter-filter}
+use Rattle.suit_lists.proofs.Firsts.{HasFirst-found}
+use Rattle.suit_lists.proofs.Maps.{Contains-map_from, map_same}
+use Rattle.suit_lists.proofs.Tests.{passing_some, some_passing}
 use Rattle.suit_game.specs.declared.question.Question.{Question}
 use Rattle.suit_game.specs.Validity.{IsValid}
-use Rattle.suit_game.proofs.EachElement.{Contains-first}
-use Rattle.suit_game.proofs.EachElement.{Contains-map_from, map_same}
 use Rattle.suit_classes.specs.declared.class_moves.ClassMove.{ClassMove}
 use Rattle.suit_classes.specs.WhatIsAllowed.{every_move, is_among}
 use Rattle.suit_classes.specs.ClassMoves.{same_class_move}
@@ -39,9 +41,8 @@ use Rattle.suit_plans.proofs.MassSteps.{mass_kept}
 use Rattle.suit_plans.proofs.NumberSums.{sum_kept, sum_times, sums_exchanged}
 use Rattle.suit_plans.proofs.ProperDefences.{defences_are_realised}
 use Rattle.suit_plans.proofs.PublicMoves.{Contains-allowing, allowing_before, allowing_parts}
-use Rattle.suit_plans.proofs.PublicMoves.{HasFirst-found}
-use Rattle.suit_plans.proofs.PublicMoves.{layout_weighs, own_moves_on, passing_some, public_allowed, public_going}
-use Rattle.suit_plans.proofs.PublicMoves.{some_passing, some_public}
+use Rattle.suit_plans.proofs.PublicMoves.{layout_weighs, own_moves_on, public_allowed, public_going}
+use Rattle.suit_plans.proofs.PublicMoves.{some_public}
 use Rattle.suit_plans.proofs.ReplyChoices.{reply_move_found}
 use Rattle.suit_plans.proofs.SharesAddUpToTheMass.{within_sum}
 use Rattle.suit_plans.proofs.TurnMoves.{declarers_moves}

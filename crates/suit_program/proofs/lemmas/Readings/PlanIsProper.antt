@@ -9,17 +9,20 @@ use Rattle.std.specs.List.{AllByRecursion, list_any}
 use Rattle.std.proofs.lemmas.Bool.{and_parts, cases_Bool, false≢true, false_from_ne_true, lt-ltb}
 use Rattle.std.proofs.lemmas.List.{map-append}
 use Rattle.std.proofs.lemmas.List.Elements.{Contains-append_right}
+use Rattle.suit_lists.proofs.Chains.{Chained, chained_filter, pairs_chained}
+use Rattle.suit_lists.proofs.Elements.{Contains-cons_cases, Contains-first, Contains-nil, each_at, each_gives}
+use Rattle.suit_lists.proofs.Filters.{Contains-filter, each_filter, kept_parts}
+use Rattle.suit_lists.proofs.Maps.{each_map}
+use Rattle.suit_lists.proofs.Once.{IsOnce}
+use Rattle.suit_lists.proofs.Tests.{passing_some, some_passing}
 use Rattle.suit_cards.specs.Cards.{ClassLayout}
 use Rattle.suit_game.specs.declared.question.Question.{Question}
 use Rattle.suit_game.specs.Validity.{IsValid}
-use Rattle.suit_game.proofs.EachElement.{Contains-cons_cases, Contains-filter, Contains-first, Contains-nil, kept_parts}
-use Rattle.suit_game.proofs.EachElement.{each_at, each_filter, each_gives, each_map}
 use Rattle.suit_classes.specs.declared.class_moves.ClassMove.{ClassMove}
 use Rattle.suit_classes.specs.ClassMoves.{same_class_move}
 use Rattle.suit_classes.specs.MoveOrder.{stands_before}
 use Rattle.suit_classes.specs.ClassPlaces.{class_after, class_decided, class_moves, class_start, class_turn}
-use Rattle.suit_game.proofs.DistinctElements.{IsOnce}
-use Rattle.suit_classes.proofs.ClassMovesRise.{Chained, chained_filter, class_moves_rise}
+use Rattle.suit_classes.proofs.ClassMovesRise.{class_moves_rise}
 use Rattle.suit_classes.proofs.SameMoves.{same_move-itself}
 use Rattle.suit_plans.specs.declared.faults.PlanKind.TheVariants.{Den}
 use Rattle.suit_plans.specs.declared.plan.Row.{Row}
@@ -29,13 +32,12 @@ use Rattle.suit_plans.specs.Orders.{history_before, plan_row_before, same_class_
 use Rattle.suit_plans.specs.Properness.{IsProperPlan, first_fault, goes_undecided, last_passes, moves_of}
 use Rattle.suit_plans.specs.Properness.{plan_row_fault}
 use Rattle.suit_plans.specs.Properness.{plan_verdict, some_allows}
-use Rattle.suit_plans.proofs.ChoiceOrder.{pairs_chained}
 use Rattle.suit_plans.proofs.FirstFaults.{IsFaultless}
 use Rattle.suit_plans.proofs.HistoryOrder.{IsStrict-moves, earlier-start, same_class_history-itself}
 use Rattle.suit_plans.proofs.HistoryOrder.{same_class_history_is}
 use Rattle.suit_plans.proofs.KeyOrder.{history-chain, history-never}
 use Rattle.suit_plans.proofs.MassSteps.{mass_kept, mass_of_same, mass_shared}
-use Rattle.suit_plans.proofs.PublicMoves.{Contains-allowing, allows_some, passing_some, some_passing}
+use Rattle.suit_plans.proofs.PublicMoves.{Contains-allowing, allows_some}
 use Rattle.suit_plans.proofs.TurnMoves.{declarers_moves}
 use Rattle.suit_plans.specs.declared.plan.TheConstants.{MOST_DEN}
 use Rattle.suit_program.specs.Programs.Points.{IsPositive, Passed, Point}

@@ -11,14 +11,15 @@ use Rattle.std.proofs.lemmas.Bool.Decides.{Decides-int_eq}
 use Rattle.std.proofs.lemmas.Int.{ints}
 use Rattle.std.proofs.lemmas.List.{length-append}
 use Rattle.std.proofs.Math.IntN.{*ℤ_comm}
+use Rattle.suit_lists.proofs.Elements.{Contains-cons_cases, Contains-first, Contains-later, Contains-nil}
+use Rattle.suit_lists.proofs.Filters.{Contains-filter, kept_parts}
+use Rattle.suit_lists.proofs.Firsts.{HasFirst}
+use Rattle.suit_lists.proofs.Maps.{Contains-map_from, map_same}
 use Rattle.suit_cards.specs.Cards.{ClassLayout}
 use Rattle.suit_num.proofs.IntegerLaws.{int_lt-false, le-mul_right, le_from_mul, mul_assoc, mul_left_comm}
 use Rattle.suit_num.proofs.IntegerLaws.{mul_not_negative, mul_not_positive}
 use Rattle.suit_game.specs.declared.question.Question.{Question}
 use Rattle.suit_game.specs.Validity.{IsValid}
-use Rattle.suit_game.proofs.EachElement.{Contains-cons_cases, Contains-filter, Contains-first, Contains-later}
-use Rattle.suit_game.proofs.EachElement.{kept_parts}
-use Rattle.suit_game.proofs.EachElement.{Contains-map_from, Contains-nil, map_same}
 use Rattle.suit_classes.specs.declared.class_moves.ClassMove.{ClassMove}
 use Rattle.suit_classes.specs.ClassMoves.{same_class_move}
 use Rattle.suit_classes.specs.ClassGame.{Allows}
@@ -37,7 +38,6 @@ use Rattle.suit_plans.proofs.NumberSums.{sum_times}
 use Rattle.suit_plans.proofs.PlanWorths.{plans_at_declarers, plans_at_defences, plans_paid}
 use Rattle.suit_plans.proofs.ReplyChoices.{reply_move_found}
 use Rattle.suit_plans.proofs.TurnMoves.{declarers_moves}
-use Rattle.suit_classes.proofs.UndecidedHasAMove.{HasFirst}
 use Rattle.suit_plans.proofs.WhoseTurns.{own_turn}
 use Rattle.suit_plans.proofs.WorthsAtTurns.{ended_worth, min_picks, worth_next}
 use Rattle.suit_plans.specs.declared.plan.TheConstants.{MOST_DEN}

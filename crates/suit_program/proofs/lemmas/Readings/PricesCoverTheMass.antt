@@ -11,13 +11,14 @@ use Rattle.std.proofs.lemmas.List.{length-append}
 use Rattle.std.proofs.lemmas.List.Elements.{recursion_from_All}
 use Rattle.std.proofs.lemmas.Slice.Eq.{bytes_eq-Decides}
 use Rattle.std.proofs.Math.IntN.{*ℤ_comm}
+use Rattle.suit_lists.proofs.Elements.{Contains-cons_cases, Contains-first, Contains-later, Contains-nil}
+use Rattle.suit_lists.proofs.Firsts.{HasFirst, HasFirst-found}
+use Rattle.suit_lists.proofs.FlatMaps.{Contains-flat_map}
+use Rattle.suit_lists.proofs.Maps.{map_same}
 use Rattle.suit_cards.specs.Cards.{ClassLayout}
 use Rattle.suit_num.proofs.IntegerLaws.{int_lt-false, int_lt-true, mul-sub_left, mul_assoc, mul_not_negative}
 use Rattle.suit_game.specs.declared.question.Question.{Question}
 use Rattle.suit_game.specs.Validity.{IsValid}
-use Rattle.suit_game.proofs.EachElement.{Contains-cons_cases, Contains-first, Contains-flat_map, Contains-later}
-use Rattle.suit_game.proofs.EachElement.{Contains-nil}
-use Rattle.suit_game.proofs.EachElement.{map_same}
 use Rattle.suit_classes.specs.declared.class_moves.ClassMove.{ClassMove}
 use Rattle.suit_classes.specs.WhatIsAllowed.{is_among}
 use Rattle.suit_classes.specs.ClassMoves.{same_class_move}
@@ -29,9 +30,7 @@ use Rattle.suit_plans.specs.Properness.{sum_of}
 use Rattle.suit_plans.proofs.RepliesAreBounded.{weight_listed}
 use Rattle.suit_plans.proofs.HistoryOrder.{same_class_history-itself, same_class_history_is}
 use Rattle.suit_plans.proofs.NumberSums.{sum_nothing, sum_times}
-use Rattle.suit_plans.proofs.PublicMoves.{HasFirst-found}
 use Rattle.suit_plans.proofs.SharesAddUpToTheMass.{within_sum}
-use Rattle.suit_classes.proofs.UndecidedHasAMove.{HasFirst}
 use Rattle.suit_linear.specs.Programs.{IsDualFeasible}
 use Rattle.suit_program.specs.Programs.Points.{Column, Held, IsPositive, Passed, Point, same_column, unit_point}
 use Rattle.suit_program.specs.Programs.{Shared, columns, columns_at, excess, held_column, limits, program_of}

@@ -7,14 +7,16 @@ use Rattle.std.specs.List.{AllByRecursion, list_all}
 use Rattle.std.specs.Ordering.{int_eq}
 use Rattle.std.proofs.lemmas.Bool.Decides.{Decides-int_eq}
 use Rattle.std.proofs.lemmas.Int.{ints}
+use Rattle.suit_lists.proofs.Chains.{Chained, chained_filter, chained_map}
+use Rattle.suit_lists.proofs.Elements.{each_gives, each_in}
+use Rattle.suit_lists.proofs.Filters.{each_filter}
+use Rattle.suit_lists.proofs.Maps.{each_map}
 use Rattle.suit_game.specs.declared.question.Question.{Question}
-use Rattle.suit_game.proofs.EachElement.{each_filter, each_gives, each_in, each_map}
 use Rattle.suit_classes.specs.declared.class_moves.ClassMove.{ClassMove}
 use Rattle.suit_classes.specs.declared.class_view.ClassView.{ClassView}
 use Rattle.suit_classes.specs.WhatIsAllowed.{is_among}
 use Rattle.suit_classes.specs.MoveOrder.{stands_before}
 use Rattle.suit_classes.specs.ClassPlaces.{class_after, class_decided, class_moves, class_start, class_step, class_turn}
-use Rattle.suit_classes.proofs.ClassMovesRise.{Chained, chained_filter, chained_map}
 use Rattle.suit_classes.proofs.SameMoves.{among_contained}
 use Rattle.suit_plans.specs.declared.faults.PlanKind.{PlanKind}
 use Rattle.suit_plans.specs.declared.faults.PlanKind.TheVariants.{History, Order, Illegal, Negative, Sum}

@@ -5,12 +5,14 @@ use Rattle.std.proofs.Common.{sym, ap, ◌∙◌, subst, inl, inr, append_assoc,
 use Rattle.std.specs.Prelude.{Contains, ◌&&◌, ◌||◌, not, if◌then◌else◌, pos, int_lt}
 use Rattle.std.specs.List.{flat_map, list_any, range_with_len}
 use Rattle.std.proofs.lemmas.Bool.{and_parts, false≢true}
+use Rattle.suit_lists.proofs.Elements.{Contains-cons_cases, Contains-first, Contains-later, Contains-nil}
+use Rattle.suit_lists.proofs.Filters.{Contains-filter}
+use Rattle.suit_lists.proofs.FlatMaps.{Contains-flat_map}
+use Rattle.suit_lists.proofs.Maps.{Contains-map}
+use Rattle.suit_lists.proofs.Walks.{Contains-range}
 use Rattle.suit_cards.specs.Cards.{ClassLayout}
 use Rattle.suit_game.specs.declared.question.Question.{Question}
 use Rattle.suit_game.specs.Validity.{IsValid}
-use Rattle.suit_game.proofs.EachElement.{Contains-cons_cases, Contains-filter, Contains-first, Contains-flat_map}
-use Rattle.suit_game.proofs.EachElement.{Contains-later}
-use Rattle.suit_game.proofs.EachElement.{Contains-map, Contains-nil, Contains-range}
 use Rattle.suit_classes.specs.declared.class_moves.ClassMove.{ClassMove}
 use Rattle.suit_classes.specs.WhatIsAllowed.{is_among}
 use Rattle.suit_classes.specs.ClassMoves.{ClassHistory, same_class_move}

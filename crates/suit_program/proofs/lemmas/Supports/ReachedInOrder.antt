@@ -3,15 +3,16 @@ use Rattle.std.proofs.Common.{◌≡◌, ℕ, zero, suc, Bool, true, false, List
 use Rattle.std.specs.Prelude.{filter, pos}
 use Rattle.std.specs.Int.{int_max}
 use Rattle.std.specs.List.{flat_map}
+use Rattle.suit_lists.proofs.Chains.{Chained, chained_filter, pairs_chained}
 use Rattle.suit_cards.specs.Cards.{ClassLayout}
 use Rattle.suit_game.specs.declared.question.Question.{Question}
 use Rattle.suit_classes.specs.declared.class_moves.ClassMove.{ClassMove}
 use Rattle.suit_classes.specs.WhatIsAllowed.{every_move, is_among}
 use Rattle.suit_classes.specs.MoveOrder.{stands_before}
-use Rattle.suit_classes.proofs.ClassMovesRise.{Chained, chained_filter, every_move_rises}
+use Rattle.suit_classes.proofs.ClassMovesRise.{every_move_rises}
 use Rattle.suit_plans.specs.BestReplies.{Reply, histories_within}
 use Rattle.suit_plans.specs.Orders.{history_before}
-use Rattle.suit_plans.proofs.ChoiceOrder.{chained_within, pairs_chained}
+use Rattle.suit_plans.proofs.ChoiceOrder.{chained_within}
 use Rattle.suit_program.specs.Supports.{Support, histories_from, next_moves, reached_histories, reached_layouts}
 use Rattle.suit_program.specs.Supports.{supported_moves}
 

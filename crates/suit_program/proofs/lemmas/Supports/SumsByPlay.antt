@@ -7,16 +7,18 @@ use Rattle.std.proofs.lemmas.Bool.{false_from_ne_true}
 use Rattle.std.proofs.lemmas.Int.{ints}
 use Rattle.std.proofs.lemmas.List.Elements.{filter_agree}
 use Rattle.suit_cards.specs.Cards.{ClassLayout}
-use Rattle.suit_lists.proofs.Filters.{filter-filter}
+use Rattle.suit_lists.proofs.Elements.{each_gives}
+use Rattle.suit_lists.proofs.Filters.{filter-filter, filter_alike, filter_none}
+use Rattle.suit_lists.proofs.FlatMaps.{Contains-flat_map}
+use Rattle.suit_lists.proofs.Maps.{map_same}
+use Rattle.suit_lists.proofs.Once.{IsOnce, once_unless}
 use Rattle.suit_game.specs.declared.question.Question.{Question}
-use Rattle.suit_game.proofs.EachElement.{Contains-flat_map, each_gives, map_same}
 use Rattle.suit_classes.specs.declared.class_moves.ClassMove.{ClassMove}
 use Rattle.suit_classes.specs.WhatIsAllowed.{every_move, is_among}
 use Rattle.suit_classes.specs.ClassMoves.{same_class_move}
 use Rattle.suit_classes.specs.ClassPlaces.{class_after, class_decided, class_moves}
-use Rattle.suit_classes.proofs.DistinctMoves.{once_class_moves, once_unless}
-use Rattle.suit_game.proofs.DistinctElements.{IsOnce}
-use Rattle.suit_classes.proofs.EveryMove.{class_moves_listed, filter_alike, filter_none, kept_by_among}
+use Rattle.suit_classes.proofs.DistinctMoves.{once_class_moves}
+use Rattle.suit_classes.proofs.EveryMove.{class_moves_listed, kept_by_among}
 use Rattle.suit_classes.proofs.SameMoves.{among-Contains, among_contained, same_move-itself, same_move_is}
 use Rattle.suit_plans.specs.Properness.{sum_of}
 use Rattle.suit_plans.proofs.NumberSums.{sum_both, sum_kept, sums_exchanged}

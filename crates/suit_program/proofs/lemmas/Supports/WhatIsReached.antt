@@ -4,19 +4,20 @@ use Rattle.std.proofs.Common.{ap, ◌∙◌, subst, inl, inr, append_assoc, appe
 use Rattle.std.specs.Prelude.{Contains, ◌&&◌, if◌then◌else◌}
 use Rattle.std.specs.List.{AllByRecursion, flat_map}
 use Rattle.std.proofs.lemmas.Bool.{and_parts}
+use Rattle.suit_lists.proofs.Elements.{Contains-cons_cases, Contains-first, Contains-later, Contains-nil, each_at}
+use Rattle.suit_lists.proofs.Elements.{each_in}
+use Rattle.suit_lists.proofs.Filters.{Contains-filter, kept_parts}
+use Rattle.suit_lists.proofs.FlatMaps.{Contains-flat_map, each_flat_map}
+use Rattle.suit_lists.proofs.Maps.{Contains-map, Contains-map_from}
 use Rattle.suit_cards.specs.Cards.{ClassLayout}
 use Rattle.suit_game.specs.declared.question.Question.{Question}
 use Rattle.suit_game.specs.Validity.{IsValid}
-use Rattle.suit_game.proofs.EachElement.{Contains-filter, Contains-first, Contains-flat_map, Contains-later, kept_parts}
-use Rattle.suit_game.proofs.EachElement.{Contains-map}
-use Rattle.suit_game.proofs.EachElement.{Contains-cons_cases, Contains-map_from, Contains-nil, each_at, each_in}
 use Rattle.suit_classes.specs.declared.class_moves.ClassMove.{ClassMove}
 use Rattle.suit_classes.specs.WhatIsAllowed.{every_move, is_among}
 use Rattle.suit_classes.specs.ClassGame.{Allows}
 use Rattle.suit_classes.specs.ClassPlaces.{class_after, class_moves}
 use Rattle.suit_classes.proofs.AllowedMoveByMove.{allowed_moves}
 use Rattle.suit_classes.proofs.DecidedStaysDecided.{class_histories_are_short}
-use Rattle.suit_game.proofs.DistinctElements.{each_flat_map}
 use Rattle.suit_classes.proofs.EveryMove.{class_moves_listed}
 use Rattle.suit_classes.proofs.SameMoves.{among-Contains, among_contained}
 use Rattle.suit_plans.proofs.AllowedSoFar.{start_allows}

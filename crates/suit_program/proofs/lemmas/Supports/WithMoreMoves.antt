@@ -11,17 +11,18 @@ use Rattle.std.proofs.lemmas.Bool.{and_from, and_parts, cases_Bool, eq-eqb, eqb-
 use Rattle.std.proofs.lemmas.Bool.{ltb-true}
 use Rattle.std.proofs.lemmas.List.{append-nil, append_assoc, at_drop_all, at_drop_more, length-map}
 use Rattle.std.proofs.lemmas.List.Elements.{All-contains, Contains-get_or}
+use Rattle.suit_lists.proofs.Elements.{Contains-cons_cases, Contains-first, Contains-later, Contains-nil}
+use Rattle.suit_lists.proofs.Filters.{Contains-filter, filter_of_map}
+use Rattle.suit_lists.proofs.Tests.{passing_some, some_passing}
+use Rattle.suit_lists.proofs.Walks.{Contains-range}
 use Rattle.suit_cards.specs.Cards.{ClassLayout, Indices}
 use Rattle.suit_game.specs.declared.question.Question.{Question}
 use Rattle.suit_game.specs.Validity.{IsValid}
-use Rattle.suit_game.proofs.EachElement.{Contains-cons_cases, Contains-filter, Contains-first, Contains-later}
-use Rattle.suit_game.proofs.EachElement.{Contains-nil, Contains-range}
 use Rattle.suit_classes.specs.declared.class_moves.ClassMove.{ClassMove}
 use Rattle.suit_classes.specs.declared.class_view.ClassView.{ClassView}
 use Rattle.suit_classes.specs.WhatIsAllowed.{allows, is_among}
 use Rattle.suit_classes.specs.ClassMoves.{ClassHistory, same_class_move}
 use Rattle.suit_classes.specs.ClassPlaces.{class_after, class_decided}
-use Rattle.suit_classes.proofs.MovesOnce.{filter_of_map}
 use Rattle.suit_classes.proofs.SameMoves.{among_contained, same_move-itself, same_move_is}
 use Rattle.suit_plans.specs.declared.moves.DeclarerMove.{DeclarerMove}
 use Rattle.suit_plans.specs.declared.moves.DefenceMove.{DefenceMove}
@@ -29,7 +30,6 @@ use Rattle.suit_plans.specs.Masses.{is_first}
 use Rattle.suit_plans.specs.Orders.{same_class_history}
 use Rattle.suit_plans.specs.Properness.{some_allows}
 use Rattle.suit_plans.specs.ReplyLaws.{counts_at}
-use Rattle.suit_plans.proofs.PublicMoves.{passing_some, some_passing}
 use Rattle.suit_plans.proofs.TurnMoves.{declarers_moves}
 use Rattle.suit_plans.proofs.WhoseTurns.{own_turn, their_turn}
 use Rattle.suit_tree.specs.declared.node.Node.{Node}

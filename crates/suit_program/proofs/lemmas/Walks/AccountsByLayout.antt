@@ -7,9 +7,9 @@ use Rattle.std.specs.List.{flat_map, range_with_len}
 use Rattle.std.proofs.lemmas.List.Elements.{filter_agree}
 use Rattle.std.proofs.lemmas.List.FromFn.{fill_by_all}
 use Rattle.suit_cards.specs.Cards.{ClassLayout}
-use Rattle.suit_lists.proofs.Filters.{filter-filter}
+use Rattle.suit_lists.proofs.Filters.{filter-filter, kept_parts}
+use Rattle.suit_lists.proofs.Maps.{Contains-map}
 use Rattle.suit_game.specs.declared.question.Question.{Question}
-use Rattle.suit_game.proofs.EachElement.{Contains-map, kept_parts}
 use Rattle.suit_classes.specs.declared.class_moves.ClassMove.{ClassMove}
 use Rattle.suit_classes.specs.WhatIsAllowed.{is_among}
 use Rattle.suit_plans.specs.ReplyLaws.{counts_at}

@@ -7,6 +7,8 @@ use Rattle.std.specs.List.{flat_map}
 use Rattle.std.proofs.lemmas.Grind.{flat_map-append}
 use Rattle.std.proofs.lemmas.List.{drop_all, drop_more, length-map, map-append, take-append-drop, take-map, take_all}
 use Rattle.std.proofs.lemmas.List.{take_more}
+use Rattle.suit_lists.proofs.Elements.{Contains-cons_cases, Contains-nil}
+use Rattle.suit_lists.proofs.Maps.{Contains-map}
 use Rattle.suit_cards.specs.Cards.{ClassLayout}
 use Rattle.suit_game.specs.declared.question.Question.{Question}
 use Rattle.suit_classes.specs.declared.class_moves.ClassMove.{ClassMove}
@@ -21,7 +23,6 @@ use Rattle.suit_program.specs.Walks.Reaches.{IsReach, reached_indices}
 use Rattle.suit_program.specs.Supports.{Support, declarer_chooses, defence_chooses, is_reached, layouts_of}
 use Rattle.suit_program.specs.Supports.{reached_layouts, supported_moves}
 use Rattle.suit_program.specs.Walks.{StandsIn}
-use Rattle.suit_game.proofs.EachElement.{Contains-cons_cases, Contains-map, Contains-nil}
 use Rattle.suit_program.proofs.lemmas.Walks.NodesBelow.{reached_at}
 use Rattle.suit_program.proofs.lemmas.Walks.ReachAtTheStart.{layouts_few}
 use Rattle.suit_program.proofs.lemmas.Walks.WhatAWalkGathers.{stands_first, stands_later}

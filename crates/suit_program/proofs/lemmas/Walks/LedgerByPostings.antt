@@ -5,8 +5,8 @@ use Rattle.std.proofs.Common.{take, refl, sym, ap, ◌∙◌, subst, inl, inr, a
 use Rattle.std.specs.Prelude.{Contains, ◌==◌, if◌then◌else◌, ℤ, pos, negsuc, ◌+ℤ◌, ◌-ℤ◌, ◌*ℤ◌}
 use Rattle.std.proofs.lemmas.Int.{ints}
 use Rattle.std.proofs.lemmas.List.{take_all, take_more}
+use Rattle.suit_lists.proofs.Elements.{Contains-cons_cases, Contains-first, Contains-later, Contains-nil}
 use Rattle.suit_num.proofs.IntegerLaws.{mul_assoc}
-use Rattle.suit_game.proofs.EachElement.{Contains-cons_cases, Contains-first, Contains-later, Contains-nil}
 use Rattle.suit_plans.specs.Properness.{sum_of}
 use Rattle.suit_program.specs.declared.walks.ledger.Account.{Account}
 use Rattle.suit_program.specs.declared.walks.ledger.Ledger.{Ledger}

@@ -4,10 +4,10 @@ use Rattle.std.proofs.Common.{◌-◌, ◌^◌, subst, arith, pos}
 use Rattle.std.specs.Prelude.{Contains}
 use Rattle.std.specs.List.{range_with_len}
 use Rattle.std.proofs.lemmas.List.Elements.{Contains-get_or}
+use Rattle.suit_lists.proofs.Elements.{Contains-first, Contains-later, Contains-nil}
 use Rattle.suit_cards.specs.Cards.{ClassLayout}
 use Rattle.suit_game.specs.declared.question.Question.{Question}
 use Rattle.suit_game.specs.Validity.{IsValid}
-use Rattle.suit_game.proofs.EachElement.{Contains-first, Contains-later, Contains-nil}
 use Rattle.suit_game.specs.declared.limits.TheConstants.{MOST_SUPPORT, MOST_TOTAL}
 use Rattle.suit_classes.specs.Classes.{defence_sizes, hands_of}
 use Rattle.suit_classes.proofs.DefenceSizes.{sum-defence_sizes}

@@ -5,12 +5,12 @@ use Rattle.std.proofs.Common.{sym, ap, ◌∙◌, subst, arith}
 use Rattle.std.specs.Prelude.{Contains, ◌==◌, if◌then◌else◌, nat_lt, ℤ, pos, negsuc, ◌+ℤ◌, ◌-ℤ◌, ◌*ℤ◌}
 use Rattle.std.proofs.lemmas.Bool.{and_parts, false≢true, false_from_ne_true}
 use Rattle.std.proofs.lemmas.Int.{ints}
+use Rattle.suit_lists.proofs.Elements.{Contains-first, Contains-later, each_at}
+use Rattle.suit_lists.proofs.Maps.{map_same}
+use Rattle.suit_lists.proofs.Once.{IsOnce}
 use Rattle.suit_cards.specs.Cards.{ClassLayout}
 use Rattle.suit_game.specs.declared.question.Question.{Question}
 use Rattle.suit_game.specs.Validity.{IsValid}
-use Rattle.suit_game.proofs.DistinctElements.{IsOnce}
-use Rattle.suit_game.proofs.EachElement.{Contains-first, Contains-later, each_at}
-use Rattle.suit_game.proofs.EachElement.{map_same}
 use Rattle.suit_classes.specs.declared.class_moves.ClassMove.{ClassMove}
 use Rattle.suit_classes.specs.ClassMoves.{same_class_move}
 use Rattle.suit_classes.specs.ClassPlaces.{class_after, class_decided, class_turn}

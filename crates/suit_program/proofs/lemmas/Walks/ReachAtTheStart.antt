@@ -9,11 +9,13 @@ use Rattle.std.proofs.lemmas.List.{length-map, map-id}
 use Rattle.std.proofs.lemmas.List.FromFn.{length-range_with_len}
 use Rattle.std.proofs.lemmas.Simd.{map-map}
 use Rattle.std.proofs.lemmas.Slice.Eq.{bytes_eq-Decides}
+use Rattle.suit_lists.proofs.Filters.{length_filter-most}
+use Rattle.suit_lists.proofs.Maps.{Contains-map, Contains-map_from}
+use Rattle.suit_lists.proofs.Tests.{passing_some, some_passing}
+use Rattle.suit_lists.proofs.Walks.{Contains-range}
 use Rattle.suit_cards.specs.Cards.{ClassLayout, Indices}
 use Rattle.suit_game.specs.declared.question.Question.{Question}
 use Rattle.suit_game.specs.Validity.{IsValid}
-use Rattle.suit_game.proofs.ListSums.{length_filter-most}
-use Rattle.suit_game.proofs.EachElement.{Contains-map, Contains-map_from, Contains-range}
 use Rattle.suit_classes.specs.declared.class_moves.ClassMove.{ClassMove}
 use Rattle.suit_classes.specs.Classes.{defence_sizes, hands_of, sizes_of}
 use Rattle.suit_classes.specs.ClassMoves.{ClassHistory}
@@ -24,7 +26,7 @@ use Rattle.suit_layouts.specs.declared.class_list.TheConstants.{MOST_CLASS_LAYOU
 use Rattle.suit_plans.specs.Orders.{counts_before}
 use Rattle.suit_plans.specs.ReplyLaws.{counts_at}
 use Rattle.suit_plans.proofs.RepliesAreBounded.{some_allow_none}
-use Rattle.suit_plans.proofs.PublicMoves.{allowing_parts, passing_some, some_layout, some_passing}
+use Rattle.suit_plans.proofs.PublicMoves.{allowing_parts, some_layout}
 use Rattle.suit_tree.specs.declared.tree.Tree.{Tree}
 use Rattle.suit_tree.specs.Trees.{IsTreeAt, IsTreeOf, layout_indices}
 use Rattle.suit_tree.proofs.OneNodeAtEachPath.{in_range_below}

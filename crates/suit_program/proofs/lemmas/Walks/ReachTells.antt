@@ -12,11 +12,12 @@ use Rattle.std.proofs.lemmas.List.{append-nil, append_assoc, length-append, leng
 use Rattle.std.proofs.lemmas.List.Elements.{Contains-get_or, filter_agree}
 use Rattle.std.proofs.lemmas.Simd.{map-map}
 use Rattle.suit_cards.specs.Cards.{ClassLayout, Indices}
-use Rattle.suit_lists.proofs.Filters.{filter-filter}
+use Rattle.suit_lists.proofs.Elements.{Contains-first, Contains-later, each_at}
+use Rattle.suit_lists.proofs.Filters.{filter-filter, filter_of_map, kept_parts}
+use Rattle.suit_lists.proofs.Maps.{Contains-map, Contains-map_from}
+use Rattle.suit_lists.proofs.Once.{IsOnce}
+use Rattle.suit_lists.proofs.Tests.{some_passing}
 use Rattle.suit_game.specs.declared.question.Question.{Question}
-use Rattle.suit_game.proofs.DistinctElements.{IsOnce}
-use Rattle.suit_game.proofs.EachElement.{Contains-first, Contains-later, Contains-map, Contains-map_from, each_at}
-use Rattle.suit_game.proofs.EachElement.{kept_parts}
 use Rattle.suit_classes.specs.declared.class_moves.ClassMove.{ClassMove}
 use Rattle.suit_classes.specs.declared.class_view.ClassView.{ClassView}
 use Rattle.suit_classes.specs.WhatIsAllowed.{every_move, is_among}
@@ -24,11 +25,9 @@ use Rattle.suit_classes.specs.ClassMoves.{ClassHistory, same_class_move}
 use Rattle.suit_classes.specs.ClassPlaces.{class_after, class_decided, class_moves, class_turn}
 use Rattle.suit_classes.proofs.DistinctMoves.{once_class_moves}
 use Rattle.suit_classes.proofs.EveryMove.{class_moves_listed}
-use Rattle.suit_classes.proofs.MovesOnce.{filter_of_map}
 use Rattle.suit_classes.proofs.SameMoves.{among-Contains, among_contained, both_second, same_move-itself, same_move_is}
 use Rattle.suit_plans.specs.Masses.{is_declarers, is_defences, is_first}
 use Rattle.suit_plans.specs.ReplyLaws.{counts_at}
-use Rattle.suit_plans.proofs.PublicMoves.{some_passing}
 use Rattle.suit_plans.proofs.TurnMoves.{declarers_moves}
 use Rattle.suit_plans.proofs.WhoseTurns.{Declarers, Defences, Over, WhoseTurn, own_turn, their_turn, whose_turn}
 use Rattle.suit_tree.specs.declared.node.Node.{Node}

@@ -7,7 +7,7 @@ use Rattle.std.specs.Prelude.{Contains, ◌==◌, ◌^◌, if◌then◌else◌, 
 use Rattle.std.specs.List.{flat_map}
 use Rattle.std.proofs.lemmas.Bool.{false≢true}
 use Rattle.std.proofs.lemmas.List.{length-map}
-use Rattle.suit_game.proofs.EachElement.{Contains-first}
+use Rattle.suit_lists.proofs.Elements.{Contains-first}
 use Rattle.suit_game.specs.declared.limits.TheConstants.{MOST_SUPPORT}
 use Rattle.suit_classes.specs.declared.class_moves.ClassMove.{ClassMove}
 use Rattle.suit_classes.specs.declared.class_turn.ClassTurn.TheVariants as turn_kinds

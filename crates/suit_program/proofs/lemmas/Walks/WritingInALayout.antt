@@ -5,8 +5,8 @@ use Rattle.std.proofs.Common.{refl, sym, ap, ◌∙◌, subst, append-nil, arith
 use Rattle.std.specs.Prelude.{Contains, if◌then◌else◌, negsuc, ◌+ℤ◌}
 use Rattle.std.proofs.lemmas.List.{length-map}
 use Rattle.std.proofs.lemmas.List.Elements.{Contains-get_or}
+use Rattle.suit_lists.proofs.Maps.{Contains-map}
 use Rattle.suit_cards.specs.Cards.{ClassLayout}
-use Rattle.suit_game.proofs.EachElement.{Contains-map}
 use Rattle.suit_game.specs.declared.limits.TheConstants.{MOST_SUPPORT}
 use Rattle.suit_classes.specs.declared.class_moves.ClassMove.{ClassMove}
 use Rattle.suit_classes.specs.ClassPlaces.{class_after, class_turn}

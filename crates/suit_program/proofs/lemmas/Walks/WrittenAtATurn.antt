@@ -9,16 +9,17 @@ use Rattle.std.proofs.lemmas.Bool.{false≢true}
 use Rattle.std.proofs.lemmas.Int.{ints}
 use Rattle.std.proofs.lemmas.List.{length-map}
 use Rattle.std.proofs.lemmas.List.Elements.{Contains-get_or, filter_agree}
+use Rattle.suit_lists.proofs.Elements.{Contains-cons_cases, Contains-nil}
+use Rattle.suit_lists.proofs.Firsts.{HasFirst}
+use Rattle.suit_lists.proofs.Maps.{map_same}
 use Rattle.suit_cards.specs.Cards.{ClassLayout}
 use Rattle.suit_game.specs.declared.question.Question.{Question}
 use Rattle.suit_game.specs.Validity.{IsValid}
-use Rattle.suit_game.proofs.EachElement.{Contains-cons_cases, Contains-nil, map_same}
 use Rattle.suit_classes.specs.declared.class_moves.ClassMove.{ClassMove}
 use Rattle.suit_classes.specs.declared.class_moves.ClassMove.TheVariants.{ShowOut}
 use Rattle.suit_classes.specs.WhatIsAllowed.{is_among}
 use Rattle.suit_classes.specs.ClassPlaces.{class_after, class_decided, class_payoff, class_turn}
 use Rattle.suit_classes.proofs.SameMoves.{among_contained}
-use Rattle.suit_classes.proofs.UndecidedHasAMove.{HasFirst}
 use Rattle.suit_plans.specs.Masses.{is_declarers, is_defences}
 use Rattle.suit_plans.specs.Properness.{sum_of}
 use Rattle.suit_plans.specs.ReplyLaws.{counts_at}

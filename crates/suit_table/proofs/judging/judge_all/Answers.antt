@@ -4,11 +4,11 @@ use Rattle.std.proofs.Common.{append-nil, append_assoc, arith}
 use Rattle.std.proofs.lemmas.Bool.Decides.{nat_tests}
 use Rattle.std.proofs.lemmas.List.{length-append, nil_from_length, take-append-drop}
 use Rattle.std.proofs.lemmas.List.Elements.{All-drop, All-same}
+use Rattle.suit_lists.proofs.Basics.{ArePlaced, placed_append}
 use Rattle.suit_game.specs.Validity.{IsValid}
 use Rattle.suit_table.specs.Judging.{IsTold}
 use Rattle.suit_table.specs.declared.judging.Entry.{Entry}
 use Rattle.suit_table.specs.declared.judging.Told.{Told}
-use Rattle.suit_table.proofs.RelatedIndexByIndex.{ArePlaced, joined}
 use Rattle.suit_table.proofs.judging.judge_all.Goals as goal
 
 pub loop-rest-preserved : goal.loop-rest-preserved
@@ -38,8 +38,8 @@ loop-rest-preserved g c =
       told =
           subst (λ (l : List Told). ArePlaced (IsTold (g.J.Judge.fits c.args.judge.now)) (so_far.done ++ batch) l)
           (sym items)
-          (joined (IsTold (g.J.Judge.fits c.args.judge.now)) so_far.done batch before judged so_far.long so_far.told
-          c.in_ok-judged.ensures.each);
+          (placed_append (IsTold (g.J.Judge.fits c.args.judge.now)) so_far.done batch before judged so_far.long
+          so_far.told c.in_ok-judged.ensures.each);
       valid =
           All-same (λ (entry : Entry). IfOk entry.read IsValid) later (drop c.min.result rest) c.split_at.ensures.back
           (All-drop (λ (entry : Entry). IfOk entry.read IsValid) c.min.result rest so_far.valid);

@@ -1,9 +1,9 @@
 -- The records judged so far and those that are left are all of them.
 use Rattle.std.proofs.Common.{◌≡◌, ◌++◌, List, All, IfOk, length}
+use Rattle.suit_lists.proofs.Basics.{ArePlaced}
 use Rattle.suit_game.specs.Validity.{IsValid}
 use Rattle.suit_table.specs.Judging.{IsTold}
 use Rattle.suit_table.specs.declared.judging.Entry.{Entry}
-use Rattle.suit_table.proofs.RelatedIndexByIndex.{ArePlaced}
 use Rattle.suit_table.proofs.judging.judge_all.Given as goal
 
 abbrev pub invariant-loop-rest : goal.invariant-loop-rest
