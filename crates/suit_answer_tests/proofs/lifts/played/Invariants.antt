@@ -1,5 +1,5 @@
 use Rattle.suit_game.specs.PlaceViews.{IsAt, IsPlay}
-use Rattle.suit_base_tests.proofs.lifts.played.Given as goal
+use Rattle.suit_answer_tests.proofs.lifts.played.Given as goal
 
 abbrev pub invariant-loop-word : goal.invariant-loop-word
 invariant-loop-word l =

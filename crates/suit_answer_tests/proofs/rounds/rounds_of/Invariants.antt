@@ -1,6 +1,6 @@
 -- A question is on its way through the rounds.
 use Rattle.suit_solve.specs.Solving.{IsUnderWay}
-use Rattle.suit_base_tests.proofs.rounds.rounds_of.Given as goal
+use Rattle.suit_answer_tests.proofs.rounds.rounds_of.Given as goal
 
 abbrev pub invariant-loop-index : goal.invariant-loop-index
 invariant-loop-index l = IsUnderWay l.solving

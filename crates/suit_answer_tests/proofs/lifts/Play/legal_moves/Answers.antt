@@ -1,4 +1,4 @@
-use Rattle.suit_base_tests.proofs.lifts.Play.legal_moves.Goals as goal
+use Rattle.suit_answer_tests.proofs.lifts.Play.legal_moves.Goals as goal
 
 pub returns-in-Declarer : goal.returns-in-Declarer
 returns-in-Declarer c =

@@ -4,7 +4,7 @@ use Rattle.suit_game.specs.Histories.{History}
 use Rattle.suit_game.specs.PlaceViews.{IsAt, IsPlay}
 use Rattle.suit_game.specs.declared.moves.Move.{Move}
 use Rattle.suit_game.proofs.PlaceSeenAfterAMove.{play_more}
-use Rattle.suit_base_tests.proofs.lifts.Play.with.Goals as goal
+use Rattle.suit_answer_tests.proofs.lifts.Play.with.Goals as goal
 
 pub returns-clause-legal : goal.returns-clause-legal
 returns-clause-legal c =
