@@ -6,7 +6,7 @@ use Rattle.std.proofs.lemmas.Bool.{false≢true, lt-ltb}
 use Rattle.std.proofs.lemmas.Bool.Decides.{nat_tests}
 use Rattle.std.proofs.lemmas.List.{append-nil, map-append}
 use Rattle.std.proofs.lemmas.List.Elements.{filter-append, filter_agree, filter_more}
-use Rattle.suit_lists.proofs.Filters.{filter_none}
+use Rattle.suit_lists.proofs.Filters.{filter_none, filter_true}
 use Rattle.suit_lists.proofs.Maps.{map_same}
 use Rattle.suit_cards.specs.Cards.{ClassLayout, Indices}
 use Rattle.suit_cards.specs.declared.seats.Seat.{Seat}
@@ -91,10 +91,6 @@ no_lead view (Open turn after winner highest) counts seat class theirs =
 abbrev pub made_from : List (ClassLayout × ℕ) → ClassView → Indices → List ClassMove → List ClassMove
 made_from layouts view indices moves = filter (λ move. nat_lt 0 (length (keeping layouts view indices move))) moves
 
-pub filter-true : (xs : List ℕ) → filter (λ x. true) xs ≡ xs
-filter-true [] = refl
-filter-true (x ∷ xs) = ap (λ (l : List ℕ). x ∷ l) (filter-true xs)
-
 module _ (layouts : List (ClassLayout × ℕ)) (view : ClassView) (indices : Indices) where
   -- where declarer is on turn, a move of his may be made at all indices
   keeping_own : (move : ClassMove) → is_own (turn_of view.trick) ≡ true
@@ -108,7 +104,7 @@ module _ (layouts : List (ClassLayout × ℕ)) (view : ClassView) (indices : Ind
       ∙ either among
     where
       either : (b : Bool) → filter (λ index. b) indices ≡ (if b then indices else [])
-      either true = filter-true indices
+      either true = filter_true indices
       either false = filter_none indices
 
   some_own : (move : ClassMove) → is_own (turn_of view.trick) ≡ true → 0 < length indices

@@ -9,8 +9,7 @@ use Rattle.suit_classes.specs.declared.class_view.ClassView.{ClassView}
 use Rattle.suit_classes.specs.ClassPlaces.{class_after, class_decided, class_moves, class_step}
 use Rattle.suit_classes.proofs.SmallCounts.{class_after_move}
 use Rattle.suit_classes.proofs.AllowsOneMoveMore.{allows-push}
-use Rattle.suit_lists.proofs.Filters.{filter-filter}
-use Rattle.suit_tree.proofs.Branches.{filter-true}
+use Rattle.suit_lists.proofs.Filters.{filter-filter, filter_true}
 use Rattle.suit_tree.specs.declared.node.Node.{Node}
 use Rattle.suit_classes.specs.WhatIsAllowed.{allows, allows_from, is_among, every_move}
 use Rattle.suit_classes.specs.Classes.{sizes_of}
@@ -95,4 +94,4 @@ grown_is_tree (suc more) question history node grown =
 pub allowing_first : (question : Question)
     → allowing question [] ≡ layout_indices (class_layouts question (sizes_of question))
 unfolding allowing allows allows_from
-allowing_first question = filter-true (layout_indices (class_layouts question (sizes_of question)))
+allowing_first question = filter_true (layout_indices (class_layouts question (sizes_of question)))

@@ -1,12 +1,11 @@
 -- The pairs of a node and an index below a position are counted index by index.
 use Rattle.std.proofs.Common.{◌≡◌, ℕ, zero, suc, ◌+◌, Bool, true, false, nat_lt, List, [], ◌∷◌, ◌++◌, length, refl, sym}
 use Rattle.std.proofs.Common.{ap, ◌∙◌, arith}
-use Rattle.std.specs.Prelude.{filter, get_or, if◌then◌else◌}
-use Rattle.std.specs.List.{flat_map, range_with_len, sum_by}
-use Rattle.std.proofs.lemmas.Bool.{lt-ltb}
+use Rattle.std.specs.Prelude.{filter, if◌then◌else◌}
+use Rattle.std.specs.List.{flat_map, sum_by}
 use Rattle.std.proofs.lemmas.List.Concat.{length-flat_map}
-use Rattle.std.proofs.lemmas.List.Sums.{sum_by-cons}
-use Rattle.suit_lists.proofs.Sums.{sum_by_filter, sum_by_none, sum_by_same}
+use Rattle.suit_lists.proofs.Sums.{sum_by_filter, sum_by_none, sum_by_one_more, sum_by_same, sums_exchanged}
+use Rattle.suit_lists.proofs.Sums.{sum_by_indices, sum_where_some}
 use Rattle.suit_game.specs.declared.question.Question.{Question}
 use Rattle.suit_classes.specs.declared.class_moves.ClassMove.{ClassMove}
 use Rattle.suit_classes.specs.declared.class_view.ClassView.{ClassView}
@@ -21,69 +20,6 @@ use Rattle.suit_classes.proofs.EveryMove.{class_moves_listed}
 use Rattle.suit_layouts.specs.ClassLayouts.{class_layouts}
 use Rattle.suit_game.specs.declared.limits.TheConstants.{MOST_MOVES}
 use Rattle.suit_classes.specs.ClassMoves.{ClassHistory}
-
--- a finite double sum in either order
-pub sums_exchanged : {X Y : Type 0} (f : X → Y → ℕ) (xs : List X) (ys : List Y)
-    → sum_by (λ x. sum_by (λ y. f x y) ys) xs ≡ sum_by (λ y. sum_by (λ x. f x y) xs) ys
-sums_exchanged f [] ys = sym (sum_by_none (λ y. sum_by (λ x. f x y) []) ys (λ y. refl))
-sums_exchanged {X} {Y} f (x ∷ xs) ys =
-    let by_row : X → ℕ = λ z. sum_by (λ y. f z y) ys in
-    let first : Y → ℕ = λ y. f x y in
-    let later : Y → ℕ = λ y. sum_by (λ z. f z y) xs in
-    let whole : Y → ℕ = λ y. sum_by (λ z. f z y) (x ∷ xs) in
-    omega (
-      arith,
-      sum_by-cons by_row x xs,
-      sums_exchanged f xs ys,
-      sum_by_both first later ys,
-      sum_by_same whole (λ y. first y + later y) ys (λ y. sum_by-cons (λ z. f z y) x xs),
-    )
-  where
-    sum_by_both : {Y : Type 0} (g h : Y → ℕ) (ys : List Y) → sum_by (λ y. g y + h y) ys ≡ sum_by g ys + sum_by h ys
-    sum_by_both g h [] = refl
-    sum_by_both {Y} g h (y ∷ ys) =
-        let both : Y → ℕ = λ z. g z + h z in
-        omega (arith, sum_by-cons both y ys, sum_by-cons g y ys, sum_by-cons h y ys, sum_by_both g h ys)
-
--- a sum in which each term is 1 more
-sum_by_one_more : {X : Type 0} (f g : X → ℕ) (xs : List X) → ((x : X) → f x ≡ suc (g x))
-    → sum_by f xs ≡ length xs + sum_by g xs
-sum_by_one_more f g [] more = refl
-sum_by_one_more f g (x ∷ xs) more =
-    omega (arith, sum_by-cons f x xs, sum_by-cons g x xs, more x, sum_by_one_more f g xs more)
-
--- a sum over nothing need not be asked for
-sum_where_some : {X : Type 0} (f : X → ℕ) (xs : List X)
-    → (if nat_lt 0 (length xs) then sum_by f xs else 0) ≡ sum_by f xs
-sum_where_some f [] = refl
-sum_where_some f (x ∷ xs) = rw (lt-ltb 0 (suc (length xs)) (omega arith)) refl
-
--- a sum over the indices of a list is one over the list
-pub sum_by_indices : {X : Type 0} (f : X → ℕ) (xs : List X) (d : X)
-    → sum_by (λ index. f (get_or xs index d)) (range_with_len 0 (length xs)) ≡ sum_by f xs
-sum_by_indices f [] d = refl
-sum_by_indices {X} f (x ∷ xs) d =
-    let at_place : ℕ → ℕ = λ index. f (get_or (x ∷ xs) index d) in
-    omega (
-      arith,
-      sum_by-cons at_place 0 (range_with_len 1 (length xs)),
-      sum_by-cons f x xs,
-      shifted at_place 0 (length xs),
-      sum_by_indices f xs d,
-    )
-  where
-    shifted : (g : ℕ → ℕ) (a n : ℕ) → sum_by g (range_with_len (a + 1) n) ≡ sum_by (λ k. g (suc k)) (range_with_len a n)
-    shifted g a zero = refl
-    shifted g a (suc n) =
-        let next : a + 1 ≡ suc a = omega arith in
-        let later : ℕ → ℕ = λ k. g (suc k) in
-        omega (
-          arith,
-          sum_by-cons g (a + 1) (range_with_len (a + 1 + 1) n),
-          sum_by-cons later a (range_with_len (a + 1) n),
-          ap g next,
-          shifted g (a + 1) n,
-        )
 
 -- how many histories go on from a history with a move more
 abbrev goes_on : ℕ → Question → List (List ℕ × ℕ) → ClassHistory → ℕ → ClassMove → ℕ

@@ -5,7 +5,6 @@ use Rattle.std.specs.Prelude.{Contains, filter, sum_by, nat_lt}
 use Rattle.std.proofs.lemmas.Bool.{ltb-true}
 use Rattle.std.proofs.lemmas.List.{get_or-map, length-append, length-map, take_more}
 use Rattle.std.proofs.lemmas.List.Elements.{All-contains, Contains-get_or, filter_passes}
-use Rattle.std.specs.List.{range_with_len}
 use Rattle.std.proofs.lemmas.List.Sums.{sum_by-append, sum_by-cons, sum_by-take-le, sum_by_more}
 use Rattle.suit_cards.specs.Cards.{ClassLayout, Indices}
 use Rattle.suit_game.specs.declared.question.Question.{Question}
@@ -266,21 +265,3 @@ pub step_next : (more : ℕ) (view next : ClassView) (move : ClassMove) → HasR
 step_next more view next move room step =
     step room.question room.history (omega (arith, room.short)) room.after
     ∙ class_after_move room.question room.history move ∙ ap (λ (v : ClassView). class_step v move) (sym room.after)
-
-range_end : (n a : ℕ) → range_with_len a (suc n) ≡ range_with_len a n ++ (a + n) ∷ []
-range_end zero a = ap (λ (k : ℕ). k ∷ []) (omega arith)
-range_end (suc n) a =
-    let turned : a + 1 + n ≡ a + suc n = omega arith in
-    ap (λ (l : List ℕ). a ∷ l) (range_end n (a + 1) ∙ ap (λ (k : ℕ). range_with_len (a + 1) n ++ k ∷ []) turned)
-
--- the numbers below the next, with one more at the end
-pub range_longer : (n : ℕ) → range_with_len 0 (n + 1) ≡ range_with_len 0 n ++ n ∷ []
-range_longer n =
-    let same : n + 1 ≡ suc n = omega arith in
-    let last : 0 + n ≡ n = omega arith in
-    ap (range_with_len 0) same ∙ range_end n 0 ∙ ap (λ (k : ℕ). range_with_len 0 n ++ k ∷ []) last
-
--- one number more at the end
-pub one_index : (before after : List ℕ) (n : ℕ) → before ≡ range_with_len 0 n → after ≡ before ++ n ∷ []
-    → after ≡ range_with_len 0 (n + 1)
-one_index before after n was now = now ∙ ap (λ (l : List ℕ). l ++ n ∷ []) was ∙ sym (range_longer n)

@@ -5,6 +5,7 @@ use Rattle.std.proofs.Common.{◌≡◌, ◌<◌, ◌≤◌, ℕ, zero, suc, Boo
 use Rattle.std.proofs.Common.{get_or, map, refl, ap, ◌∙◌, subst, arith}
 use Rattle.std.specs.Prelude.{Contains, Some, filter, if◌then◌else◌}
 use Rattle.suit_lists.proofs.Elements.{Contains-first, Contains-later}
+use Rattle.suit_lists.proofs.Filters.{length_filter-most}
 use Rattle.suit_game.specs.declared.question.Question.{Question}
 use Rattle.suit_classes.specs.declared.class_moves.ClassMove.{ClassMove}
 use Rattle.suit_tree.specs.declared.node.Node.{Node}
@@ -89,15 +90,6 @@ fitted_length Fits (move ∷ moves) [] fit = absurd fit
 fitted_length Fits (move ∷ moves) (node ∷ nodes) fit = let later = fitted_length Fits moves nodes fit.1 in
     omega (arith, later)
 
-kept_few : (test : ClassMove → Bool) (moves : List ClassMove) → length (filter test moves) ≤ length moves
-kept_few test [] = omega arith
-kept_few test (move ∷ moves) = either (test move) (filter test moves) (kept_few test moves)
-  where
-    either : (b : Bool) (kept : List ClassMove) → length kept ≤ length moves
-        → length (cond b (move ∷ kept) kept) ≤ suc (length moves)
-    either true kept few = omega (arith, few)
-    either false kept few = omega (arith, few)
-
 forty : length every_move ≡ 40
 unfolding every_move class_numbers
 forty = refl
@@ -111,7 +103,7 @@ few_moves_on : (question : Question) (history : ClassHistory) → length (moves_
 unfolding moves_on
 few_moves_on question history =
     let some : ClassMove → Bool = λ move. nat_lt 0 (length (allowing question (history ++ move ∷ []))) in
-    unless_few (class_decided (class_after question history)) (filter some every_move) (kept_few some every_move)
+    unless_few (class_decided (class_after question history)) (filter some every_move) (length_filter-most some every_move)
 
 -- a node has few children
 pub few_children : (more : ℕ) (question : Question) (history : ClassHistory) (node : Node)

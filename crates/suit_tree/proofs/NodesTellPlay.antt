@@ -7,7 +7,7 @@ use Rattle.std.proofs.lemmas.Bool.{and_parts}
 use Rattle.std.proofs.lemmas.List.{append-nil, append_assoc, length-append}
 use Rattle.std.proofs.lemmas.List.Elements.{All-from_recursion}
 use Rattle.std.proofs.lemmas.List.Kept.{AllPairs-cons, AllPairs-filter}
-use Rattle.suit_lists.proofs.Elements.{Contains-first, each_at, each_gives}
+use Rattle.suit_lists.proofs.Elements.{each_at, each_gives, nil_from_none}
 use Rattle.suit_lists.proofs.Filters.{kept_parts}
 use Rattle.suit_lists.proofs.FlatMaps.{each_flat_map}
 use Rattle.suit_cards.specs.Cards.{Cards, ClassLayout}
@@ -109,10 +109,6 @@ stand_below (suc more) question history (move ∷ path) node tree =
     (λ there at. longer_path more question history move path there at)
     (stand_below more question (history ++ move ∷ []) path child here))
 
-none_listed : (moves : List ClassMove) → ((move : ClassMove) → Contains moves move → ⊥) → moves ≡ []
-none_listed [] none = refl
-none_listed (move ∷ moves) none = absurd (none move (Contains-first move moves))
-
 -- the moves to the children that hold a class layout are its class moves, also where the tree may go no deeper
 children_moves : (more : ℕ) (question : Question) (path : ClassHistory) (index : ℕ) (node : Node) → IsValid question
     → length path + more ≡ MOST_MOVES
@@ -124,7 +120,7 @@ unfolding IsTreeAt
 children_moves zero question path index node valid long tree held going =
     let counts : ClassLayout = counts_at (class_layouts question (sizes_of question)) index in
     let allowed = ((kept_layouts question path index valid).0 held).1 in
-    let none = none_listed (class_moves (class_after question path) counts)
+    let none = nil_from_none (class_moves (class_after question path) counts)
     (λ move found.
     let short = class_histories_are_short question counts (path ++ move
     ∷ []) ((allowed_moves question counts path move).1 (allowed, found)) in

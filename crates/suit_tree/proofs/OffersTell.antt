@@ -1,12 +1,12 @@
 -- Offers tell the moves that were taken one by one (tells_more), also those of a defender (offered_tells).
 use Rattle.std.proofs.Common.{◌≡◌, ◌<◌, ◌+◌, ℕ, zero, suc, Bool, false, List, [], ◌∷◌, ◌++◌, length, map, take, get_or}
-use Rattle.std.proofs.Common.{refl, sym, ap, ◌∙◌, subst, arith}
-use Rattle.std.specs.Prelude.{⊤, Contains, ◌||◌}
+use Rattle.std.proofs.Common.{refl, sym, ap, ◌∙◌, arith}
+use Rattle.std.specs.Prelude.{⊤, ◌||◌}
 use Rattle.std.specs.List.{AllByRecursion, AllZip}
 use Rattle.std.proofs.lemmas.List.{take_more}
 use Rattle.std.proofs.lemmas.List.Elements.{Contains-get_or}
 use Rattle.std.proofs.lemmas.List.Folds.{list_any_more}
-use Rattle.suit_lists.proofs.Elements.{each_append, each_at, each_in}
+use Rattle.suit_lists.proofs.Elements.{Contains-same, each_append, each_at, each_in}
 use Rattle.suit_lists.proofs.Maps.{each_map}
 use Rattle.suit_classes.specs.declared.class_moves.ClassMove.{ClassMove}
 use Rattle.suit_classes.specs.declared.class_moves.ClassMove.TheVariants.{Lead, Follow, ShowOut}
@@ -68,7 +68,7 @@ pub their_at : (moves : List ClassMove) (i : ℕ) (d : ClassMove) → moves ≡ 
     → IsTheirs (get_or moves i d)
 their_at moves i d same below =
     each_at IsTheirs their_moves (get_or moves i d) each_theirs
-    (subst (λ (l : List ClassMove). Contains l (get_or moves i d)) same (Contains-get_or moves i d below))
+    (Contains-same (get_or moves i d) same (Contains-get_or moves i d below))
 
 -- of such a move offers tell whether it is one of those taken
 pub offered_tells : (move : ClassMove) → IsTheirs move → (told : Offers) (moves : List ClassMove) → Tells told moves

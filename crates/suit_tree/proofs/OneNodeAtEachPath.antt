@@ -6,7 +6,7 @@ use Rattle.std.specs.List.{AllByRecursion, flat_map, range_with_len}
 use Rattle.std.proofs.lemmas.Bool.{cases_lt}
 use Rattle.std.proofs.lemmas.List.{get_or-map, length-map}
 use Rattle.std.proofs.lemmas.List.Elements.{All-contains, Contains-get_or}
-use Rattle.suit_lists.proofs.Elements.{Contains-first}
+use Rattle.suit_lists.proofs.Elements.{Contains-first, some_of}
 use Rattle.suit_lists.proofs.Filters.{Contains-filter, kept_parts}
 use Rattle.suit_lists.proofs.Walks.{Contains-range}
 use Rattle.suit_game.specs.declared.question.Question.{Question}
@@ -66,10 +66,6 @@ kept_layouts question history index valid =
           (Contains-range 0 (length layouts) index (omega arith) (omega (arith, is.0)))
           ((listed_tells question (counts_at layouts index) history valid (counts_listed question index is.0)).1 is.1),
     )
-
--- a list with an element is not empty
-pub some_of : (xs : List ℕ) (x : ℕ) → Contains xs x → 0 < length xs
-some_of xs x found = omega (arith, found.1)
 
 -- counts of a class layout stand at some index
 index_of : (question : Question) (counts : List ℕ) → Contains (listed_counts question) counts

@@ -1,5 +1,5 @@
 -- The listed class layouts are told to allow the class histories that they allow (listed_tells).
-use Rattle.std.proofs.Common.{◌≡◌, ℕ, ◌<◌, true, List, [], ◌∙◌, arith}
+use Rattle.std.proofs.Common.{◌≡◌, ℕ, ◌<◌, true, [], ◌∙◌, arith}
 use Rattle.std.specs.Prelude.{◌↔◌, Contains}
 use Rattle.suit_lists.proofs.Maps.{Contains-map_from}
 use Rattle.suit_cards.specs.Cards.{ClassLayout}
@@ -8,7 +8,6 @@ use Rattle.suit_game.specs.Validity.{IsValid}
 use Rattle.suit_layouts.specs.ClassLayouts.{class_layouts, class_weight}
 use Rattle.suit_layouts.proofs.CountsOfALayout.{class_layouts_held}
 use Rattle.suit_layouts.proofs.WhatHasWeightIsListed.{class_layouts_exact}
-use Rattle.suit_classes.specs.declared.class_moves.ClassMove.{ClassMove}
 use Rattle.suit_classes.specs.WhatIsAllowed.{allows}
 use Rattle.suit_classes.specs.ClassGame.{Allows}
 use Rattle.suit_classes.specs.Classes.{hands_of, sizes_of}

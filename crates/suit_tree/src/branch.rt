@@ -9,7 +9,7 @@ use super::offers::Offers;
 use arrayvec::ArrayVec;
 use bumpalo::Bump;
 use std::alloc::{AllocError, Global};
-use suit_classes::{ClassMove, ClassPlace};
+use suit_classes::{ClassMove, ClassPlace, MOST_CLASSES};
 use suit_layouts::ClassLayout;
 
 /// A move, and the indices of the class layouts in which it may be made.
@@ -64,12 +64,15 @@ pub(crate) fn their_branches<'a>(
     Ok(branches)
 }
 
+// How many moves a defender may have: a follow with each class, and showing out.
+const MOST_THEIRS: usize = MOST_CLASSES + 1;
+
 // The moves that a defender may have, in their order.
-fn their_moves() -> ArrayVec<ClassMove, 14>
+fn their_moves() -> ArrayVec<ClassMove, MOST_THEIRS>
     ensures { result.items ≡ their_moves }
 {
     let mut moves = ArrayVec::new();
-    for class in 0..13 {
+    for class in 0..MOST_CLASSES as u8 {
         moves.push(ClassMove::Follow { class });
     }
     moves.push(ClassMove::ShowOut);

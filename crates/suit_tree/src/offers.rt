@@ -5,12 +5,12 @@ ghost use Rattle.suit_classes.specs.ClassMoves.{same_class_move};
 ghost use Rattle.suit_tree.specs.Growing.{Tells, is_offered};
 ghost use Rattle.suit_classes.specs.declared.classes.TheConstants.{MOST_CLASSES};
 
-use suit_classes::ClassMove;
+use suit_classes::{ClassMove, MOST_CLASSES};
 
 /// The moves of a defender, to be asked for one by one: which follows are among them, and whether showing out is.
 #[derive(Clone, Copy, Debug)]
 pub(crate) struct Offers {
-    follows: [bool; 13],
+    follows: [bool; MOST_CLASSES],
     shows_out: bool,
 }
 
@@ -20,7 +20,7 @@ impl Offers {
         ensures { Tells result moves.now }
     {
         let mut offers = Offers {
-            follows: [false; 13],
+            follows: [false; MOST_CLASSES],
             shows_out: false,
         };
         for mv in moves {

@@ -4,6 +4,7 @@ use Rattle.std.proofs.lemmas.List.{length-append}
 use Rattle.suit_classes.specs.declared.class_moves.ClassMove.{ClassMove}
 use Rattle.suit_classes.specs.declared.class_moves.ClassMove.TheVariants.{Follow, ShowOut}
 use Rattle.suit_classes.specs.ClassPlaces.{class_numbers}
+use Rattle.suit_classes.specs.declared.classes.TheConstants.{MOST_CLASSES}
 use Rattle.suit_tree.specs.Growing.{their_moves}
 use Rattle.suit_tree.proofs.branch.their_moves.Goals as goal
 
@@ -21,6 +22,6 @@ loop-class-preserved c = record {
 pub returns : goal.returns
 unfolding their_moves class_numbers
 returns c =
-    let thirteen : c.loop-class.class ≡ 13 = omega arith in
+    let all : c.loop-class.class ≡ MOST_CLASSES = omega arith in
     c.push-2.ensures.items ∙ ap (λ (l : List ClassMove). l ++ ShowOut
-    ∷ []) (rw thirteen at c.loop-class.invariant.so_far)
+    ∷ []) (rw all at c.loop-class.invariant.so_far)

@@ -1,5 +1,5 @@
 use Rattle.std.proofs.Common.{rules}
-use Rattle.suit_tree.proofs.NodeGrowsChildByChild.{one_index}
+use Rattle.suit_lists.proofs.Walks.{one_index}
 use Rattle.suit_tree.proofs.growing.indices_of.Goals as goal
 
 pub loop-index-preserved : goal.loop-index-preserved
