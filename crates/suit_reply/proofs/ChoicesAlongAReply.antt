@@ -3,15 +3,15 @@
 pub mod ReplyToADefence
 pub mod ReplyToAPlan
 pub mod WalkOfAReply
-use Rattle.std.proofs.Common.{◌≡◌, ◌⊎◌, ℕ, zero, suc, ◌+◌, ◌-◌, Bool, true, false, cond, List, [], ◌∷◌, ◌++◌}
+use Rattle.std.proofs.Common.{◌≡◌, ◌⊎◌, ℕ, zero, suc, ◌+◌, Bool, true, false, List, [], ◌∷◌, ◌++◌}
 use Rattle.std.proofs.Common.{length, map, refl, sym, ap, ◌∙◌, inl, inr, arith, append-nil, append_assoc}
 use Rattle.std.specs.Prelude.{Contains, ◌&&◌, filter, nat_lt, if◌then◌else◌, ℤ}
 use Rattle.std.specs.List.{flat_map}
 use Rattle.std.proofs.lemmas.Bool.{and_cases, and_left, and_right, cases_Bool, false_from_ne_true, false≢true}
-use Rattle.std.proofs.lemmas.List.{length-append, map-append}
-use Rattle.std.proofs.lemmas.List.Elements.{filter-append}
-use Rattle.suit_lists.proofs.Elements.{Contains-cons_cases, Contains-first, Contains-later, Contains-nil, each_at}
-use Rattle.suit_lists.proofs.Once.{IsOnce}
+use Rattle.std.proofs.lemmas.List.{length-append}
+use Rattle.suit_lists.proofs.FlatMaps.{flat_map_none, flat_map_same, kept_pieces}
+use Rattle.suit_lists.proofs.Maps.{map_case_append}
+use Rattle.suit_lists.proofs.Once.{flat_map_one, IsOnce}
 use Rattle.suit_classes.specs.declared.class_moves.ClassMove.{ClassMove}
 use Rattle.suit_classes.specs.ClassMoves.{ClassHistory, same_class_move}
 use Rattle.suit_classes.proofs.SameMoves.{same_move-itself, same_move_is}
@@ -48,52 +48,6 @@ is_chosen reply history = has_choice reply history && is_reached reply history
 abbrev choices_from : ℕ → Reply → ClassHistory → List ChosenMove
 choices_from more reply history = map (choice_of reply) (filter (is_chosen reply) (histories_within more reply history))
 
--- ---- lists
-
-flat_map_none : {X Y : Type 0} (piece : X → List Y) (xs : List X) → ((x : X) → Contains xs x → piece x ≡ [])
-    → flat_map piece xs ≡ []
-flat_map_none piece [] none = refl
-flat_map_none {X} {Y} piece (x ∷ xs) none =
-    ap (λ (l : List Y). l ++ flat_map piece xs) (none x (Contains-first x xs))
-    ∙ flat_map_none piece xs (λ y found. none y (Contains-later x xs y found))
-
-flat_map_same : {X Y : Type 0} (piece other : X → List Y) (xs : List X) → ((x : X) → Contains xs x → piece x ≡ other x)
-    → flat_map piece xs ≡ flat_map other xs
-flat_map_same piece other [] same = refl
-flat_map_same {X} {Y} piece other (x ∷ xs) same =
-    ap (λ (l : List Y). l ++ flat_map piece xs) (same x (Contains-first x xs))
-    ∙ ap (λ (l : List Y). other x ++ l) (flat_map_same piece other xs (λ y found. same y (Contains-later x xs y found)))
-
--- pieces of which only one has elements, joined
-flat_map_one : {X Y : Type 0} (piece : X → List Y) (xs : List X) (x : X) → IsOnce xs → Contains xs x
-    → ((y : X) → Contains xs y → (x ≡ y → ⊥) → piece y ≡ []) → flat_map piece xs ≡ piece x
-unfolding IsOnce
-flat_map_one piece [] x once found none = absurd (Contains-nil x found)
-flat_map_one {X} {Y} piece (first ∷ xs) x once found none = elim (Contains-cons_cases first xs x found) [
-  | inl here ↦
-      ap (λ (l : List Y). piece first ++ l)
-      (flat_map_none piece xs (λ y later.
-      none y (Contains-later first xs y later) (λ same. each_at (λ z. first ≡ z → ⊥) xs y once.0 later (here ∙ same))))
-      ∙ append-nil (piece first) ∙ ap piece here
-  | inr there ↦
-      ap (λ (l : List Y). l ++ flat_map piece xs)
-      (none first (Contains-first first xs) (λ same. each_at (λ z. first ≡ z → ⊥) xs x once.0 there (sym same)))
-      ∙ flat_map_one piece xs x once.1 there (λ y later apart. none y (Contains-later first xs y later) apart)
-]
-
-kept_first : {X Y : Type 0} (f : X → Y) (b : Bool) (x : X) (xs : List X)
-    → map f (cond b (x ∷ xs) xs) ≡ (if b then f x ∷ [] else []) ++ map f xs
-kept_first f true x xs = refl
-kept_first f false x xs = refl
-
-kept_pieces : {X Y Z : Type 0} (f : Y → Z) (test : Y → Bool) (piece : X → List Y) (xs : List X)
-    → map f (filter test (flat_map piece xs)) ≡ flat_map (λ x. map f (filter test (piece x))) xs
-kept_pieces f test piece [] = refl
-kept_pieces {X} {Y} {Z} f test piece (x ∷ xs) =
-    ap (map f) (filter-append test (piece x) (flat_map piece xs))
-    ∙ map-append f (filter test (piece x)) (filter test (flat_map piece xs))
-    ∙ ap (λ (l : List Z). map f (filter test (piece x)) ++ l) (kept_pieces f test piece xs)
-
 -- ---- the moves of the reply
 
 -- whether a move is that of the reply, where it is on turn
@@ -128,7 +82,7 @@ unfolding histories_within
 choices_of_turn more reply history =
     let below : List ClassHistory =
     flat_map (λ move. histories_within more reply (history ++ move ∷ [])) (reply.moves history) in
-    kept_first (choice_of reply) (is_chosen reply history) history (filter (is_chosen reply) below)
+    map_case_append (choice_of reply) (is_chosen reply history) history (filter (is_chosen reply) below)
     ∙ ap (λ (l : List ChosenMove). chosen_here (is_chosen reply history) reply history ++ l)
     (kept_pieces (choice_of reply) (is_chosen reply) (λ move. histories_within more reply (history ++ move ∷ []))
     (reply.moves history))
@@ -142,7 +96,7 @@ choices_of_last : (reply : Reply) (history : ClassHistory) → is_chosen reply h
     → choices_from zero reply history ≡ []
 unfolding histories_within
 choices_of_last reply history none =
-    kept_first (choice_of reply) (is_chosen reply history) history [] ∙ not_chosen reply history [] none
+    map_case_append (choice_of reply) (is_chosen reply history) history [] ∙ not_chosen reply history [] none
 
 walked_last : (reply : Reply) (history : ClassHistory) → walked zero reply history ≡ []
 unfolding walked

@@ -8,6 +8,7 @@ use Rattle.std.specs.Ordering.{int_eq}
 use Rattle.std.proofs.lemmas.Bool.{cases_Bool, false≢true}
 use Rattle.std.proofs.lemmas.Bool.Decides.{Decides-int_eq, not_from_Decides}
 use Rattle.std.proofs.lemmas.Int.{ints}
+use Rattle.suit_lists.proofs.Elements.{Contains-same}
 use Rattle.suit_cards.specs.Cards.{ClassLayout}
 use Rattle.suit_game.specs.declared.question.Question.{Question}
 use Rattle.suit_classes.specs.declared.class_moves.ClassMove.{ClassMove}
@@ -172,7 +173,7 @@ module _ (question : Question) (plan : Plan) (index : ℕ) where
       (λ other. told_of other (found_next more reply history other))
       (moves_on question history) nodes fit
       (λ other child found below. child_told more history masses tells other child
-      (subst (λ (l : List ClassMove). Contains l other) on found) (shares other) below)
+      (Contains-same other on found) (shares other) below)
       ∙ ap (results_of (found_next more reply history)) (on ∙ some))
       ∙ sym (summed_turn reply more history move moves live
       (moves_then question plan index history (move ∷ moves) going some) not_theirs)

@@ -2,14 +2,14 @@
 pub mod SumsStayBounded
 use Rattle.std.proofs.Common.{◌≡◌, ◌⊎◌, of_z, ℕ, zero, suc, ◌+◌, ◌-◌, ◌<◌, ◌≤◌, Bool, true, false, cond, List, [], ◌∷◌}
 use Rattle.std.proofs.Common.{◌++◌, length, map, take, refl, sym, ap, ◌∙◌, subst, inl, inr, arith}
-use Rattle.std.specs.Prelude.{Contains, filter, get_or, if◌then◌else◌, pos, unwrap_or, ℤ, ◌*ℤ◌, ◌^◌, ◌≤ℤ◌}
+use Rattle.std.specs.Prelude.{Contains, filter, get_or, if◌then◌else◌, pos, unwrap_or, ℤ, ◌*ℤ◌, ◌≤ℤ◌}
 use Rattle.std.specs.Ordering.{int_eq}
 use Rattle.std.proofs.lemmas.Bool.{false≢true, false_from_ne_true}
 use Rattle.std.proofs.lemmas.Bool.Decides.{Decides-int_eq}
 use Rattle.std.specs.Int.{w128}
 use Rattle.std.proofs.lemmas.List.{append-nil, length-append, take_all, take_more}
 use Rattle.std.proofs.lemmas.List.Elements.{Contains-get_or, filter-append}
-use Rattle.suit_lists.proofs.Elements.{Contains-nil}
+use Rattle.suit_lists.proofs.Elements.{Contains-nil, Contains-same}
 use Rattle.suit_cards.specs.declared.seats.Seat.{Seat}
 use Rattle.suit_cards.specs.Cards.{Indices}
 use Rattle.suit_game.specs.declared.question.Question.{Question}
@@ -178,7 +178,7 @@ pub child_at : (more : ℕ) (question : Question) (history : ClassHistory) (node
     → IsChild more question history node child
 unfolding IsTreeAt
 child_at zero question history node child tree found =
-    absurd (Contains-nil child (subst (λ (l : List Node). Contains l child) tree.1 found))
+    absurd (Contains-nil child (Contains-same child tree.1 found))
 child_at (suc more) question history node child tree found =
     let less : more ≡ suc more - 1 = omega arith in
     let fit : AreChildren (suc more - 1) question history (children_of node) =
@@ -266,7 +266,7 @@ module _ (question : Question) (plan : Plan) (index : ℕ) where
   child_moves more history node child is stands by goes going (Over decided turn) =
       absurd (false≢true (sym going ∙ decided))
   child_moves more history node child is stands by goes going (Declarers undecided own not_theirs) =
-      subst (λ (l : List ClassMove). Contains l by.move)
+      Contains-same by.move
       (own_moves_on question history index is.valid is.held going own) by.on
   child_moves more history node child is stands by goes going (Defences undecided not_own theirs) =
       let indices : Indices = allowing question (history ++ by.move ∷ []) in

@@ -1,10 +1,12 @@
 -- chunk_more, all_chunks: the best reply to a plan, chunk by chunk of the class layouts.
-use Rattle.std.proofs.Common.{◌≡◌, ℕ, ◌+◌, ◌-◌, ◌*◌, ◌/◌, ◌%◌, ◌<◌, List, [], ◌∷◌, ◌++◌, length, get_or, min, refl}
-use Rattle.std.proofs.Common.{Ok, sym, ap, ◌∙◌, subst, arith, inl, inr}
+use Rattle.std.proofs.Common.{◌≡◌, ℕ, ◌+◌, ◌-◌, ◌*◌, ◌/◌, ◌%◌, ◌<◌, List, ◌∷◌, ◌++◌, length, get_or, min}
+use Rattle.std.proofs.Common.{Ok, ap, ◌∙◌, subst, arith, inl, inr}
 use Rattle.std.specs.Prelude.{FitsSigned, IfOk, Result, ℤ, ◌+ℤ◌}
 use Rattle.std.specs.Int.{w128}
 use Rattle.std.proofs.lemmas.Bool.{cases_lt}
 use Rattle.std.proofs.lemmas.Nat.{div-add-mod', mod_below}
+use Rattle.suit_lists.proofs.Basics.{next_inside}
+use Rattle.suit_lists.proofs.Indices.{next_at}
 use native.Mathlib.Nat.{add-mul, one-mul}
 use Rattle.suit_game.specs.declared.question.Question.{Question}
 use Rattle.suit_game.specs.Validity.{IsValid}
@@ -14,20 +16,6 @@ use Rattle.suit_plans.specs.Properness.{IsProperPlan}
 use Rattle.suit_reply.specs.LayoutsReplies.{IsReplyIn}
 use Rattle.suit_reply.proofs.OwnMovesGoOn.{layouts_of}
 use Rattle.suit_reply.proofs.LeastLayoutByLayout.{both_replies, replies_fit}
-
-next_at : {X : Type 0} (xs : List X) (x : X) (later : List X) (d : X) → get_or (xs ++ x ∷ later) (length xs) d ≡ x
-next_at [] x later d = refl
-next_at (first ∷ xs) x later d = next_at xs x later d
-
-inside : {X : Type 0} (xs : List X) (x : X) (later : List X) → length xs < length (xs ++ x ∷ later)
-inside [] x later = omega arith
-inside (first ∷ xs) x later = let there = inside xs x later in omega (arith, there)
-
--- the next of a list stands at one of its indices
-pub next_inside : {X : Type 0} (all done : List X) (x : X) (later : List X) → all ≡ done ++ x ∷ later
-    → length done < length all
-next_inside {X} all done x later parts =
-    subst (λ (l : List X). length done < length l) (sym parts) (inside done x later)
 
 -- what is told of each reply of a list, by its index, is told of the next one
 pub next_told : {R E : Type 0} (Told : ℕ → R → Type 0) (replies done later : List (Result R E)) (reply : R)

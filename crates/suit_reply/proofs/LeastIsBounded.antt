@@ -3,6 +3,7 @@ use Rattle.std.proofs.Common.{◌≡◌, ℕ, suc, List, [], ◌∷◌, ◌++◌
 use Rattle.std.proofs.Common.{subst}
 use Rattle.std.specs.Prelude.{Contains, ℤ, pos, ◌*ℤ◌}
 use Rattle.suit_game.specs.declared.question.Question.{Question}
+use Rattle.suit_game.specs.declared.limits.TheConstants.{HAND_SIZE}
 use Rattle.suit_classes.specs.declared.class_moves.ClassMove.{ClassMove}
 use Rattle.suit_classes.specs.ClassMoves.{ClassHistory}
 use Rattle.suit_plans.specs.BestReplies.{worth_within}
@@ -70,5 +71,5 @@ module _ (question : Question) (plan : Plan) (index : ℕ) where
       record {
         some = first.0;
         few = le_through (sum_of (take i (map worths moves))) (sum_of (map worths moves))
-            (pos 13 *ℤ plan_mass question plan history) first.1 whole.few;
+            (pos HAND_SIZE *ℤ plan_mass question plan history) first.1 whole.few;
       }

@@ -1,7 +1,7 @@
 -- all_numbers, all_moves: the defence's best reply to a plan, class layout by class layout.
 use Rattle.std.proofs.Common.{◌≡◌, ℕ, zero, suc, ◌+◌, ◌-◌, ◌<◌, ◌≤◌, List, [], ◌∷◌, ◌++◌, length, map, get_or, refl}
 use Rattle.std.proofs.Common.{sym, ap, ◌∙◌, subst, arith}
-use Rattle.std.specs.Prelude.{Contains, FitsSigned, ◌^◌, ℤ, pos, ◌+ℤ◌, ◌*ℤ◌, ◌≤ℤ◌, ◌<ℤ◌, unsigned_abs}
+use Rattle.std.specs.Prelude.{Contains, FitsSigned, ℤ, pos, ◌+ℤ◌, ◌*ℤ◌, ◌≤ℤ◌, ◌<ℤ◌}
 use Rattle.std.specs.Int.{w128}
 use Rattle.std.specs.List.{flat_map, range_with_len}
 use Rattle.std.proofs.lemmas.Int.{fits_signed_from_abs, ints}
@@ -10,7 +10,8 @@ use Rattle.std.proofs.lemmas.List.Concat.{flat_map-append}
 use Rattle.std.proofs.lemmas.List.Elements.{Contains-get_or}
 use Rattle.std.proofs.lemmas.List.FromFn.{get_or-range_with_len, length-range_with_len}
 use Rattle.std.proofs.lemmas.Simd.{map-map}
-use Rattle.suit_lists.proofs.Walks.{Contains-range}
+use Rattle.suit_lists.proofs.Elements.{Contains-same}
+use Rattle.suit_lists.proofs.Walks.{by_indices, Contains-range}
 use Rattle.suit_cards.specs.Cards.{ClassLayout, Indices}
 use Rattle.suit_game.specs.declared.question.Question.{Question}
 use Rattle.suit_game.specs.Validity.{IsValid}
@@ -24,6 +25,7 @@ use Rattle.suit_plans.proofs.RepliesAreBounded.{first_mass, leasts_bounded, weig
 use Rattle.suit_plans.proofs.ProperPlans.{plans_are_realised, proper_plan}
 use Rattle.suit_plans.proofs.SharesAddUpToTheMass.{sum_positive}
 use Rattle.suit_num.proofs.IntegerLaws.{int_le-true}
+use Rattle.suit_num.specs.Narrow.{IsNarrow}
 use Rattle.suit_tree.specs.declared.node.Node.{Node}
 use Rattle.suit_tree.specs.declared.tree.Tree.{Tree}
 use Rattle.suit_tree.specs.Trees.{layout_indices}
@@ -32,7 +34,6 @@ use Rattle.suit_reply.specs.declared.chosen_move.ChosenMove.{ChosenMove}
 use Rattle.suit_reply.specs.NodeReplies.{NodeReplyView}
 use Rattle.suit_reply.specs.AgainstPlan.{IsPlanFor, LeastNode, node_least}
 use Rattle.suit_reply.specs.LayoutsReplies.{IsReplyIn, layout_at, weighed_worth}
-use Rattle.suit_reply.proofs.MostByNodes.WhichLayoutsAllow.{by_indices}
 use Rattle.suit_reply.proofs.LeastByNodes.{least_by_nodes}
 use Rattle.suit_reply.proofs.LeastByNodes.Cases.{LeastCase, case_allows, reply_at}
 use Rattle.suit_reply.proofs.ChoicesAlongAReply.ReplyToAPlan.{least_reply_walked}
@@ -40,7 +41,7 @@ use Rattle.suit_reply.proofs.WorthAtATurn.{found_from}
 use Rattle.suit_reply.proofs.OwnMovesGoOn.{layout_counts, layouts_of}
 use Rattle.suit_reply.proofs.OneMoreAdded.{sum_append}
 use Rattle.suit_game.specs.declared.limits.TheConstants.{MOST_MOVES}
-use Rattle.suit_plans.specs.declared.plan.TheConstants.{MOST_DEN}
+use Rattle.suit_plans.specs.declared.plan.TheConstants.{MOST_DEN, WORTH_BOUND}
 
 -- ---- one class layout
 
@@ -51,7 +52,7 @@ first_case question plan index valid proper below = record {
   valid = valid;
   proper = proper;
   realised = plans_are_realised question plan (layout_counts question index) valid proper;
-  held = subst (λ (l : Indices). Contains l index) (sym (allowing_first question))
+  held = Contains-same index (sym (allowing_first question))
       (Contains-range 0 (length (layouts_of question)) index (omega arith) (omega (arith, below)));
   left = refl;
 }
@@ -117,7 +118,7 @@ pub weighs_at : (question : Question) (layouts : List (ClassLayout × ℕ)) (ind
 weighs_at question layouts index layout same below =
     ap (λ (other : ClassLayout × ℕ). other.1)
     (get_or_default layouts index layout ([], 0) below ∙ ap (λ (l : List (ClassLayout × ℕ)). get_or l index
-        ([], 0)) same)
+    ([], 0)) same)
 
 -- ---- some class layouts
 
@@ -263,10 +264,10 @@ module _ (question : Question) (plan : Plan) (valid : IsValid question) (proper 
       sums (some_positive 0 start (omega (arith, within))) (some_positive start count within)
       (some_positive (start + count) rest (omega (arith, whole))) bounds.1)
     where
-      between : (a b c all : ℤ) → all ≡ (a +ℤ b) +ℤ c → pos 0 ≤ℤ a → pos 0 ≤ℤ b → pos 0 ≤ℤ c → all <ℤ pos (2 ^ 118)
+      between : (a b c all : ℤ) → all ≡ (a +ℤ b) +ℤ c → pos 0 ≤ℤ a → pos 0 ≤ℤ b → pos 0 ≤ℤ c → all <ℤ WORTH_BOUND
           → FitsSigned w128 b
       between a b c all is p q r few =
-          let small : unsigned_abs b < 2 ^ 127 = omega (arith, ints, is, p, q, r, few) in
+          let small : IsNarrow b = omega (arith, ints, is, p, q, r, few) in
           fits_signed_from_abs w128 b small
 
 module _ (tree : Tree) (plan : Plan) (index : ℕ) (case : IsPlanFor tree plan)

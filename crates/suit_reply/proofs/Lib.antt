@@ -5,7 +5,6 @@ pub mod LeastIsBounded
 pub mod LeastByNodes
 pub mod LeastLayoutByLayout
 pub mod LeastChildByChild
-pub mod WhatIsStillToCome
 pub mod MostIsBounded
 pub mod MostByNodes
 pub mod MostAtTheRoot

@@ -1,13 +1,13 @@
 -- root_asked, root_told: what the root of a question's tree is asked for, where declarer replies to a defence, and
 -- what it tells.
 pub mod MassesBeforeAnyMove
-use Rattle.std.proofs.Common.{◌≡◌, ℕ, ◌-◌, ◌<◌, ◌≤◌, All, Bool, true, List, [], ◌∷◌, length, get_or, map, refl, sym, ap}
+use Rattle.std.proofs.Common.{◌≡◌, ℕ, ◌-◌, ◌<◌, ◌≤◌, All, true, List, [], length, get_or, map, sym, ap}
 use Rattle.std.proofs.Common.{◌∙◌, subst, arith}
-use Rattle.std.specs.Prelude.{Contains, cond, filter, ℤ, pos, ◌^◌, ◌*ℤ◌, ◌≤ℤ◌, int_lt}
+use Rattle.std.specs.Prelude.{Contains, filter, ℤ, pos, ◌*ℤ◌, ◌≤ℤ◌, int_lt}
 use Rattle.std.specs.List.{range_with_len}
 use Rattle.std.proofs.lemmas.Int.{ints}
 use Rattle.std.proofs.lemmas.List.Elements.{Contains-get_or}
-use Rattle.suit_lists.proofs.Elements.{Contains-first, Contains-later}
+use Rattle.suit_lists.proofs.Filters.{all_pass_map}
 use Rattle.suit_lists.proofs.Maps.{map_same}
 use Rattle.suit_num.proofs.IntegerLaws.{le-mul_right, int_le-true}
 use Rattle.suit_cards.specs.Cards.{ClassLayout, Indices}
@@ -15,12 +15,10 @@ use Rattle.suit_game.specs.declared.question.Question.{Question}
 use Rattle.suit_game.specs.Layouts.{total as all_weights}
 use Rattle.suit_game.specs.Validity.{IsValid}
 use Rattle.suit_game.proofs.WhatAllLayoutsWeigh.{total_at_most}
-use Rattle.suit_classes.specs.declared.class_moves.ClassMove.{ClassMove}
-use Rattle.suit_classes.specs.Classes.{defence_sizes, hands_of, sizes_of}
+use Rattle.suit_classes.specs.Classes.{defence_sizes, hands_of}
 use Rattle.suit_classes.proofs.DefenceSizes.{sum-defence_sizes}
 use Rattle.suit_classes.specs.ClassMoves.{ClassHistory}
 use Rattle.suit_layouts.proofs.WhatHasWeightIsListed.{class_layouts_exact}
-use Rattle.suit_layouts.specs.ClassLayouts.{class_layouts}
 use Rattle.suit_plans.specs.BestReplies.{reply_to_defence}
 use Rattle.suit_plans.specs.Masses.{weight_of}
 use Rattle.suit_plans.specs.Properness.{IsProperDefence, sum_of}
@@ -42,13 +40,13 @@ use Rattle.suit_reply.proofs.MostByNodes.{most_by_nodes}
 use Rattle.suit_reply.proofs.MostByNodes.Cases.{masses_at}
 use Rattle.suit_reply.proofs.WorthAtATurn.{found_from}
 use Rattle.suit_reply.proofs.OwnMovesGoOn.{layout_counts, layouts_of}
-use Rattle.suit_game.specs.declared.limits.TheConstants.{MOST_MOVES}
-use Rattle.suit_plans.specs.declared.plan.TheConstants.{MOST_DEN}
+use Rattle.suit_game.specs.declared.limits.TheConstants.{MOST_MOVES, MOST_TOTAL}
+use Rattle.suit_plans.specs.declared.plan.TheConstants.{MOST_DEN, MOST_MASS}
 
 -- ---- the class layouts of a question
 
 -- their weights are small
-pub layouts_weigh : (question : Question) → IsValid question → All (λ layout. layout.1 ≤ 10400600) (layouts_of question)
+pub layouts_weigh : (question : Question) → IsValid question → All (λ layout. layout.1 ≤ MOST_TOTAL) (layouts_of question)
 layouts_weigh question valid = λ k d below.
     let layout : ClassLayout × ℕ = get_or (layouts_of question) k d in
     let exact =
@@ -71,13 +69,6 @@ den_within question defence proper =
 abbrev pub weighed_masses : List (ClassLayout × ℕ) → ℤ → LayoutMasses
 weighed_masses layouts den =
     map (λ index. (index, pos (get_or layouts index ([], 0)).1 *ℤ den)) (range_with_len 0 (length layouts))
-
-all_pass_map : {X Y : Type 0} (p : Y → Bool) (f : X → Y) (xs : List X) → ((x : X) → Contains xs x → p (f x) ≡ true)
-    → filter p (map f xs) ≡ map f xs
-all_pass_map p f [] passes = refl
-all_pass_map {X} {Y} p f (x ∷ xs) passes =
-    ap (λ (b : Bool). cond b (f x ∷ filter p (map f xs)) (filter p (map f xs))) (passes x (Contains-first x xs))
-    ∙ ap (λ (l : List Y). f x ∷ l) (all_pass_map p f xs (λ y found. passes y (Contains-later x xs y found)))
 
 weighs_live : (weight : ℕ) (den : ℤ) → 0 < weight → pos 1 ≤ℤ den → int_lt (pos 0) (pos weight *ℤ den) ≡ true
 weighs_live weight den some least =
@@ -109,21 +100,21 @@ module _ (question : Question) (defence : Defence) (valid : IsValid question)
       ∙ ap (λ (l : Indices). filter is_live (map (held_at mass) l)) (sym (allowing_first question))
 
   -- and add up to little enough
-  pub first_within : mass_sum question defence [] ≤ℤ pos (2 ^ 114)
+  pub first_within : mass_sum question defence [] ≤ℤ pos MOST_MASS
   first_within =
       let den = den_within question defence proper in
-      subst (λ (z : ℤ). z ≤ℤ pos (2 ^ 114)) (sym (sum_first question defence valid proper))
+      subst (λ (z : ℤ). z ≤ℤ pos MOST_MASS) (sym (sum_first question defence valid proper))
       (bounded (all_weights question) defence.den (total_at_most question valid) den.0 den.1)
     where
-      product : (weight : ℕ) (den : ℤ) → weight ≤ 10400600 → pos 1 ≤ℤ den → (pos weight *ℤ den) ≤ℤ (pos 10400600 *ℤ den)
+      product : (weight : ℕ) (den : ℤ) → weight ≤ MOST_TOTAL → pos 1 ≤ℤ den → (pos weight *ℤ den) ≤ℤ (pos MOST_TOTAL *ℤ den)
       product weight den few least =
-          le-mul_right (pos weight) (pos 10400600) den (omega (arith, ints)) (omega (arith, ints))
+          le-mul_right (pos weight) (pos MOST_TOTAL) den (omega (arith, ints)) (omega (arith, ints))
 
-      within : (product den : ℤ) → product ≤ℤ (pos 10400600 *ℤ den) → den ≤ℤ MOST_DEN → product ≤ℤ pos (2 ^ 114)
+      within : (product den : ℤ) → product ≤ℤ (pos MOST_TOTAL *ℤ den) → den ≤ℤ MOST_DEN → product ≤ℤ pos MOST_MASS
       within product den most few = omega (arith, ints)
 
-      bounded : (weight : ℕ) (den : ℤ) → weight ≤ 10400600 → pos 1 ≤ℤ den → den ≤ℤ MOST_DEN
-          → (pos weight *ℤ den) ≤ℤ pos (2 ^ 114)
+      bounded : (weight : ℕ) (den : ℤ) → weight ≤ MOST_TOTAL → pos 1 ≤ℤ den → den ≤ℤ MOST_DEN
+          → (pos weight *ℤ den) ≤ℤ pos MOST_MASS
       bounded weight den few least most = within (pos weight *ℤ den) den (product weight den few least) most
 
 -- ---- the root
@@ -152,7 +143,7 @@ module _ (tree : Tree) (defence : Defence) (layouts : List (ClassLayout × ℕ))
         tree = subst (λ (node : Node). IsTreeAt MOST_MOVES question [] node) (sym top) is.grown.nodes;
         are_masses = whole;
         within =
-            subst (λ (part : LayoutMasses). sum_of (map (λ (held : ℕ × ℤ). held.1) part) ≤ℤ pos (2 ^ 114)) (sym whole)
+            subst (λ (part : LayoutMasses). sum_of (map (λ (held : ℕ × ℤ). held.1) part) ≤ℤ pos MOST_MASS) (sym whole)
             (first_within question defence is.valid is.proper);
       })
 

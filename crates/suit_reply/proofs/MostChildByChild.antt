@@ -3,13 +3,14 @@ pub mod ChildrenAreAsked
 pub mod SumsStayBounded
 use Rattle.std.proofs.Common.{◌≡◌, ℕ, zero, suc, ◌-◌, ◌+◌, ◌<◌, true, false, List, [], ◌∷◌, ◌++◌, Option, Some, None}
 use Rattle.std.proofs.Common.{length, get_or, map, take, refl, sym, ap, ◌∙◌, subst, arith}
-use Rattle.std.specs.Prelude.{pos, unsigned_abs, unwrap_or, ℤ, ◌*ℤ◌, ◌*◌, ◌+ℤ◌, ◌==◌, ◌^◌, ◌≤ℤ◌}
+use Rattle.std.specs.Prelude.{pos, unwrap_or, ℤ, ◌*ℤ◌, ◌*◌, ◌+ℤ◌, ◌==◌, ◌≤ℤ◌}
 use Rattle.std.specs.List.{take-map}
 use Rattle.std.proofs.lemmas.Bool.{false≢true}
 use Rattle.std.proofs.lemmas.Bool.Decides.{nat_tests}
 use Rattle.std.proofs.lemmas.Int.{ints}
 use Rattle.std.proofs.lemmas.List.{length-append, take_more}
 use Rattle.suit_lists.proofs.Maps.{map_same}
+use Rattle.suit_num.specs.Narrow.{IsNarrow}
 use Rattle.suit_cards.specs.Cards.{ClassLayout}
 use Rattle.suit_game.specs.declared.question.Question.{Question}
 use Rattle.suit_classes.specs.declared.class_moves.ClassMove.{ClassMove}
@@ -22,6 +23,7 @@ use Rattle.suit_plans.specs.BestReplies.{Reply, reply_to_defence}
 use Rattle.suit_plans.specs.Masses.{is_defences}
 use Rattle.suit_plans.specs.Properness.{sum_of}
 use Rattle.suit_plans.specs.declared.defence.DefenceRow.{DefenceRow}
+use Rattle.suit_plans.specs.declared.plan.TheConstants.{MOST_MASS}
 use Rattle.suit_tree.specs.declared.node.Node.{Node}
 use Rattle.suit_tree.specs.Nodes.{children_of, move_of, payoff_at, turn_at}
 use Rattle.suit_tree.specs.Trees.{IsTreeAt, moves_on}
@@ -42,7 +44,7 @@ use Rattle.suit_reply.proofs.MostIsBounded.{mass_sum, most_sums_paid}
 use Rattle.suit_reply.proofs.MostByNodes.{most_by_nodes}
 use Rattle.suit_reply.proofs.MostByNodes.Cases.{MostCase, most_next}
 use Rattle.suit_reply.proofs.WorthAtATurn.{found_next}
-use Rattle.suit_game.specs.declared.limits.TheConstants.{MOST_MOVES}
+use Rattle.suit_game.specs.declared.limits.TheConstants.{HAND_SIZE, MOST_MOVES}
 
 -- a node below a node: its move, with what is told there
 abbrev pub told_at : List (ClassLayout × ℕ) → List DefenceRow → ClassHistory → LayoutMasses → Node → Node
@@ -246,7 +248,7 @@ module _ (layouts : List (ClassLayout × ℕ)) (rows : List DefenceRow) (history
       (ap (λ to. unwrap_or to ShowOut) fits.0)
       ∙ ap (λ (fuel : ℕ). told_of move (node_most fuel layouts rows (history ++ move ∷ []) given child)) (sym next.left)
       ∙ ap (λ (l : List (ClassLayout × ℕ)). told_of move (node_most below.less l rows
-          (history ++ move ∷ []) given child))
+      (history ++ move ∷ []) given child))
       (sym is.is_layouts)
       ∙ ap (λ (l : List DefenceRow). told_of move
       (node_most below.less (layouts_of question) l (history ++ move ∷ []) given child)) (sym is.is_rows)
@@ -259,7 +261,7 @@ module _ (layouts : List (ClassLayout × ℕ)) (rows : List DefenceRow) (history
       → (pos 0 ≤ℤ (gathered Sum (map (told_at layouts rows history masses node)
       (take k (children_of node)))).found.worth)
       × ((gathered Sum (map (told_at layouts rows history masses node) (take k (children_of node)))).found.worth
-      ≤ℤ pos (13 * 2 ^ 114))
+      ≤ℤ pos (HAND_SIZE * MOST_MASS))
   sums_within i k gathers within =
       let question : Question = is.question in
       let below : HasBelow (MOST_MOVES - length history) question history node =
@@ -277,8 +279,8 @@ module _ (layouts : List (ClassLayout × ℕ)) (rows : List DefenceRow) (history
       ap is_defences (sym stands.turn) ∙ sum_theirs (turn_at node) gathers in
       let paid = most_sums_paid question is.defence below.less history k case going theirs in
       let sum : LayoutMasses → ℤ = λ part. sum_of (map (λ (held : ℕ × ℤ). held.1) part) in
-      let most : mass_sum question is.defence history ≤ℤ pos (2 ^ 114) =
-      subst (λ (part : LayoutMasses). sum part ≤ℤ pos (2 ^ 114)) is.are_masses is.within in
+      let most : mass_sum question is.defence history ≤ℤ pos MOST_MASS =
+      subst (λ (part : LayoutMasses). sum part ≤ℤ pos MOST_MASS) is.are_masses is.within in
       let same : (gathered Sum (map (told_at layouts rows history masses node) (take k (children_of node)))).found.worth
       ≡ sum_of (take k (worths_of found moves)) =
       ap (λ (l : List (ClassMove × NodeReplyView)). (gathered Sum l).found.worth)
@@ -287,13 +289,13 @@ module _ (layouts : List (ClassLayout × ℕ)) (rows : List DefenceRow) (history
       ∙ take-map (λ (move : ClassMove). told_of move (found move)) k moves)
       ∙ ap (λ (view : NodeReplyView). view.worth) (sum_gathered found (take k moves))
       ∙ ap sum_of (sym (take-map (λ (move : ClassMove). (found move).worth) k moves)) in
-      subst (λ (z : ℤ). (pos 0 ≤ℤ z) × (z ≤ℤ pos (13 * 2 ^ 114))) (sym same) (
+      subst (λ (z : ℤ). (pos 0 ≤ℤ z) × (z ≤ℤ pos (HAND_SIZE * MOST_MASS))) (sym same) (
         paid.some,
         bounded (sum_of (take k (worths_of found moves))) (mass_sum question is.defence history) paid.few
             most,
       )
     where
-      bounded : (a mass : ℤ) → a ≤ℤ (pos 13 *ℤ mass) → mass ≤ℤ pos (2 ^ 114) → a ≤ℤ pos (13 * 2 ^ 114)
+      bounded : (a mass : ℤ) → a ≤ℤ (pos HAND_SIZE *ℤ mass) → mass ≤ℤ pos MOST_MASS → a ≤ℤ pos (HAND_SIZE * MOST_MASS)
       bounded a mass p q = omega (arith, ints)
 
   -- so one more worth may be added
@@ -302,7 +304,7 @@ module _ (layouts : List (ClassLayout × ℕ)) (rows : List DefenceRow) (history
       → IsStep layouts rows history masses node i child next passed
       → found ≡ node_most (MOST_MOVES - length next) layouts rows next passed child
       → so_far ≡ gathered rule (map (told_at layouts rows history masses node) (take i (children_of node))) → rule ≡ Sum
-      → unsigned_abs (so_far.found.worth +ℤ found.worth) < 2 ^ 127
+      → IsNarrow (so_far.found.worth +ℤ found.worth)
   sum_fits rule i child next passed so_far found gathers step below all sums =
       let told : Node → ClassMove × NodeReplyView = told_at layouts rows history masses node in
       let nodes : List Node = children_of node in
@@ -316,8 +318,8 @@ module _ (layouts : List (ClassLayout × ℕ)) (rows : List DefenceRow) (history
       ∙ ap (λ (view : TurnView). view.found.worth +ℤ (told last).1.worth) (sym all)
       ∙ ap (λ (view : NodeReplyView). so_far.found.worth +ℤ view.worth)
       (sym (told_is layouts rows history masses node i child next passed found step below)) in
-      subst (λ (z : ℤ). unsigned_abs z < 2 ^ 127) sum
+      subst (λ (z : ℤ). IsNarrow z) sum
       (small (gathered Sum (map told (take (i + 1) nodes))).found.worth bounds.0 bounds.1)
     where
-      small : (z : ℤ) → pos 0 ≤ℤ z → z ≤ℤ pos (13 * 2 ^ 114) → unsigned_abs z < 2 ^ 127
+      small : (z : ℤ) → pos 0 ≤ℤ z → z ≤ℤ pos (HAND_SIZE * MOST_MASS) → IsNarrow z
       small z some most = omega (arith, ints)

@@ -6,7 +6,7 @@ use Rattle.std.proofs.lemmas.Int.{ints}
 use Rattle.std.proofs.lemmas.List.Elements.{All-contains, filter_agree, filter_passes}
 use Rattle.std.proofs.lemmas.Bool.{lt-ltb}
 use Rattle.std.proofs.lemmas.Simd.{map-map}
-use Rattle.suit_lists.proofs.Elements.{Contains-nil}
+use Rattle.suit_lists.proofs.Elements.{Contains-nil, Contains-same}
 use Rattle.suit_lists.proofs.Maps.{map_same}
 use Rattle.suit_cards.specs.Cards.{ClassLayout, Indices}
 use Rattle.suit_game.specs.declared.question.Question.{Question}
@@ -58,9 +58,9 @@ abbrev ArePaid : ℕ → Question → Defence → ClassHistory → Type 0
 ArePaid more question defence history = (move : ClassMove) → Contains (moves_on question history) move
     → IsPaid (mass_sum question defence (history ++ move ∷ [])) (most_next_worth more question defence history move)
 
-within_bounds : (a b mass : ℤ) → pos 0 ≤ℤ a → a ≤ℤ b → b ≤ℤ (pos 13 *ℤ mass) → IsPaid mass a
+within_bounds : (a b mass : ℤ) → pos 0 ≤ℤ a → a ≤ℤ b → b ≤ℤ (pos HAND_SIZE *ℤ mass) → IsPaid mass a
 within_bounds a b mass positive first last =
-    record { some = positive; few = le_through a b (pos 13 *ℤ mass) first last }
+    record { some = positive; few = le_through a b (pos HAND_SIZE *ℤ mass) first last }
 
 module _ (question : Question) (defence : Defence) where
   -- it is that over all class layouts that allow the history
@@ -140,7 +140,7 @@ module _ (question : Question) (defence : Defence) where
       at : WhoseTurn (class_after question history)
           → mass_sum question defence (history ++ move ∷ []) ≤ℤ mass_sum question defence history
       at (Over decided turn) =
-          absurd (Contains-nil move (subst (λ (l : List ClassMove). Contains l move)
+          absurd (Contains-nil move (Contains-same move
           (none_left question history decided) found))
       at (Declarers going own not_theirs) =
           alike (mass_sum question defence (history ++ move ∷ [])) (mass_sum question defence history)
@@ -235,10 +235,10 @@ module _ (question : Question) (defence : Defence) where
       product_paid (payoff_at node) held.1 (node_pays more history node is stands) (live_positive history held found) in
       let within : held.1 ≤ℤ mass_sum question defence history =
       within_sum (λ (other : ℕ × ℤ). other.1) masses held (λ other there. live_positive history other there) found in
-      within_bounds (pos (payoff_at node) *ℤ held.1) (pos 13 *ℤ held.1) (mass_sum question defence history) one.some
+      within_bounds (pos (payoff_at node) *ℤ held.1) (pos HAND_SIZE *ℤ held.1) (mass_sum question defence history) one.some
       one.few (thirteen held.1 (mass_sum question defence history) within)
     where
-      thirteen : (a b : ℤ) → a ≤ℤ b → (pos 13 *ℤ a) ≤ℤ (pos 13 *ℤ b)
+      thirteen : (a b : ℤ) → a ≤ℤ b → (pos HAND_SIZE *ℤ a) ≤ℤ (pos HAND_SIZE *ℤ b)
       thirteen a b le = omega (arith, ints)
 
   -- and so do the sums of what it pays for the first of them

@@ -1,10 +1,10 @@
 -- own_moves_on: at a turn of declarer the moves to the nodes below a node are his class moves, in order.
 use Rattle.std.proofs.Common.{◌≡◌, ℕ, Bool, true, false, List, [], ◌∷◌, ◌++◌, length, map, sym, ap, ◌∙◌}
-use Rattle.std.proofs.Common.{subst}
 use Rattle.std.specs.Prelude.{Contains, Some, get_or, nat_lt, unwrap_or}
 use Rattle.std.proofs.lemmas.Bool.{ltb-true}
 use Rattle.std.proofs.lemmas.Bool.Decides.{same_from_decides}
 use Rattle.std.proofs.lemmas.List.Elements.{Contains-get_or, filter_agree}
+use Rattle.suit_lists.proofs.Elements.{Contains-same}
 use Rattle.suit_lists.proofs.Firsts.{HasFirst}
 use Rattle.suit_cards.specs.Cards.{ClassLayout, Indices}
 use Rattle.suit_game.specs.declared.question.Question.{Question}
@@ -115,7 +115,7 @@ module _ (question : Question) (history : ClassHistory) (index : ℕ) (valid : I
             let parts =
             (kept_layouts question (history ++ move ∷ []) first valid).0
             (Contains-get_or kept 0 0 (ltb-true 0 (length kept) told)) in
-            subst (λ (l : List ClassMove). Contains l move)
+            Contains-same move
             (declarers_moves view (counts_at layouts first) (counts_at layouts index) own)
             ((allowed_moves question (counts_at layouts first) history move).0 parts.1).1,
         λ found. some_held kept index ((index_goes_on question history move index valid held).1 found),

@@ -1,6 +1,6 @@
 -- Declarer's best reply to a defence, told by the nodes of a tree.
 -- What is said of nodes here serves the contracts of private functions alone, as in AgainstPlan.
-use Rattle.std.specs.Prelude.{◌≡◌, ℕ, zero, suc, ◌-◌, ◌<◌, ◌^◌, Bool, List, [], ◌∷◌, ◌++◌, Option, Some, None, filter}
+use Rattle.std.specs.Prelude.{◌≡◌, ℕ, zero, suc, ◌-◌, ◌<◌, Bool, List, [], ◌∷◌, ◌++◌, Option, Some, None, filter}
 use Rattle.std.specs.Prelude.{length, map, ℤ, pos, ◌*ℤ◌, ◌≤ℤ◌, int_lt}
 use Rattle.suit_cards.specs.Cards.{ClassLayout}
 use Rattle.suit_game.specs.declared.question.Question.{Question}
@@ -16,6 +16,7 @@ use Rattle.suit_plans.specs.declared.defence.Defence.{Defence}
 use Rattle.suit_plans.specs.declared.defence.DefenceRow.{DefenceRow}
 use Rattle.suit_plans.specs.Masses.{defence_shares_at, defence_mass, share}
 use Rattle.suit_plans.specs.Properness.{IsProperDefence, sum_of}
+use Rattle.suit_plans.specs.declared.plan.TheConstants.{MOST_MASS}
 use Rattle.suit_tree.specs.declared.node.Node.{Node}
 use Rattle.suit_tree.specs.declared.tree.Tree.{Tree}
 use Rattle.suit_tree.specs.Nodes.{children_of, holds_index, move_of, payoff_at, turn_at}
@@ -63,7 +64,7 @@ pub record MostNode (layouts : List (ClassLayout × ℕ)) (rows : List DefenceRo
         defence_mass question defence (counts_at (class_layouts question (sizes_of question)) index) history,
       ))
       (allowing question history))
-  pub within : sum_of (map (λ (held : ℕ × ℤ). held.1) masses) ≤ℤ pos (2 ^ 114)
+  pub within : sum_of (map (λ (held : ℕ × ℤ). held.1) masses) ≤ℤ pos MOST_MASS
 
 -- ---- what is found
 

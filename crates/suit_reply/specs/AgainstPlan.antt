@@ -1,7 +1,7 @@
 -- The defence's best reply to a plan, told by the nodes of a tree.
 -- What is said of nodes here serves the contracts of private functions alone. The two calls of the crate answer the
 -- best replies of a question, which suit_plans defines over class histories; proofs/ ties the one to the other.
-use Rattle.std.specs.Prelude.{◌≡◌, ℕ, zero, suc, ◌-◌, ◌^◌, Bool, true, List, [], ◌∷◌, ◌++◌, Contains, filter, length}
+use Rattle.std.specs.Prelude.{◌≡◌, ℕ, zero, suc, ◌-◌, Bool, true, List, [], ◌∷◌, ◌++◌, Contains, filter, length}
 use Rattle.std.specs.Prelude.{map, if◌then◌else◌, ℤ, pos, ◌*ℤ◌, ◌≤ℤ◌}
 use Rattle.std.specs.Ordering.{int_eq}
 use Rattle.suit_game.specs.declared.question.Question.{Question}

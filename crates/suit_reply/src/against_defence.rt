@@ -1,5 +1,5 @@
 //! Declarer's best reply to a defence.
-ghost use Rattle.std.specs.Prelude.{◌≡◌, ◌*ℤ◌, ◌-◌, ◌<◌, ◌≤◌, ◌≤ℤ◌, ◌^◌, ◌++◌, ◌∷◌, []};
+ghost use Rattle.std.specs.Prelude.{◌≡◌, ◌*ℤ◌, ◌-◌, ◌<◌, ◌≤◌, ◌≤ℤ◌, ◌++◌, ◌∷◌, []};
 ghost use Rattle.std.specs.Prelude.{All, IfOk, OnOk, filter, get_or, length, map, pos};
 ghost use Rattle.std.specs.List.{range_with_len};
 ghost use Rattle.suit_plans.specs.BestReplies.{most, most_reply};
@@ -10,7 +10,7 @@ ghost use Rattle.suit_reply.specs.AgainstDefence.{IsDefenceFor, MostNode, is_liv
 ghost use Rattle.suit_reply.specs.AgainstDefence.{node_most, shared_masses};
 ghost use Rattle.suit_game.specs.declared.limits.TheConstants.{MOST_MOVES, MOST_TOTAL, HAND_SIZE};
 ghost use Rattle.suit_layouts.specs.declared.class_list.TheConstants.{MOST_CLASS_LAYOUTS};
-ghost use Rattle.suit_plans.specs.declared.plan.TheConstants.{MOST_DEN};
+ghost use Rattle.suit_plans.specs.declared.plan.TheConstants.{MOST_DEN, MOST_MASS};
 
 use super::chosen_move::ChosenMove;
 use super::node_moves::is_first_for;
@@ -229,7 +229,7 @@ fn weighed(weight: u64, den: i128) -> i128
 fn earned(payoff: u64, masses: &[(u8, i128)]) -> i128
     requires payoff { payoff ≤ HAND_SIZE }
     requires positive { All (λ held. pos 0 ≤ℤ held.1) masses.now }
-    requires within { sum_of (map (λ held. held.1) masses.now) ≤ℤ pos (2 ^ 114) }
+    requires within { sum_of (map (λ held. held.1) masses.now) ≤ℤ pos MOST_MASS }
     ensures { result ≡ sum_of (map (λ held. pos payoff *ℤ held.1) masses.now) }
 {
     let mut worth = 0;
@@ -242,7 +242,7 @@ fn earned(payoff: u64, masses: &[(u8, i128)]) -> i128
 // What a payoff is worth for a mass.
 fn paid(payoff: u64, mass: i128) -> i128
     requires payoff { payoff ≤ HAND_SIZE }
-    requires mass { (pos 0 ≤ℤ mass) × (mass ≤ℤ pos (2 ^ 114)) }
+    requires mass { (pos 0 ≤ℤ mass) × (mass ≤ℤ pos MOST_MASS) }
     ensures { result ≡ pos payoff *ℤ mass }
 {
     payoff as i128 * mass

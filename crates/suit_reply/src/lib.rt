@@ -13,6 +13,6 @@ mod turn_so_far;
 
 pub use against_defence::most;
 pub use against_plan::least;
-pub use on_threads::least_on;
+pub use on_threads::{MOST_CHUNKS, least_on};
 pub use suit_layouts::Memory;
 pub use suit_plans::{DeclarerMoves as DeclarerReply, DefenceMoves as DefenceReply};

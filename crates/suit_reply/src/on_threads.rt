@@ -16,12 +16,12 @@ use suit_layouts::ClassLayout;
 use suit_plans::{DefenceMoves, Plan};
 use suit_tree::Tree;
 
-// How many threads are to work at most.
-const MOST_CHUNKS: usize = 4;
+/// How many threads are to work at most.
+pub const MOST_CHUNKS: usize = 4;
 
 /// What `least` answers, found on several threads: each takes some of the class layouts, in chunks of one length,
-/// and enters the gate once before its other work. There are at most four chunks, and one for each class layout where
-/// there are no more of them.
+/// and enters the gate once before its other work. There are at most `MOST_CHUNKS` of them, and one for each class
+/// layout where there are no more class layouts.
 ///
 /// # Errors
 ///

@@ -1,5 +1,6 @@
 //! How a turn gathers what is found below its moves.
-ghost use Rattle.std.specs.Prelude.{◌≡◌, ◌+ℤ◌, ◌<◌, ◌^◌, IfOk, unsigned_abs};
+ghost use Rattle.std.specs.Prelude.{◌≡◌, ◌+ℤ◌, ◌<◌, ◌^◌, IfOk};
+ghost use Rattle.suit_num.specs.Narrow.{IsNarrow};
 ghost use Rattle.suit_reply.specs.declared.turn_rule.TurnRule.TheVariants.{Sum};
 ghost use Rattle.suit_reply.specs.Turns.{finished, gathered_none, joined, taken};
 
@@ -46,7 +47,7 @@ impl TurnSoFar {
         next: NodeReply,
     ) -> Result<TurnSoFar, AllocError>
         requires many { self.many < 2 ^ 63 }
-        requires sum { rule ≡ Sum → unsigned_abs (self.found.worth +ℤ next.worth) < 2 ^ 127 }
+        requires sum { rule ≡ Sum → IsNarrow (self.found.worth +ℤ next.worth) }
         ensures { IfOk result (λ so_far. so_far ≡ joined rule self mv next) }
     {
         match rule {
@@ -65,7 +66,7 @@ impl TurnSoFar {
     // Adds what is found below a move.
     fn add(self, mv: ClassMove, next: NodeReply) -> Result<TurnSoFar, AllocError>
         requires many { self.many < 2 ^ 63 }
-        requires sum { unsigned_abs (self.found.worth +ℤ next.worth) < 2 ^ 127 }
+        requires sum { IsNarrow (self.found.worth +ℤ next.worth) }
         ensures { IfOk result (λ so_far. so_far ≡ joined Sum self mv next) }
     {
         let worth = self.found.worth + next.worth;

@@ -2,10 +2,10 @@
 use Rattle.std.proofs.Common.{◌≡◌, ℕ, Bool, true, false, List, [], ◌∷◌, ◌++◌, length, map, refl, sym, ap, ◌∙◌}
 use Rattle.std.proofs.Common.{arith}
 use Rattle.std.specs.Prelude.{Contains, filter, if◌then◌else◌, pos, ◌≤ℤ◌, int_lt}
-use Rattle.std.proofs.lemmas.Bool.{and_parts, false_from_ne_true}
+use Rattle.std.proofs.lemmas.Bool.{and_parts}
 use Rattle.std.proofs.lemmas.List.{length-append}
 use Rattle.std.proofs.lemmas.Simd.{map-map}
-use Rattle.suit_lists.proofs.Filters.{Contains-filter, kept_parts}
+use Rattle.suit_lists.proofs.Filters.{Contains-filter, kept_parts, none_passing}
 use Rattle.suit_lists.proofs.Once.{once_filter, once_unless}
 use Rattle.suit_lists.proofs.Tests.{passing_some, some_passing}
 use Rattle.suit_cards.specs.Cards.{ClassLayout}
@@ -38,12 +38,6 @@ use Rattle.suit_reply.proofs.ChoicesAlongAReply.WalkOfAReply.{walked}
 use Rattle.suit_reply.proofs.OwnMovesGoOn.{layouts_of}
 use Rattle.suit_game.specs.declared.limits.TheConstants.{MOST_MOVES}
 
-none_passing : {X : Type 0} (test : X → Bool) (xs : List X) → ((x : X) → test x ≡ true → ⊥) → filter test xs ≡ []
-none_passing test [] none = refl
-none_passing {X} test (x ∷ xs) none =
-    ap (λ (b : Bool). if b then x ∷ filter test xs else filter test xs) (false_from_ne_true (test x) (none x))
-    ∙ none_passing test xs none
-
 -- ---- class layouts
 
 -- a class layout that is listed allows the histories that it is told to
@@ -61,7 +55,7 @@ unfolding some_allows
 none_longer question history move valid full some =
     let layout =
     some_passing (λ (other : ClassLayout × ℕ). allows question other.0 (history ++ move ∷ []))
-        (layouts_of question) some in
+    (layouts_of question) some in
     let short =
     class_histories_are_short question layout.0.0 (history ++ move ∷ [])
     (layout_allows question layout.0 (history ++ move ∷ []) valid layout.1 layout.2) in

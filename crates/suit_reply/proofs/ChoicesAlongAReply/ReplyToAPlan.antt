@@ -1,12 +1,12 @@
 -- least_reply_walked: the best reply to a plan in one class layout is what one finds walking along it.
 use Rattle.std.proofs.Common.{◌≡◌, ℕ, Bool, true, List, [], ◌∷◌, ◌++◌, length, map, sym, ap, ◌∙◌}
-use Rattle.std.proofs.Common.{subst, inl, inr, arith}
+use Rattle.std.proofs.Common.{inl, inr, arith}
 use Rattle.std.specs.Prelude.{Contains, if◌then◌else◌, ℤ, pos, ◌≤ℤ◌, int_lt}
 use Rattle.std.proofs.lemmas.Bool.{cases_Bool}
 use Rattle.std.proofs.lemmas.Int.{ints}
 use Rattle.std.proofs.lemmas.List.{length-append}
 use Rattle.std.proofs.lemmas.Simd.{map-map}
-use Rattle.suit_lists.proofs.Elements.{Contains-first}
+use Rattle.suit_lists.proofs.Elements.{Contains-first, Contains-same}
 use Rattle.suit_lists.proofs.Once.{once_unless}
 use Rattle.suit_cards.specs.Cards.{ClassLayout}
 use Rattle.suit_game.specs.declared.question.Question.{Question}
@@ -48,7 +48,7 @@ full_decided question counts history allows full = elim (cases_Bool (class_decid
       let moves : List ClassMove = class_moves (class_after question history) counts in
       let some = some_move question counts history allows going in
       let found : Contains moves some.first =
-      subst (λ (l : List ClassMove). Contains l some.first) (sym some.parts) (Contains-first some.first some.more) in
+      Contains-same some.first (sym some.parts) (Contains-first some.first some.more) in
       let short =
       class_histories_are_short question counts (history ++ some.first ∷ [])
       ((allowed_moves question counts history some.first).1 (allows, found)) in

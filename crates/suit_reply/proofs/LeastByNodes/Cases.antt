@@ -1,10 +1,10 @@
 -- case_next: the class histories that a class layout allows, where the defence replies to a plan.
 use Rattle.std.proofs.Common.{◌≡◌, ℕ, zero, suc, ◌-◌, Bool, List, [], ◌∷◌, ◌++◌, length, refl, sym, ap}
-use Rattle.std.proofs.Common.{◌∙◌, subst, inl, inr, arith}
+use Rattle.std.proofs.Common.{◌∙◌, inl, inr, arith}
 use Rattle.std.specs.Prelude.{Contains, if◌then◌else◌}
 use Rattle.std.proofs.lemmas.Bool.{cases_Bool}
 use Rattle.std.proofs.lemmas.List.{length-append}
-use Rattle.suit_lists.proofs.Elements.{Contains-first}
+use Rattle.suit_lists.proofs.Elements.{Contains-first, Contains-same}
 use Rattle.suit_cards.specs.Cards.{ClassLayout}
 use Rattle.suit_game.specs.declared.question.Question.{Question}
 use Rattle.suit_game.specs.Validity.{IsValid}
@@ -72,7 +72,7 @@ module _ (question : Question) (plan : Plan) (index : ℕ) where
       let counts : ClassLayout = layout_counts question index in
       let allowed : Allows question counts history = case_allows 0 history is in
       let found : Contains (class_moves (class_after question history) counts) move =
-      subst (λ (l : List ClassMove). Contains l move) (sym some) (Contains-first move moves) in
+      Contains-same move (sym some) (Contains-first move moves) in
       omega (
         arith,
         is.left,

@@ -1,13 +1,15 @@
 -- goes_sum: what a turn of declarer's has gathered stays within thirteen tricks of the plan's mass.
-use Rattle.std.proofs.Common.{◌≡◌, ℕ, suc, ◌+◌, ◌*◌, ◌-◌, ◌<◌, ◌≤◌, Bool, true, false, List, [], ◌∷◌, ◌++◌, length, map}
+use Rattle.std.proofs.Common.{◌≡◌, ℕ, suc, ◌+◌, ◌-◌, ◌≤◌, Bool, true, false, List, [], ◌∷◌, ◌++◌, length, map}
 use Rattle.std.proofs.Common.{take, refl, sym, ap, ◌∙◌, subst, arith}
-use Rattle.std.specs.Prelude.{Contains, FitsSigned, ◌^◌, if◌then◌else◌, ℤ, pos, ◌+ℤ◌, ◌*ℤ◌, ◌≤ℤ◌, unsigned_abs}
+use Rattle.std.specs.Prelude.{FitsSigned, if◌then◌else◌, ℤ, pos, ◌+ℤ◌, ◌*ℤ◌, ◌≤ℤ◌, unsigned_abs}
 use Rattle.std.proofs.lemmas.Bool.{false≢true}
 use Rattle.std.proofs.lemmas.Int.{fits_signed_mul, ints}
 use Rattle.std.specs.Int.{w128}
 use Rattle.std.proofs.lemmas.List.{take-map}
 use Rattle.std.proofs.Math.IntN.{*ℤ_comm}
+use Rattle.suit_lists.proofs.Elements.{Contains-same}
 use Rattle.suit_num.proofs.IntegerLaws.{le-mul_right}
+use Rattle.suit_num.specs.Narrow.{IsNarrow}
 use Rattle.suit_game.specs.declared.question.Question.{Question}
 use Rattle.suit_classes.specs.declared.class_moves.ClassMove.{ClassMove}
 use Rattle.suit_classes.specs.declared.class_turn.ClassTurn.{ClassTurn}
@@ -47,15 +49,15 @@ use Rattle.suit_plans.specs.declared.plan.TheConstants.{MOST_DEN}
 
 -- thirteen tricks of a mass that is within its bounds
 paid_within : (mass worth : ℤ) → IsPaid mass worth → mass ≤ℤ MOST_DEN
-    → (pos 0 ≤ℤ worth) × (worth ≤ℤ pos (13 * 2 ^ 90))
+    → (pos 0 ≤ℤ worth) × (worth ≤ℤ (MOST_DEN *ℤ pos HAND_SIZE))
 paid_within mass worth paid within =
-    let most : (mass *ℤ pos 13) ≤ℤ (MOST_DEN *ℤ pos 13) =
-    le-mul_right mass (MOST_DEN) (pos 13) within (omega (arith, ints)) in
-    let all : (pos 13 *ℤ mass) ≤ℤ pos (13 * 2 ^ 90) =
-    subst (λ (z : ℤ). z ≤ℤ pos (13 * 2 ^ 90)) (*ℤ_comm mass (pos 13)) most in
+    let most : (mass *ℤ pos HAND_SIZE) ≤ℤ (MOST_DEN *ℤ pos HAND_SIZE) =
+    le-mul_right mass (MOST_DEN) (pos HAND_SIZE) within (omega (arith, ints)) in
+    let all : (pos HAND_SIZE *ℤ mass) ≤ℤ (MOST_DEN *ℤ pos HAND_SIZE) =
+    subst (λ (z : ℤ). z ≤ℤ (MOST_DEN *ℤ pos HAND_SIZE)) (*ℤ_comm mass (pos HAND_SIZE)) most in
     (paid.some, omega (arith, ints, paid.few, all))
 
-fits_within : (worth : ℤ) → pos 0 ≤ℤ worth → worth ≤ℤ pos (13 * 2 ^ 90) → unsigned_abs worth < 2 ^ 127
+fits_within : (worth : ℤ) → pos 0 ≤ℤ worth → worth ≤ℤ (MOST_DEN *ℤ pos HAND_SIZE) → IsNarrow worth
 fits_within worth some most = omega (arith, ints, some, most)
 
 own_turn : (turn : ClassTurn) (rule : TurnRule) → Gathers turn rule → rule ≡ Sum → is_defences turn ≡ true → ⊥
@@ -85,7 +87,7 @@ module _ (question : Question) (plan : Plan) (index : ℕ) where
       (λ move part node found below alike.
       least_by_nodes question plan index more (history ++ move ∷ []) part node
       (case_next question plan index more history move is found) below alike)
-      other child (subst (λ (l : List ClassMove). Contains l other) on found)
+      other child (Contains-same other on found)
       (shared_mass question plan index more history mass node other is stands fit same going
       (Declarers going own not_theirs)) below)
       ∙ ap (results_of (found_next more reply history)) on
@@ -137,7 +139,7 @@ pub goes_sum : (rule : TurnRule) (rows : List Row) (index : ℕ) (history : Clas
     (so_far : TurnView) (found : NodeReplyView) → Goes rule rows index history mass node i child move part
     → so_far ≡ first_gathered rule rows index history mass node (children_of node) i
     → found ≡ (child_found (MOST_MOVES - length history - 1) rows index history mass node child).1
-    → rule ≡ Sum → unsigned_abs (so_far.found.worth +ℤ found.worth) < 2 ^ 127
+    → rule ≡ Sum → IsNarrow (so_far.found.worth +ℤ found.worth)
 goes_sum rule rows index history mass node i child move part so_far found on was told sum =
     let is = on.is in
     let question : Question = is.question in
@@ -199,7 +201,7 @@ module _ (rows : List Row) (index : ℕ) (history : ClassHistory) (mass : ℤ) (
   earned_fits payoff earned =
       let some : pos 0 ≤ℤ mass = mass_positive in
       let most : mass ≤ℤ MOST_DEN = is.within in
-      let small : unsigned_abs mass ≤ 2 ^ 90 = omega (arith, ints, some, most) in
+      let small : unsigned_abs mass ≤ unsigned_abs MOST_DEN = omega (arith, ints, some, most) in
       let few : payoff ≤ HAND_SIZE = omega (arith, earned, payoff_few) in
       let tricks : unsigned_abs (pos payoff) ≤ HAND_SIZE = omega (arith, ints, few) in
-      fits_signed_mul w128 (pos payoff) mass 13 (2 ^ 90) tricks small (omega arith)
+      fits_signed_mul w128 (pos payoff) mass HAND_SIZE (unsigned_abs MOST_DEN) tricks small (omega arith)

@@ -1,10 +1,12 @@
 -- sum_first: the masses of the empty history, and what they add up to.
-use Rattle.std.proofs.Common.{◌≡◌, ℕ, ◌<◌, List, [], ◌∷◌, length, map, refl, sym, ap, ◌∙◌, subst, arith}
+use Rattle.std.proofs.Common.{◌≡◌, ℕ, ◌<◌, List, [], ◌∷◌, length, map, refl, sym, ap, ◌∙◌, arith}
 use Rattle.std.specs.Prelude.{Contains, sum_by, ℤ, pos, ◌*ℤ◌}
 use Rattle.std.proofs.lemmas.List.Elements.{Contains-get_or}
 use Rattle.std.proofs.lemmas.List.FromFn.{length-range_with_len}
 use Rattle.std.proofs.lemmas.Simd.{map-map}
+use Rattle.suit_lists.proofs.Elements.{Contains-same}
 use Rattle.suit_lists.proofs.Maps.{map_same}
+use Rattle.suit_lists.proofs.Walks.{by_indices}
 use Rattle.suit_cards.specs.Cards.{ClassLayout, Indices}
 use Rattle.suit_game.specs.declared.question.Question.{Question}
 use Rattle.suit_game.specs.Layouts.{total as all_weights}
@@ -21,7 +23,7 @@ use Rattle.suit_tree.specs.Trees.{layout_indices}
 use Rattle.suit_tree.proofs.OneNodeAtEachPath.{kept_layouts}
 use Rattle.suit_tree.proofs.GrownIsCounted.{allowing_first}
 use Rattle.suit_reply.specs.LayoutsReplies.{layout_at}
-use Rattle.suit_reply.proofs.MostByNodes.WhichLayoutsAllow.{by_indices, mass_at}
+use Rattle.suit_reply.proofs.MostByNodes.WhichLayoutsAllow.{mass_at}
 use Rattle.suit_reply.proofs.MostIsBounded.{mass_sum, sum_all}
 use Rattle.suit_reply.proofs.MostByNodes.Cases.{MostCase}
 use Rattle.suit_reply.proofs.OwnMovesGoOn.{layout_counts, layouts_of}
@@ -37,7 +39,7 @@ index_weighs question index valid found =
     let layout : ClassLayout × ℕ = layout_at question index in
     let below : index < length layouts =
     ((kept_layouts question [] index valid).0
-    (subst (λ (l : Indices). Contains l index) (sym (allowing_first question)) found)).0 in
+    (Contains-same index (sym (allowing_first question)) found)).0 in
     let exact =
     (class_layouts_exact question (defence_sizes (hands_of question)) layout.0 layout.1
     (sum-defence_sizes (hands_of question))).0 (Contains-get_or layouts index ([], 0) below) in

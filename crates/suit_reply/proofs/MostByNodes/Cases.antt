@@ -1,11 +1,11 @@
 -- most_next, most_empty: the class histories that some class layout allows, where declarer replies to a defence.
 use Rattle.std.proofs.Common.{◌≡◌, ℕ, zero, suc, ◌-◌, ◌<◌, Bool, true, false, List, [], ◌∷◌, ◌++◌, length, refl, sym}
-use Rattle.std.proofs.Common.{ap, ◌∙◌, subst, inl, inr, arith}
+use Rattle.std.proofs.Common.{ap, ◌∙◌, inl, inr, arith}
 use Rattle.std.specs.Prelude.{Contains, filter, get_or, nat_lt, if◌then◌else◌, ℤ, pos, ◌≤ℤ◌}
 use Rattle.std.proofs.lemmas.Bool.{cases_Bool, lt-ltb}
 use Rattle.std.proofs.lemmas.List.{length-append}
 use Rattle.std.proofs.lemmas.List.Elements.{All-contains, All-contains_itself, All-filter, Contains-get_or}
-use Rattle.suit_lists.proofs.Elements.{Contains-first, Contains-nil}
+use Rattle.suit_lists.proofs.Elements.{Contains-first, Contains-nil, Contains-same, some_of}
 use Rattle.suit_lists.proofs.Maps.{Contains-map_from}
 use Rattle.suit_cards.specs.Cards.{ClassLayout, Indices}
 use Rattle.suit_game.specs.declared.question.Question.{Question}
@@ -25,7 +25,7 @@ use Rattle.suit_plans.specs.declared.defence.Defence.{Defence}
 use Rattle.suit_plans.proofs.MassBounds.{mass_falls}
 use Rattle.suit_classes.proofs.UndecidedHasAMove.{some_move}
 use Rattle.suit_tree.specs.Trees.{allowing, counts_at, layout_indices, moves_on}
-use Rattle.suit_tree.proofs.OneNodeAtEachPath.{kept_layouts, some_of}
+use Rattle.suit_tree.proofs.OneNodeAtEachPath.{kept_layouts}
 use Rattle.suit_tree.proofs.MovesOn.{Contains-moves_on, moves_on-parts}
 use Rattle.suit_reply.specs.NodeReplies.{nothing}
 use Rattle.suit_reply.proofs.MostByNodes.WhichLayoutsAllow.{allowing_at, live_at, mass_at, reply_goes_on, some_allows_at}
@@ -142,7 +142,7 @@ module _ (question : Question) (defence : Defence) where
       let counts : ClassLayout = layout_counts question index in
       let first = some_move question counts history (index_allows question history index is.valid at.1) going in
       let found : Contains (class_moves (class_after question history) counts) first.first =
-      subst (λ (l : List ClassMove). Contains l first.first) (sym first.parts)
+      Contains-same first.first (sym first.parts)
       (Contains-first first.first first.more) in
       (first.first, index, (index_goes_on question history first.first index is.valid at.1).1 found)
 
@@ -151,7 +151,7 @@ module _ (question : Question) (defence : Defence) where
       → moves_on question history ≡ [] → ⊥
   some_on more history is going none =
       let next = going_index more history is going in
-      Contains-nil next.0 (subst (λ (l : List ClassMove). Contains l next.0) none
+      Contains-nil next.0 (Contains-same next.0 none
       (Contains-moves_on question history next.0 going
       (some_of (allowing question (history ++ next.0 ∷ [])) next.1 next.2)))
 
@@ -215,7 +215,7 @@ module _ (question : Question) (defence : Defence) where
       (some_allows_at question history ∙ lt-ltb 0 (length indices) is.some)
       (λ layout found.
       let from = Contains-map_from (layout_at question) indices layout
-      (subst (λ (l : List (ClassLayout × ℕ)). Contains l layout) (allowing_at question history) found) in
+      (Contains-same layout (allowing_at question history) found) in
       ap (λ (other : ClassLayout × ℕ). defence_mass question defence other.0 history) (sym from.2) ∙ none from.0 from.1)
 
   -- where no mass is above 0 the reply is worth nothing and has no choices

@@ -5,11 +5,12 @@ use Rattle.std.specs.Prelude.{Contains, filter, nat_lt, ℤ, pos, ◌+ℤ◌, �
 use Rattle.std.specs.List.{list_any}
 use Rattle.std.proofs.lemmas.Int.{ints}
 use Rattle.suit_lists.proofs.Elements.{Contains-cons_cases, Contains-first, Contains-later, Contains-nil}
+use Rattle.suit_lists.proofs.Filters.{any_kept}
 use Rattle.suit_lists.proofs.Maps.{map_same}
+use Rattle.suit_lists.proofs.Tests.{any_of_map}
 use Rattle.suit_cards.specs.Cards.{Indices}
 use Rattle.suit_plans.specs.Properness.{sum_of}
 use Rattle.suit_reply.specs.AgainstDefence.{LayoutMasses, is_live}
-use Rattle.suit_reply.proofs.MostByNodes.WhichLayoutsAllow.{any_kept, any_of_map}
 
 -- an index with the mass there
 abbrev pub held_at : (ℕ → ℤ) → ℕ → ℕ × ℤ

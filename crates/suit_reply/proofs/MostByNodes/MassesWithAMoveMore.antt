@@ -1,10 +1,11 @@
 -- masses_stay, masses_pass: what the masses of a class history become with a move more.
-use Rattle.std.proofs.Common.{◌≡◌, ℕ, suc, Bool, true, false, List, [], ◌∷◌, ◌++◌, map, refl, sym, ap, ◌∙◌, subst}
+use Rattle.std.proofs.Common.{◌≡◌, ℕ, suc, Bool, true, false, List, [], ◌∷◌, ◌++◌, map, refl, sym, ap, ◌∙◌}
 use Rattle.std.proofs.Common.{arith}
 use Rattle.std.specs.Prelude.{Contains, filter, get_or, int_lt, pos, unwrap_or, ℤ, ◌&&◌, ◌≤ℤ◌}
 use Rattle.std.proofs.lemmas.Int.{ints}
 use Rattle.std.proofs.lemmas.List.{map-id}
 use Rattle.std.proofs.lemmas.List.Elements.{Contains-get_or, filter_agree}
+use Rattle.suit_lists.proofs.Elements.{Contains-same}
 use Rattle.suit_cards.specs.Cards.{ClassLayout, Indices}
 use Rattle.suit_game.specs.declared.question.Question.{Question}
 use Rattle.suit_game.specs.Validity.{IsValid}
@@ -68,7 +69,7 @@ all_allow question history move valid own found =
     let goes = (index_before question history move (get_or kept 0 0) valid some).1 in
     let among : (index : ℕ) → is_among (class_moves view (counts_at layouts index)) move ≡ true =
     λ index. among_contained (class_moves view (counts_at layouts index)) move
-    (subst (λ (l : List ClassMove). Contains l move)
+    (Contains-same move
     (declarers_moves view (layout_counts question (get_or kept 0 0)) (counts_at layouts index) own) goes) in
     filter_agree (λ index. allows question (counts_at layouts index) (history ++ move ∷ []))
     (λ index. allows question (counts_at layouts index) history)

@@ -1,13 +1,14 @@
 -- allowing_at: the class layouts that allow a class history, told by their indices.
-use Rattle.std.proofs.Common.{◌≡◌, ℕ, zero, suc, ◌+◌, ◌≤◌, Bool, true, false, cond, List, [], ◌∷◌, ◌++◌, length, map}
-use Rattle.std.proofs.Common.{refl, sym, ap, ◌∙◌, arith}
-use Rattle.std.specs.Prelude.{filter, get_or, nat_lt, ◌||◌, if◌then◌else◌, ℤ, pos, ◌*ℤ◌, int_lt}
-use Rattle.std.specs.List.{list_any, range_with_len}
-use Rattle.std.proofs.lemmas.Bool.{lt-ltb}
+use Rattle.std.proofs.Common.{◌≡◌, ℕ, ◌≤◌, Bool, List, [], ◌∷◌, ◌++◌, length, map}
+use Rattle.std.proofs.Common.{sym, ap, ◌∙◌}
+use Rattle.std.specs.Prelude.{filter, nat_lt, if◌then◌else◌, ℤ, pos, ◌*ℤ◌, int_lt}
+use Rattle.std.specs.List.{list_any}
 use Rattle.std.proofs.lemmas.List.{length-map}
 use Rattle.std.proofs.lemmas.List.Elements.{filter_agree}
 use Rattle.std.proofs.lemmas.Simd.{map-map}
-use Rattle.suit_lists.proofs.Filters.{filter_of_map}
+use Rattle.suit_lists.proofs.Filters.{any_kept, filter_of_map}
+use Rattle.suit_lists.proofs.Tests.{any_of_map}
+use Rattle.suit_lists.proofs.Walks.{by_indices}
 use Rattle.suit_cards.specs.Cards.{ClassLayout}
 use Rattle.suit_game.specs.declared.question.Question.{Question}
 use Rattle.suit_classes.specs.declared.class_moves.ClassMove.{ClassMove}
@@ -17,6 +18,7 @@ use Rattle.suit_classes.specs.Classes.{defence_sizes, hands_of}
 use Rattle.suit_classes.proofs.DefenceSizes.{defence_sizes-some, length-defence_sizes, sum-defence_sizes}
 use Rattle.suit_classes.specs.ClassMoves.{ClassHistory}
 use Rattle.suit_layouts.proofs.FewCounts.{class_layouts_few}
+use Rattle.suit_layouts.specs.declared.class_list.TheConstants.{MOST_CLASS_LAYOUTS}
 use Rattle.suit_plans.specs.BestReplies.{allowing_layouts, reply_to_defence}
 use Rattle.suit_plans.specs.Masses.{defence_mass}
 use Rattle.suit_plans.specs.Properness.{some_allows, sum_of}
@@ -25,42 +27,10 @@ use Rattle.suit_tree.specs.Trees.{allowing, layout_indices, moves_on}
 use Rattle.suit_reply.specs.LayoutsReplies.{layout_at}
 use Rattle.suit_reply.proofs.OwnMovesGoOn.{layout_counts, layouts_of}
 
--- ---- lists
-
--- whether an image passes a test
-pub any_of_map : {X Y : Type 0} (p : Y → Bool) (f : X → Y) (xs : List X)
-    → list_any p (map f xs) ≡ list_any (λ x. p (f x)) xs
-any_of_map p f [] = refl
-any_of_map p f (x ∷ xs) = ap (λ (b : Bool). p (f x) || b) (any_of_map p f xs)
-
--- something passes a test exactly where the test keeps something
-pub any_kept : {X : Type 0} (p : X → Bool) (xs : List X) → list_any p xs ≡ nat_lt 0 (length (filter p xs))
-any_kept p [] = refl
-any_kept {X} p (x ∷ xs) = ap (λ (b : Bool). p x || b) (any_kept p xs) ∙ either (p x)
-  where
-    either : (b : Bool) → (b || nat_lt 0 (length (filter p xs))) ≡ nat_lt 0
-        (length (cond b (x ∷ filter p xs) (filter p xs)))
-    either true = sym (lt-ltb 0 (suc (length (filter p xs))) (omega arith))
-    either false = refl
-
--- a list is what stands at its indices
-pub by_indices : {X : Type 0} (xs : List X) (d : X)
-    → map (λ index. get_or xs index d) (range_with_len 0 (length xs)) ≡ xs
-by_indices [] d = refl
-by_indices {X} (x ∷ xs) d =
-    ap (λ (l : List X). x ∷ l) (shifted (λ index. get_or (x ∷ xs) index d) 0 (length xs) ∙ by_indices xs d)
-  where
-    shifted : (g : ℕ → X) (a n : ℕ) → map g (range_with_len (a + 1) n) ≡ map (λ k. g (suc k)) (range_with_len a n)
-    shifted g a zero = refl
-    shifted g a (suc n) =
-        let next : a + 1 ≡ suc a = omega arith in
-        ap (λ (l : List X). g (a + 1) ∷ l) (shifted g (a + 1) n)
-        ∙ ap (λ (k : ℕ). g k ∷ map (λ j. g (suc j)) (range_with_len (a + 1) n)) next
-
 -- ---- class layouts
 
 -- a question has few class layouts
-pub layouts_few : (question : Question) → length (layouts_of question) ≤ 162
+pub layouts_few : (question : Question) → length (layouts_of question) ≤ MOST_CLASS_LAYOUTS
 layouts_few question =
     let hands = hands_of question in
     class_layouts_few question (defence_sizes hands)

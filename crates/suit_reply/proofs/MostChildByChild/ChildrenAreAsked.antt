@@ -1,7 +1,7 @@
 -- asked_below: what a node is asked for, where declarer replies to a defence, its children are asked for.
 use Rattle.std.proofs.Common.{◌≡◌, ℕ, zero, suc, ◌-◌, ◌<◌, ◌≤◌, All, true, List, [], ◌∷◌, ◌++◌, Some, None, length}
 use Rattle.std.proofs.Common.{get_or, map, refl, sym, ap, ◌∙◌, subst, arith}
-use Rattle.std.specs.Prelude.{Contains, filter, pos, unwrap_or, ℤ, ◌^◌, ◌≤ℤ◌}
+use Rattle.std.specs.Prelude.{Contains, filter, pos, unwrap_or, ℤ, ◌≤ℤ◌}
 use Rattle.std.proofs.lemmas.Bool.{false≢true}
 use Rattle.std.proofs.lemmas.List.{length-append}
 use Rattle.std.proofs.lemmas.List.Elements.{All-contains_itself, All-filter, All-map, All-same, All-weaker}
@@ -18,6 +18,7 @@ use Rattle.suit_plans.specs.Masses.{is_declarers, is_defences}
 use Rattle.suit_plans.specs.Orders.{InOrder, defence_row_before}
 use Rattle.suit_plans.specs.Properness.{sum_of}
 use Rattle.suit_plans.specs.declared.defence.DefenceRow.{DefenceRow}
+use Rattle.suit_plans.specs.declared.plan.TheConstants.{MOST_MASS}
 use Rattle.suit_plans.proofs.ProperDefences.{defences_are_realised}
 use Rattle.suit_plans.proofs.ProperOrders.{defence_in_order}
 use Rattle.suit_tree.specs.declared.node.Node.{Node}
@@ -231,10 +232,10 @@ module _ (layouts : List (ClassLayout × ℕ)) (rows : List DefenceRow) (history
         some = next.some;
         tree = subst (λ (more : ℕ). IsTreeAt more is.question (history ++ move ∷ []) child) next.left at.2.1;
         are_masses = same;
-        within = subst (λ (part : LayoutMasses). sum part ≤ℤ pos (2 ^ 114)) (sym same)
+        within = subst (λ (part : LayoutMasses). sum part ≤ℤ pos MOST_MASS) (sym same)
             (le_through (mass_sum is.question is.defence (history ++ move ∷ []))
-            (mass_sum is.question is.defence history) (pos (2 ^ 114)) falls
-            (subst (λ (part : LayoutMasses). sum part ≤ℤ pos (2 ^ 114)) is.are_masses is.within));
+            (mass_sum is.question is.defence history) (pos MOST_MASS) falls
+            (subst (λ (part : LayoutMasses). sum part ≤ℤ pos MOST_MASS) is.are_masses is.within));
       })
 
   -- a node below is asked for the reply after the step to it

@@ -1,9 +1,10 @@
-use Rattle.std.proofs.Common.{◌≡◌, ◌∙◌, ◌*ℤ◌, ◌+ℤ◌, ◌≤ℤ◌, ◌<◌, ◌+◌, ◌^◌, ℕ, ℤ, get_or, length, map, take, sym, ap}
+use Rattle.std.proofs.Common.{◌≡◌, ◌∙◌, ◌*ℤ◌, ◌+ℤ◌, ◌≤ℤ◌, ◌<◌, ◌+◌, ℕ, ℤ, get_or, length, map, take, sym, ap}
 use Rattle.std.proofs.Common.{refl, pos, rules, subst, SFits}
 use Rattle.std.specs.Int.{w128}
 use Rattle.std.proofs.lemmas.Int.{to_z-of_z}
 use Rattle.std.proofs.lemmas.List.{take_all}
 use Rattle.suit_plans.specs.Properness.{sum_of}
+use Rattle.suit_plans.specs.declared.plan.TheConstants.{MOST_MASS}
 use Rattle.suit_reply.proofs.MostChildByChild.SumsStayBounded.{bounded_fits, first_earned, one_mass}
 use Rattle.suit_reply.proofs.against_defence.earned.Goals as goal
 use Rattle.suit_reply.specs.AgainstDefence.{LayoutMasses}
@@ -17,8 +18,8 @@ pub paid-worth-requires-clause-mass : goal.paid-worth-requires-clause-mass
 paid-worth-requires-clause-mass c =
     let mass = (get_or c.args.masses.now c.loop-held.held-index (0, pos 0)).1 in
     let fits : SFits w128 mass = search rules in
-    subst (λ (z : ℤ). (pos 0 ≤ℤ z) × (z ≤ℤ pos (2 ^ 114))) (sym (to_z-of_z w128 mass fits))
-    (one_mass c.args.masses.now c.loop-held.held-index (0, pos 0) (pos (2 ^ 114)) c.requires.positive c.requires.within
+    subst (λ (z : ℤ). (pos 0 ≤ℤ z) × (z ≤ℤ pos MOST_MASS)) (sym (to_z-of_z w128 mass fits))
+    (one_mass c.args.masses.now c.loop-held.held-index (0, pos 0) (pos MOST_MASS) c.requires.positive c.requires.within
     c.loop-held-test.true)
 
 added : (payoff : ℕ) (masses : LayoutMasses) (i : ℕ) (worth more : ℤ) → i < length masses

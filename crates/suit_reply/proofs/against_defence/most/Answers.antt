@@ -1,5 +1,5 @@
 use Rattle.std.proofs.Common.{◌≡◌, ◌∙◌, ◌≤◌, ℕ, ℤ, All, List, [], length, map, pos, sym, ap, subst, rules, SFits}
-use Rattle.std.specs.Prelude.{◌≤ℤ◌, ◌^◌}
+use Rattle.std.specs.Prelude.{◌≤ℤ◌}
 use Rattle.std.specs.Int.{w128}
 use Rattle.std.proofs.lemmas.Int.{to_z-of_z}
 use Rattle.suit_cards.specs.Cards.{ClassLayout}
@@ -13,7 +13,8 @@ use Rattle.suit_reply.proofs.MostByNodes.WhichLayoutsAllow.{layouts_few}
 use Rattle.suit_reply.proofs.MostAtTheRoot.{den_within, layouts_weigh, root_asked, root_told, weighed_masses}
 use Rattle.suit_reply.proofs.ChoicesAlongAReply.ReplyToADefence.{most_reply_walked}
 use Rattle.suit_reply.proofs.against_defence.most.Goals as goal
-use Rattle.suit_game.specs.declared.limits.TheConstants.{MOST_MOVES}
+use Rattle.suit_game.specs.declared.limits.TheConstants.{MOST_MOVES, MOST_TOTAL}
+use Rattle.suit_layouts.specs.declared.class_list.TheConstants.{MOST_CLASS_LAYOUTS}
 use Rattle.suit_plans.specs.declared.plan.TheConstants.{MOST_DEN}
 
 pub whole_masses-requires : goal.whole_masses-requires
@@ -22,9 +23,9 @@ whole_masses-requires c =
     let listed = c.layouts.ensures ∙ is.grown.layouts in
     let den : SFits w128 c.args.defence.now.den = search rules in
     record {
-      few = subst (λ (l : List (ClassLayout × ℕ)). length l ≤ 162) (sym listed) (layouts_few is.question);
+      few = subst (λ (l : List (ClassLayout × ℕ)). length l ≤ MOST_CLASS_LAYOUTS) (sym listed) (layouts_few is.question);
       weights =
-          subst (λ (l : List (ClassLayout × ℕ)). All (λ layout. layout.1 ≤ 10400600) l) (sym listed)
+          subst (λ (l : List (ClassLayout × ℕ)). All (λ layout. layout.1 ≤ MOST_TOTAL) l) (sym listed)
           (layouts_weigh is.question is.valid);
       den = subst (λ (z : ℤ). (pos 1 ≤ℤ z) × (z ≤ℤ MOST_DEN)) (sym (to_z-of_z w128 c.args.defence.now.den den))
           (den_within is.question c.args.defence.now is.proper);

@@ -1,8 +1,8 @@
 use Rattle.std.proofs.Common.{◌∙◌, ◌++◌, List, map, sym, ap}
 use Rattle.std.proofs.lemmas.List.{append-nil, nil_from_length}
+use Rattle.suit_lists.proofs.Maps.{one_mapped}
 use Rattle.suit_plans.specs.declared.moves.DeclarerMove.{DeclarerMove}
 use Rattle.suit_reply.specs.declared.chosen_move.ChosenMove.{ChosenMove}
-use Rattle.suit_reply.proofs.WhatIsStillToCome.{one_mapped}
 use Rattle.suit_reply.proofs.against_defence.moves_of.Goals as goal
 
 abbrev named : ChosenMove → DeclarerMove

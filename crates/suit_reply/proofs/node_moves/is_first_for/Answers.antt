@@ -1,10 +1,11 @@
 use Rattle.std.proofs.Common.{◌∙◌, sym, ap, List}
+use Rattle.suit_lists.proofs.Indices.{at_itself}
+use Rattle.suit_lists.proofs.Walks.{kept_end, kept_on, kept_past}
 use Rattle.suit_tree.specs.declared.node.Node.{Node}
 use Rattle.suit_reply.specs.NodeMoves.{is_first_of}
 use Rattle.suit_tree.specs.Nodes.{holds_index, move_of}
 use Rattle.suit_classes.specs.ClassMoves.{same_class_move}
-use Rattle.suit_reply.proofs.NodesAt.{at_itself, no_node, node_at}
-use Rattle.suit_reply.proofs.WhatIsStillToCome.{kept_end, kept_on, kept_past}
+use Rattle.suit_reply.proofs.NodesAt.{no_node, node_at}
 use Rattle.suit_reply.proofs.node_moves.is_first_for.Goals as goal
 
 pub returns-then-holds : goal.returns-then-holds

@@ -3,10 +3,11 @@ use Rattle.std.proofs.Common.{◌+ℤ◌, to_z, of_z, append-nil, append_assoc, 
 use Rattle.std.specs.Int.{w128}
 use Rattle.std.proofs.lemmas.Int.{to_z-of_z}
 use Rattle.std.proofs.lemmas.List.{length-append, nil_from_length}
+use Rattle.suit_lists.proofs.Basics.{next_inside}
 use Rattle.suit_plans.specs.declared.moves.DefenceMove.{DefenceMove}
 use Rattle.suit_reply.specs.AgainstPlan.{IsPlanFor}
 use Rattle.suit_reply.specs.LayoutsReplies.{IsReplyIn}
-use Rattle.suit_reply.proofs.LeastChunkByChunk.{all_chunks, chunk_fits, chunk_more, next_inside, next_told}
+use Rattle.suit_reply.proofs.LeastChunkByChunk.{all_chunks, chunk_fits, chunk_more, next_told}
 use Rattle.suit_reply.proofs.OwnMovesGoOn.{layouts_of}
 use Rattle.suit_reply.proofs.LeastLayoutByLayout.{all_moves, all_numbers, none_so_far}
 use Rattle.suit_reply.proofs.on_threads.least_on.Goals as goal

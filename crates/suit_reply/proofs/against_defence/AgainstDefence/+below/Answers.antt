@@ -4,6 +4,8 @@ use Rattle.std.specs.Prelude.{IfOk}
 use Rattle.std.specs.Int.{w128}
 use Rattle.std.proofs.lemmas.Int.{to_z-of_z}
 use Rattle.std.proofs.lemmas.List.{take_all}
+use Rattle.suit_lists.proofs.Indices.{at_itself}
+use Rattle.suit_lists.proofs.Walks.{one_off}
 use Rattle.suit_classes.specs.ClassMoves.{ClassHistory}
 use Rattle.suit_plans.specs.Properness.{sum_of}
 use Rattle.suit_tree.specs.declared.node.Node.{Node}
@@ -11,11 +13,10 @@ use Rattle.suit_tree.specs.Nodes.{children_of, move_of, turn_at}
 use Rattle.suit_reply.specs.NodeReplies.{NodeReplyView}
 use Rattle.suit_reply.specs.Turns.{TurnView, finished, gathered}
 use Rattle.suit_reply.specs.AgainstDefence.{most_gathers, shared_masses}
-use Rattle.suit_reply.proofs.NodesAt.{at_itself, no_node, node_at}
+use Rattle.suit_reply.proofs.NodesAt.{no_node, node_at}
 use Rattle.suit_reply.proofs.MostChildByChild.ChildrenAreAsked.{asked_below, node_order, node_payoff, node_indices, node_positive}
 use Rattle.suit_reply.proofs.MostChildByChild.ChildrenAreAsked.{room_falls, step_from}
 use Rattle.suit_reply.proofs.WorthAtATurn.SumOrBest.{found_with, joined_many}
-use Rattle.suit_reply.proofs.WhatIsStillToCome.{one_off}
 use Rattle.suit_reply.proofs.MostChildByChild.{joined_is, sum_fits, tells_earned, tells_gathered, tells_none, told_at}
 use Rattle.suit_reply.proofs.against_defence.AgainstDefence.+below.Goals as goal
 

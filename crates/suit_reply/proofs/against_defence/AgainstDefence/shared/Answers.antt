@@ -3,9 +3,9 @@ use Rattle.std.proofs.Common.{to_z, of_z}
 use Rattle.std.specs.Int.{w128}
 use Rattle.std.proofs.lemmas.Int.{to_z-of_z}
 use Rattle.std.proofs.lemmas.List.{append-nil}
+use Rattle.suit_lists.proofs.Walks.{kept_end, kept_past, one_kept}
 use Rattle.suit_tree.specs.Nodes.{children_of, holds_index, move_of}
 use Rattle.suit_reply.specs.AgainstDefence.{LayoutMasses, is_live, layout_share}
-use Rattle.suit_reply.proofs.WhatIsStillToCome.{kept_end, kept_past, one_kept}
 use Rattle.suit_reply.proofs.against_defence.AgainstDefence.shared.Goals as goal
 use Rattle.suit_reply.proofs.against_defence.AgainstDefence.shared.Goals.{then-holds+in_ok-add_live, else-holds}
 

@@ -4,8 +4,8 @@ use Rattle.std.specs.Int.{w128}
 use Rattle.std.specs.List.{range_with_len}
 use Rattle.std.proofs.lemmas.Int.{to_z-of_z}
 use Rattle.std.proofs.lemmas.List.{get_or_read}
+use Rattle.suit_lists.proofs.Walks.{one_numbered}
 use Rattle.suit_cards.specs.Cards.{ClassLayout}
-use Rattle.suit_reply.proofs.WhatIsStillToCome.{one_numbered}
 use Rattle.suit_reply.proofs.against_defence.AgainstDefence.whole_masses.Goals as goal
 use Rattle.suit_reply.specs.AgainstDefence.{LayoutMasses}
 

@@ -3,6 +3,8 @@ use Rattle.std.proofs.Common.{get_or, length, SFits, ℤ, pos, ◌*ℤ◌, to_z,
 use Rattle.std.specs.Int.{w128}
 use Rattle.std.proofs.lemmas.Result.{IfOk-weaker}
 use Rattle.std.proofs.lemmas.Int.{to_z-of_z, to_z_pos}
+use Rattle.suit_lists.proofs.Indices.{at_itself}
+use Rattle.suit_lists.proofs.Walks.{one_off}
 use Rattle.suit_classes.specs.declared.class_turn.ClassTurn.{ClassTurn}
 use Rattle.suit_classes.specs.ClassMoves.{ClassHistory}
 use Rattle.suit_tree.specs.declared.node.Node.{Node}
@@ -10,13 +12,12 @@ use Rattle.suit_tree.proofs.NodesFitMoves.{few_children}
 use Rattle.suit_tree.specs.Nodes.{children_of, turn_at}
 use Rattle.suit_reply.specs.Turns.{TurnView, finished, joined}
 use Rattle.suit_reply.specs.AgainstPlan.{goes_to, node_least}
-use Rattle.suit_reply.proofs.NodesAt.{at_itself, no_node, node_at}
+use Rattle.suit_reply.proofs.NodesAt.{no_node, node_at}
 use Rattle.suit_reply.proofs.WorthAtATurn.SumOrBest.{found_with, joined_many}
 use Rattle.suit_reply.proofs.LeastChildByChild.{Gathers, Goes, added_to, all_told, closed, first_gathered, gathered_first}
 use Rattle.suit_reply.proofs.LeastChildByChild.{gathers_own, gathers_their, goes_asked, goes_at, goes_joined, goes_shorter}
 use Rattle.suit_reply.proofs.LeastChildByChild.{goes_told, node_rows, over_told, passed_by, some_mass}
 use Rattle.suit_reply.proofs.LeastChildByChild.SumsStayBounded.{earned_fits, goes_sum}
-use Rattle.suit_reply.proofs.WhatIsStillToCome.{one_off}
 use Rattle.suit_reply.proofs.against_plan.AgainstPlan.+below.Goals as goal
 use Rattle.suit_reply.proofs.against_plan.AgainstPlan.+below.Goals.{in-Lead, in-Defence}
 use Rattle.suit_reply.proofs.against_plan.AgainstPlan.+below.Goals.{then-goes_to+in_ok-push+in_ok-reply+in_ok-so_far}
