@@ -11,7 +11,7 @@ use Rattle.suit_lists.proofs.Elements.{each_of}
 use Rattle.suit_lists.proofs.Filters.{length_filter-most}
 use Rattle.suit_lists.proofs.Maps.{each_map}
 use Rattle.suit_lists.proofs.Once.{IsOnce, once_map}
-use Rattle.suit_lists.proofs.Sums.{sum_by-mul, sum_by_filter, sum_by_map, sum_by_none}
+use Rattle.suit_lists.proofs.Sums.{sum_at_most, sum_by-mul, sum_by_filter, sum_by_map, sum_by_none}
 use Rattle.suit_cards.specs.Cards.{Cards}
 use Rattle.suit_cards.specs.Holdings.{IsHolding, holds, suit}
 use Rattle.suit_cards.proofs.WhetherARankIsHeld.{length-IsHolding}
@@ -37,10 +37,6 @@ use Rattle.suit_lift.proofs.HowManyAreAlike.{choice_classes}
 use Rattle.suit_classes.proofs.CardsByClass.{once_defence}
 use Rattle.suit_lift.proofs.GoneAndLeft.{group_sum}
 use Rattle.suit_lift.proofs.WeightsAreShares.{common_divided}
-
-sum_at_most : {X : Type 0} (f g : X → ℕ) (xs : List X) → AllByRecursion (λ x. f x ≤ g x) xs → sum_by f xs ≤ sum_by g xs
-sum_at_most f g [] each = omega arith
-sum_at_most f g (x ∷ xs) each = omega (arith, sum_by-cons f x xs, sum_by-cons g x xs, each.0, sum_at_most f g xs each.1)
 
 -- the worth of a move that is one of some, and nothing of others
 abbrev pub worth_among : List ClassMove → (ClassMove → ℕ) → ClassMove → ℕ

@@ -8,7 +8,7 @@ use Rattle.std.proofs.lemmas.Bool.{lt-ltb, true≢false}
 use Rattle.std.proofs.lemmas.List.Sums.{sum_by-cons}
 use Rattle.std.proofs.lemmas.Slice.Eq.{bytes_eq-Decides}
 use Rattle.suit_lists.proofs.Elements.{each_in, each_of}
-use Rattle.suit_lists.proofs.Filters.{kept_parts}
+use Rattle.suit_lists.proofs.Filters.{filter_same, kept_parts}
 use Rattle.suit_lists.proofs.Sums.{sum_by_alike}
 use Rattle.suit_cards.specs.Cards.{Cards, ClassLayout}
 use Rattle.suit_game.specs.declared.question.Question.{Question}
@@ -37,7 +37,7 @@ use Rattle.suit_lift.proofs.FractionSums.{IsNoMore, kept_sum, no_more_itself, no
 use Rattle.suit_lift.proofs.FractionSums.{plus, plus_no_more, sum_no_more, sum_of}
 use Rattle.suit_lift.proofs.GoneAndLeft.{gone_of}
 use Rattle.suit_lift.proofs.SpreadMassesPay.{all_at, defences_spread, most_at, term, term_some}
-use Rattle.suit_lift.proofs.LayoutsStillLegal.{filter_same, is_live, live_layouts}
+use Rattle.suit_lift.proofs.LayoutsStillLegal.{is_live, live_layouts}
 use Rattle.suit_lift.proofs.PlanGains.{den_some}
 use Rattle.suit_lift.proofs.WorthsAreNotNegative.{most_positive}
 use Rattle.suit_lift.proofs.SharesAreMasses.{counted_mul}

@@ -8,7 +8,7 @@ use Rattle.std.proofs.lemmas.Bool.{and_parts}
 use Rattle.std.proofs.lemmas.List.{append-nil, append_assoc}
 use Rattle.std.proofs.lemmas.Slice.Eq.{bytes_eq-Decides}
 use Rattle.suit_lists.proofs.Elements.{each_in}
-use Rattle.suit_lists.proofs.Filters.{kept_parts}
+use Rattle.suit_lists.proofs.Filters.{filter_same, kept_parts}
 use Rattle.suit_lists.proofs.Maps.{each_map}
 use Rattle.suit_cards.specs.Cards.{Cards, ClassLayout}
 use Rattle.suit_game.specs.declared.question.Question.{Question}
@@ -41,7 +41,7 @@ use Rattle.suit_lift.proofs.DefenceGains.{mass_starts}
 use Rattle.suit_lift.proofs.AfterADefendersCard.{count_step, weight_step, weights_some}
 use Rattle.suit_lift.proofs.GoneAndLeft.{gone_of}
 use Rattle.suit_lift.proofs.LegalIsTold.{legal_alike, legal_from_tells}
-use Rattle.suit_lift.proofs.LayoutsStillLegal.{alike_kept, alike_some, filter_same}
+use Rattle.suit_lift.proofs.LayoutsStillLegal.{alike_kept, alike_some}
 use Rattle.suit_lift.proofs.PlanGains.{den_some}
 use Rattle.suit_lift.proofs.PlayGoesOn.{IsOn, is_on}
 

@@ -10,7 +10,7 @@ use Rattle.suit_lists.proofs.Elements.{Contains-cons_cases, Contains-nil, each_g
 use Rattle.suit_lists.proofs.Filters.{filter_of_map}
 use Rattle.suit_lists.proofs.Maps.{Contains-map, Contains-map_from}
 use Rattle.suit_lists.proofs.Once.{IsOnce}
-use Rattle.suit_lists.proofs.Sums.{sum_by-mul, sum_by_alike, sum_by_none, sum_by_same}
+use Rattle.suit_lists.proofs.Sums.{sum_by-mul, sum_by_alike, sum_by_both, sum_by_none, sum_by_same}
 use Rattle.suit_cards.specs.Cards.{Cards}
 use Rattle.suit_cards.specs.Holdings.{holds}
 use Rattle.suit_game.specs.declared.question.Question.{Question}
@@ -89,12 +89,6 @@ no_fellows : (hands : Hands) (class : ClassMove) → length (fellows hands [] cl
 unfolding fellows
 no_fellows hands class = refl
 
-sum_both : (g h : ClassMove → ℕ) (xs : List ClassMove) → sum_by (λ x. g x + h x) xs ≡ sum_by g xs + sum_by h xs
-sum_both g h [] = refl
-sum_both g h (x ∷ xs) =
-    let both : ClassMove → ℕ = λ y. g y + h y in omega
-    (arith, sum_by-cons both x xs, sum_by-cons g x xs, sum_by-cons h x xs, sum_both g h xs)
-
 -- what depends on the merges of moves is summed by the class moves, each as often as it has fellows
 pub fellows_sum : (hands : Hands) (f : ClassMove → ℕ) (classes : List ClassMove) (moves : List Move)
     → IsOnce classes → AllByRecursion (λ move. Contains classes (merge hands move)) moves
@@ -110,7 +104,7 @@ fellows_sum hands f classes (move ∷ moves) once each =
     sum_by_same (λ class. length (fellows hands (move ∷ moves) class)
     * f class) (λ class. first class + rest class) classes
     (λ class. ap (λ (n : ℕ). n * f class) (fellows_more hands move moves class) ∙ omega arith)
-    ∙ sum_both first rest classes
+    ∙ sum_by_both first rest classes
     ∙ omega (
       arith,
       picked_one f (merge hands move) classes once each.0,

@@ -5,19 +5,18 @@ pub mod LegalHistories
 pub mod OnceEach
 pub mod RowNumbers
 pub mod SomeWeight
-use Rattle.std.proofs.Common.{◌≡◌, ◌≢◌, ℕ, ◌<◌, ◌&&◌, not, Bool, true, false, cond, List, [], ◌∷◌, map, refl, sym, ap}
-use Rattle.std.proofs.Common.{◌∙◌, subst, inl, inr, arith}
-use Rattle.std.specs.Prelude.{AllPairs, Contains}
-use Rattle.std.specs.List.{AllByRecursion, All, filter, flat_map, sum_by}
+use Rattle.std.proofs.Common.{◌≡◌, ◌≢◌, ◌&&◌, not, Bool, true, false, cond, List, [], map, refl, sym, ap}
+use Rattle.std.proofs.Common.{◌∙◌, subst, inl, inr}
+use Rattle.std.specs.Prelude.{Contains}
+use Rattle.std.specs.List.{AllByRecursion, filter, flat_map}
 use Rattle.std.proofs.lemmas.Bool.{and_from, and_parts, cases_Bool, not-true}
 use Rattle.std.proofs.lemmas.List.Elements.{All-from_recursion}
-use Rattle.std.proofs.lemmas.List.Kept.{AllPairs-cons}
 use Rattle.std.proofs.lemmas.Slice.Eq.{bytes_eq-Decides}
 use Rattle.suit_lists.proofs.Elements.{each_at, each_gives, each_in}
 use Rattle.suit_lists.proofs.Filters.{Contains-filter, kept_parts}
 use Rattle.suit_lists.proofs.FlatMaps.{Contains-flat_map, each_flat_map}
 use Rattle.suit_lists.proofs.Maps.{Contains-map, each_map}
-use Rattle.suit_lists.proofs.Once.{IsOnce, once_filter}
+use Rattle.suit_lists.proofs.Once.{map_pairs, once_filter}
 use Rattle.suit_cards.specs.Cards.{Cards}
 use Rattle.suit_game.specs.declared.question.Question.{Question}
 use Rattle.suit_game.specs.declared.moves.Move.{Move}
@@ -26,7 +25,7 @@ use Rattle.suit_game.specs.Histories.{History}
 use Rattle.suit_game.specs.Layouts.{layouts}
 use Rattle.suit_game.specs.PlaceViews.{IsPlay}
 use Rattle.suit_game.specs.Positions.{IsLegal, after, has_ended, legal}
-use Rattle.suit_game.specs.Strategies.{DefenceWay, DefenceWayRow, Way, WayRow, by_defence_rows, by_rows, number_of}
+use Rattle.suit_game.specs.Strategies.{DefenceWay, DefenceWayRow, Way, WayRow, by_defence_rows, by_rows}
 use Rattle.suit_game.specs.Validity.{IsValid}
 use Rattle.suit_plans.specs.declared.plan.Plan.{Plan}
 use Rattle.suit_plans.specs.declared.defence.Defence.{Defence}
@@ -41,19 +40,6 @@ use Rattle.suit_lift.proofs.FullLists.RowNumbers.{defence_rows_tell, names_moves
 use Rattle.suit_lift.proofs.FullLists.RowNumbers.{rows_tell, same_key}
 use Rattle.suit_lift.proofs.FullLists.SomeWeight.{defence_weighs, plan_weighs}
 use Rattle.suit_game.specs.Strategies.{same_play}
-
--- rows that tell keys apart are for no two equal keys
-rows_apart : {X Y : Type 0} (R : Y → Y → Type 0) (row_of : X → Y) (keys : List X)
-    → ((one other : X) → (one ≡ other → ⊥) → R (row_of one) (row_of other)) → IsOnce keys
-    → AllPairs R (map row_of keys)
-unfolding IsOnce
-rows_apart R row_of [] apart once = λ i j d below within. absurd (omega arith)
-rows_apart {X} {Y} R row_of (key ∷ keys) apart once =
-    AllPairs-cons R (row_of key) (map row_of keys)
-    (All-from_recursion (R (row_of key)) (map row_of keys)
-    (each_map (R (row_of key)) row_of keys
-    (each_gives (λ other. key ≡ other → ⊥) (λ other. R (row_of key) (row_of other)) keys (apart key) once.0)))
-    (rows_apart R row_of keys apart once.1)
 
 -- whether a side is to move after a history
 moves_next : Question → Bool → History → Bool
@@ -173,7 +159,7 @@ module _ (question : Question) (plan : Plan) (valid : IsValid question) where
               (plan_weighs question plan next.0 history (play_of question true next.0 history valid next.1) next.1.goes
               next.1.turn)),
         ))));
-    once = rows_apart (λ (one other : WayRow). one.history ≢ other.history)
+    once = map_pairs (λ (one other : WayRow). one.history ≢ other.history)
         (row_for question (plan_way question plan)) own_keys (λ one other apart. apart)
         (once_filter (moves_next question true) _
         (each_first_once same_play decides_same_play (flat_map (legal_histories question) (layouts question))));
@@ -279,7 +265,7 @@ module _ (question : Question) (defence : Defence) (valid : IsValid question) wh
               (defence_weighs question defence key.0 key.1 (play_of question false key.0 key.1 valid next) next.goes
               next.turn),
         ))));
-    once = rows_apart (λ (one other : DefenceWayRow). one.west ≡ other.west → one.history ≢ other.history)
+    once = map_pairs (λ (one other : DefenceWayRow). one.west ≡ other.west → one.history ≢ other.history)
         (defence_row_for question (defence_way question defence)) their_keys
         (λ one other apart west_same line_same. apart (pairs_same one other west_same line_same))
         (once_filter (λ (key : DefenceKey). moves_next question false key.1) _

@@ -1,10 +1,10 @@
 -- How many layouts have West's counts and are alike on the cards gone (alike_counted), and how that number changes as
 -- a defender's card goes (alike_step).
-use Rattle.std.proofs.Common.{◌≡◌, ℕ, suc, ◌+◌, ◌*◌, ◌<◌, Bool, true, false, cond, not, nat_eq, List, [], ◌∷◌, length}
-use Rattle.std.proofs.Common.{map, refl, sym, ap, ◌∙◌, inl, inr, arith}
-use Rattle.std.specs.Prelude.{Contains, bytes_eq, ◌&&◌, ◌||◌, ◌-◌, if◌then◌else◌}
+use Rattle.std.proofs.Common.{◌≡◌, ℕ, suc, ◌+◌, ◌*◌, Bool, true, false, cond, not, nat_eq, List, [], ◌∷◌, length}
+use Rattle.std.proofs.Common.{map, refl, sym, ap, ◌∙◌, arith}
+use Rattle.std.specs.Prelude.{Contains, bytes_eq, ◌&&◌, ◌-◌, if◌then◌else◌}
 use Rattle.std.specs.List.{AllByRecursion, filter, sum_by}
-use Rattle.std.proofs.lemmas.Bool.{cases_eq, eq-eqb, ne_eqb, false≢true}
+use Rattle.std.proofs.lemmas.Bool.{eq-eqb, ne_eqb, false≢true}
 use Rattle.std.proofs.lemmas.List.Sums.{sum_by-cons}
 use Rattle.std.proofs.lemmas.Slice.Eq.{bytes_eq-Decides}
 use Rattle.suit_lists.proofs.Elements.{each_at, each_in}
@@ -29,9 +29,9 @@ use Rattle.suit_classes.proofs.OneSideHoldsAClass.{IsDealt, IsHolding-without, c
 use Rattle.suit_layouts.specs.ClassLayouts.{ways_of}
 use Rattle.suit_lift.proofs.HowManyChoices.{counted_choices, east_step, map_at, told_alike, west_step}
 use Rattle.suit_lift.proofs.ChoicesAmongTheRest.{free_choices, worth_at}
-use Rattle.suit_classes.proofs.CardsByClass.{missing_class, once_defence}
+use Rattle.suit_classes.proofs.CardsByClass.{cards_in-held, missing_class, once_defence}
 use Rattle.suit_game.proofs.WhatAHandHolds.{holds-left}
-use Rattle.suit_lift.proofs.GoneAndLeft.{cards_in-same, cards_in-other, gone_of, group_sum, holds-gone_of}
+use Rattle.suit_lift.proofs.GoneAndLeft.{gone_of, group_sum, holds-gone_of}
 use Rattle.suit_lift.proofs.GoneAndLeft.{parts_by_class}
 
 -- whether a layout has West's counts, and the same of the cards gone
@@ -192,25 +192,6 @@ module _ (question : Question) (west : Cards) (gone : Cards) (layout : Contains 
 
 -- ---- as a defender's card goes
 
-cards_in-some : (hands : Hands) (cards : Cards) (card : ℕ) → holds cards card ≡ true
-    → 0 < cards_in hands cards (class_of hands card)
-cards_in-some hands [] card held = absurd (false≢true held)
-cards_in-some hands (first ∷ cards) card held = elim (cases_eq card first) [
-  | inl here ↦ omega (arith, cards_in-same hands first cards (class_of hands card) (ap (class_of hands) (sym here)))
-  | inr other ↦
-      let later : holds cards card ≡ true = sym (ap (λ (b : Bool). b || holds cards card)
-      (ne_eqb card first other)) ∙ held in
-      elim (cases_eq (class_of hands first) (class_of hands card)) [
-        | inl same ↦ omega (arith, cards_in-same hands first cards (class_of hands card) same)
-        | inr apart ↦ omega (
-          arith,
-          cards_in-other hands first cards
-              (class_of hands card) apart,
-          cards_in-some hands cards card later,
-        )
-      ]
-]
-
 -- of the missing cards that are left West has some and East the others
 pub left_parts : (question : Question) (west gone : Cards) (class : ℕ) → IsDealt question west
     → cards_in (hands_of question) (without (dealt question west E) gone) class + cards_in (hands_of question)
@@ -277,7 +258,7 @@ module _ (question : Question) (west : Cards) (gone : Cards) (is : IsDealt quest
       let told : nat_eq its_class its_class ≡ true = eq-eqb its_class its_class refl in
       let played : left_after cards its_class ≡ left_before cards its_class - 1 = rw told at (cards_in-played
       (hands_of question) cards gone card its_class falls held) in
-      omega (arith, played, cards_in-some (hands_of question) (without cards gone) card held)
+      omega (arith, played, cards_in-held (hands_of question) (without cards gone) card held)
 
   as_many : (cards : Cards) → IsHolding cards → holds (without cards gone) card ≡ true → (class : ℕ) → (its_class
       ≡ class → ⊥) → left_after cards class ≡ left_before cards class

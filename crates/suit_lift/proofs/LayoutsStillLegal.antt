@@ -1,16 +1,16 @@
 -- The layouts of positive weight under which a history is legal (IsLive), and what their moves do to them.
-use Rattle.std.proofs.Common.{◌≡◌, ℕ, ◌<◌, Bool, true, false, cond, List, [], ◌∷◌, ◌++◌, length, map, refl, sym, ap}
+use Rattle.std.proofs.Common.{◌≡◌, ℕ, ◌<◌, Bool, true, false, List, [], ◌∷◌, ◌++◌, length, map, refl, sym, ap}
 use Rattle.std.proofs.Common.{◌∙◌, subst, inl, inr, arith}
 use Rattle.std.specs.Prelude.{Contains, bytes_eq, nat_lt, slice_index, ◌&&◌, ◌||◌, if◌then◌else◌}
-use Rattle.std.specs.List.{filter, list_any}
+use Rattle.std.specs.List.{filter}
 use Rattle.std.proofs.lemmas.Bool.{and_from, and_parts, false≢true, false_from_ne_true, lt-ltb, ltb-true, ne_eqb}
-use Rattle.std.proofs.lemmas.Bool.{or_left, or_right}
 use Rattle.std.proofs.lemmas.List.Elements.{Contains-append_cases, Contains-append_left, Contains-append_right}
 use Rattle.std.proofs.lemmas.List.Elements.{filter_agree}
 use Rattle.std.proofs.lemmas.Slice.Eq.{bytes_eq-Decides}
-use Rattle.suit_lists.proofs.Elements.{Contains-cons_cases, Contains-first, Contains-later, Contains-nil}
-use Rattle.suit_lists.proofs.Filters.{Contains-filter, kept_parts}
+use Rattle.suit_lists.proofs.Elements.{Contains-if}
+use Rattle.suit_lists.proofs.Filters.{Contains-filter, filter-filter, filter_same, kept_parts}
 use Rattle.suit_lists.proofs.Maps.{Contains-map, Contains-map_from}
+use Rattle.suit_lists.proofs.Tests.{passing_some}
 use Rattle.suit_cards.specs.Cards.{Cards, ClassLayout}
 use Rattle.suit_cards.specs.declared.seats.Seat.TheVariants.{N, S}
 use Rattle.suit_cards.specs.Holdings.{holds}
@@ -39,6 +39,7 @@ use Rattle.suit_classes.specs.ClassPlaces.{or_show_out}
 use Rattle.suit_classes.proofs.AllowedMoveByMove.{layouts_allow_none}
 use Rattle.suit_classes.proofs.CountsAllowAsTold.{allows_tells, counts_alike}
 use Rattle.suit_classes.proofs.DefenceSizes.{sum-defence_sizes}
+use Rattle.suit_classes.proofs.AllowsOneMoveMore.{and-assoc, and-last}
 use Rattle.suit_layouts.specs.ClassLayouts.{class_layouts, class_weight}
 use Rattle.suit_layouts.proofs.CountsOfALayout.{layouts_listed}
 use Rattle.suit_layouts.proofs.WhatHasWeightIsListed.{class_layouts_exact}
@@ -50,17 +51,6 @@ use Rattle.suit_lift.proofs.LegalMoves.{declarers_legal}
 use Rattle.suit_lift.proofs.LegalIsTold.{legal_alike, legal_from_tells, legal_push, one_of_from, two_layouts}
 use Rattle.suit_lift.proofs.WhatAMoveTakes.{MoveKind, OwnCard, OwnOut, TheirCard, TheirOut, move_kind}
 use Rattle.suit_lift.proofs.SharesAreMasses.{play_allows}
-
--- what two filters keep
-pub filter_twice : {X : Type 0} (p q : X → Bool) (xs : List X) → filter q (filter p xs) ≡ filter (λ x. p x && q x) xs
-filter_twice p q [] = refl
-filter_twice {X} p q (x ∷ xs) = kept (p x) (filter_twice p q xs)
-  where
-    kept : (b : Bool) → filter q (filter p xs) ≡ filter (λ y. p y && q y) xs
-        → filter q (cond b (x ∷ filter p xs) (filter p xs)) ≡ cond (b && q x) (x ∷ filter (λ y. p y
-        && q y) xs) (filter (λ y. p y && q y) xs)
-    kept true rest = ap (λ (l : List X). cond (q x) (x ∷ l) l) rest
-    kept false rest = rest
 
 abbrev pub is_live : Question → History → Cards → Bool
 is_live question history west = nat_lt 0 (weight question (length west)) && is_legal question history west
@@ -90,20 +80,12 @@ live_is question west history valid found =
       weighs = ltb-true 0 (weight question (length west)) parts.0;
     }
 
-and_joined : (a b c : Bool) → (a && (b && c)) ≡ ((a && b) && c)
-and_joined true b c = refl
-and_joined false b c = refl
-
-and_only : (a : Bool) → (a && true) ≡ a
-and_only true = refl
-and_only false = refl
-
 live_push : (question : Question) (west : Cards) (history : History) (move : Move)
     → is_live question (history ++ move ∷ []) west ≡ (is_live question history west
     && is_one_of (legal question west history) move)
 live_push question west history move =
     ap (λ (b : Bool). nat_lt 0 (weight question (length west)) && b) (legal_push question west history move)
-    ∙ and_joined (nat_lt 0 (weight question (length west))) (is_legal question history west) (is_one_of
+    ∙ and-assoc (nat_lt 0 (weight question (length west))) (is_legal question history west) (is_one_of
     (legal question west history) move)
 
 -- those under which a move is legal are live after it
@@ -112,7 +94,7 @@ pub live_later : (question : Question) (history : History) (move : Move)
     ≡ live_layouts question (history ++ move ∷ [])
 unfolding live_layouts
 live_later question history move =
-    filter_twice (is_live question history) (λ west. is_one_of (legal question west history) move) (layouts question)
+    filter-filter (is_live question history) (λ west. is_one_of (legal question west history) move) (layouts question)
     ∙ filter_agree (λ west. is_live question history west
     && is_one_of (legal question west history) move) (is_live question (history ++ move ∷ []))
     (λ west. sym (live_push question west history move)) (layouts question)
@@ -128,7 +110,7 @@ live_kept question history move own found =
     ∙ ap (λ (l : List Move). is_live question history west
     && is_one_of l move) (declarers_legal question west [] history own)
     ∙ ap (λ (b : Bool). is_live question history west && b) (one_of_from (legal question [] history) move found)
-    ∙ and_only (is_live question history west))) (layouts question)
+    ∙ and-last (is_live question history west))) (layouts question)
 
 -- ---- the layouts that are alike
 
@@ -143,13 +125,6 @@ alike_some question west gone found =
     ((bytes_eq-Decides (counts_of (hands_of question) west) (counts_of (hands_of question) west)).1 refl)
     ((bytes_eq-Decides (gone_of gone west) (gone_of gone west)).1 refl)) in
     omega (arith, it.1)
-
-pub filter_same : {X : Type 0} (p q : X → Bool) (xs : List X) → ((x : X) → Contains xs x → p x ≡ q x) → filter p xs
-    ≡ filter q xs
-filter_same p q [] same = refl
-filter_same {X} p q (x ∷ xs) same =
-    ap (λ (b : Bool). cond b (x ∷ filter p xs) (filter p xs)) (same x (Contains-first x xs))
-    ∙ ap (λ (l : List X). cond (q x) (x ∷ l) l) (filter_same p q xs (λ y found. same y (Contains-later x xs y found)))
 
 gone_away : (gone cards : Cards) (card : ℕ) → holds cards card ≡ false → gone_of (card ∷ gone) cards
     ≡ gone_of gone cards
@@ -215,7 +190,7 @@ same_alike question west other history live found true told =
     ∙ sym (legal_alike question west other history live.play found same)
     ∙ sym (ap (λ (b : Bool). (b && is_legal question history other)
     && bytes_eq (counts_of (hands_of question) other) (counts_of (hands_of question) west)) heavy
-    ∙ ap (λ (b : Bool). is_legal question history other && b) told ∙ and_only (is_legal question history other))
+    ∙ ap (λ (b : Bool). is_legal question history other && b) told ∙ and-last (is_legal question history other))
 same_alike question west other history live found false told =
     ap (λ (b : Bool). b && bytes_eq (gone_of (after question history).gone other) (gone_of
     (after question history).gone west)) told
@@ -237,7 +212,7 @@ alike_live question west history live =
     && bytes_eq (counts_of (hands_of question) other) (counts_of (hands_of question) west)) (layouts question)
     (λ other found. same_alike question west other history live found (bytes_eq (counts_of
     (hands_of question) other) (counts_of (hands_of question) west)) refl)
-    ∙ sym (filter_twice (is_live question history) (λ other. bytes_eq (counts_of (hands_of question) other)
+    ∙ sym (filter-filter (is_live question history) (λ other. bytes_eq (counts_of (hands_of question) other)
     (counts_of (hands_of question) west)) (layouts question))
 
 -- ---- what the counts of a live layout allow
@@ -266,27 +241,15 @@ counts_allow question west history play =
     (layouts_allow_none question west play.valid play.layout)).1
     (play_allows question west history play)
 
-any_of : {X : Type 0} (test : X → Bool) (xs : List X) (x : X) → Contains xs x → test x ≡ true → list_any test xs ≡ true
-any_of test [] x found passes = absurd (Contains-nil x found)
-any_of test (first ∷ xs) x found passes = elim (Contains-cons_cases first xs x found) [
-  | inl here ↦ or_left (test first) (list_any test xs) (ap test here ∙ passes)
-  | inr there ↦ or_right (test first) (list_any test xs) (any_of test xs x there passes)
-]
-
 -- some class layout allows what a live one does
 pub some_allow : (question : Question) (west : Cards) (history : History) → IsLive question west history
     → some_allows question (merged (hands_of question) history) ≡ true
 unfolding some_allows
 some_allow question west history live =
-    any_of (λ (layout : List ℕ × ℕ). allows question layout.0 (merged (hands_of question) history))
+    passing_some (λ (layout : List ℕ × ℕ). allows question layout.0 (merged (hands_of question) history))
     (class_layouts question (sizes_of question))
     (counts_of (hands_of question) west, class_weight question (sizes_of question) (counts_of (hands_of question) west))
     (counts_listed question west history live) (counts_allow question west history live.play)
-
-contained_where : (b : Bool) (moves : List ClassMove) (move : ClassMove) → Contains (if b then moves else []) move
-    → Contains moves move
-contained_where true moves move found = found
-contained_where false moves move found = absurd (Contains-nil move found)
 
 numbered : (kind : ℕ → ClassMove) (test : ℕ → Bool) (move : ClassMove)
     → Contains (map kind (filter test class_numbers)) move → Contains (map kind class_numbers) move
@@ -310,11 +273,11 @@ every_has view counts Closed move found =
     (if may_lead view.lead view.entries_s S then map (Lead S) (counted_classes view.south) else []) move found) [
       | inl north ↦
           Contains-append_left all_n all_s move
-          (numbered (Lead N) (λ class. nat_lt 0 (slice_index view.north class)) move (contained_where
+          (numbered (Lead N) (λ class. nat_lt 0 (slice_index view.north class)) move (Contains-if
           (may_lead view.lead view.entries_n N) (map (Lead N) (counted_classes view.north)) move north))
       | inr south ↦
           Contains-append_right all_n all_s move
-          (numbered (Lead S) (λ class. nat_lt 0 (slice_index view.south class)) move (contained_where
+          (numbered (Lead S) (λ class. nat_lt 0 (slice_index view.south class)) move (Contains-if
           (may_lead view.lead view.entries_s S) (map (Lead S) (counted_classes view.south)) move south))
     ]))
 every_has view counts (Open turn after winner highest) move found =

@@ -19,6 +19,7 @@ use Rattle.suit_classes.specs.Classes.{hands_of}
 use Rattle.suit_classes.specs.ClassGame.{counts_of}
 use Rattle.suit_classes.proofs.OneSideHoldsAClass.{IsDealt}
 use Rattle.suit_classes.proofs.ClassPlaceFollowsPlay.{play_dealt}
+use Rattle.suit_classes.proofs.AllowsOneMoveMore.{and-assoc, and-last}
 use Rattle.suit_lift.specs.Naming.{is_legal, is_legal_from, is_one_of}
 use Rattle.suit_lift.proofs.HowManyAreAlike.{equal_lengths}
 use Rattle.suit_lift.proofs.GoneAndLeft.{gone_of}
@@ -62,24 +63,16 @@ legal_from_told question west place (move ∷ moves) legal =
     (one_of_from (legal_at question west place) move legal.0) (legal_from_told question west
     (step question place move) moves legal.1)
 
-and_joined : (a b c : Bool) → (a && (b && c)) ≡ ((a && b) && c)
-and_joined true b c = refl
-and_joined false b c = refl
-
-and_only : (a : Bool) → (a && true) ≡ a
-and_only true = refl
-and_only false = refl
-
 -- a history of a move more is legal where the history is, and the move is legal after it
 pub legal_from_push : (question : Question) (west : Cards) (place : Position) (moves : List Move) (move : Move)
     → is_legal_from question west place (moves ++ move ∷ []) ≡ (is_legal_from question west place moves
     && is_one_of (legal_at question west (fold (step question) place moves)) move)
 unfolding is_legal_from
-legal_from_push question west place [] move = and_only (is_one_of (legal_at question west place) move)
+legal_from_push question west place [] move = and-last (is_one_of (legal_at question west place) move)
 legal_from_push question west place (first ∷ moves) move =
     ap (λ (b : Bool). is_one_of (legal_at question west place) first
     && b) (legal_from_push question west (step question place first) moves move)
-    ∙ and_joined (is_one_of (legal_at question west place) first) (is_legal_from question west
+    ∙ and-assoc (is_one_of (legal_at question west place) first) (is_legal_from question west
     (step question place first) moves)
     (is_one_of (legal_at question west (fold (step question) (step question place first) moves)) move)
 

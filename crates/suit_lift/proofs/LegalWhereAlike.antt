@@ -5,7 +5,7 @@ use Rattle.std.proofs.Common.{inl, inr, arith}
 use Rattle.std.specs.Prelude.{Contains, ◌&&◌, ◌↔◌, fold}
 use Rattle.std.proofs.lemmas.Bool.{eqb-true, false≢true, false_from_ne_true, or_cases, or_right}
 use Rattle.std.proofs.lemmas.List.{nil_from_length}
-use Rattle.suit_lists.proofs.Elements.{Contains-first}
+use Rattle.suit_lists.proofs.Elements.{Contains-first, Contains-same}
 use Rattle.suit_lists.proofs.Maps.{Contains-map}
 use Rattle.suit_cards.specs.Cards.{Cards}
 use Rattle.suit_cards.specs.declared.seats.Seat.{Seat}
@@ -143,8 +143,7 @@ module _ (question : Question) (west other : Cards) (two : AreTwo question west 
       alike_more place.gone (step_in question place trick move).gone card later
       (both_have turn place.gone card theirs held
       (follow_held (hand question other place turn) card
-      (subst (λ (m : Move). Contains (follows_of (hand question other place turn)) m) is (subst (λ
-      (l : List Move). Contains l move) (lists other) too)))) alike
+      (subst (λ (m : Move). Contains (follows_of (hand question other place turn)) m) is (Contains-same move (lists other) too)))) alike
   alike_after place trick move alike too (TheirOut turn waits theirs lists is none later) =
       alike_same place.gone (step_in question place trick move).gone later alike
 
@@ -223,16 +222,16 @@ module _ (question : Question) (west other : Cards) (two : AreTwo question west 
       → Contains (legal_in question west place trick) move → MoveKind question west place trick move
       → Contains (legal_in question other place trick) move
   legal_kind place trick move alike after found (OwnCard card own later away) =
-      subst (λ (l : List Move). Contains l move) (declarers_legal_in question west other place trick own) found
+      Contains-same move (declarers_legal_in question west other place trick own) found
   legal_kind place trick move alike after found (OwnOut own later) =
-      subst (λ (l : List Move). Contains l move) (declarers_legal_in question west other place trick own) found
+      Contains-same move (declarers_legal_in question west other place trick own) found
   legal_kind place trick move alike after found (TheirCard turn card waits theirs lists is held later) =
       let parts = holds-from_without (dealt question west turn) place.gone card held in
       let went : holds (step_in question place trick move).gone card
       ≡ true = ap (λ (l : Cards). holds l card) later ∙ holds-first card place.gone in
       let has : holds (dealt question other turn) card ≡ true =
       sym (dealt_alike turn (step_in question place trick move).gone theirs after card went) ∙ parts.0 in
-      subst (λ (l : List Move). Contains l move) (sym (lists other))
+      Contains-same move (sym (lists other))
       (subst (λ (m : Move). Contains (follows_of (hand question other place turn)) m) (sym is)
       (held_follow (hand question other place turn) card (holds-without
       (dealt question other turn) place.gone card has parts.1)))
@@ -250,7 +249,7 @@ module _ (question : Question) (west other : Cards) (two : AreTwo question west 
         ap length none,
         long_dealt turn theirs,
       )) in
-      subst (λ (l : List Move). Contains l move) (sym (lists other))
+      Contains-same move (sym (lists other))
       (subst (λ (m : Move). Contains (follows_of (hand question other place turn)) m) (sym is)
       (subst (λ (cards : Cards). Contains (follows_of cards) ShowOut) (sym nothing) (Contains-first ShowOut [])))
 

@@ -1,5 +1,5 @@
 -- The lift of a proper plan earns at least the plan's least (plans_earn).
-use Rattle.std.proofs.Common.{◌≡◌, ℕ, ◌+◌, ◌*◌, ◌≤◌, ◌<◌, true, List, [], ◌∷◌, length, map, refl, sym, ap, ◌∙◌, subst}
+use Rattle.std.proofs.Common.{◌≡◌, ℕ, ◌+◌, ◌*◌, ◌≤◌, ◌<◌, true, List, [], ◌∷◌, length, map, sym, ap, ◌∙◌, subst}
 use Rattle.std.proofs.Common.{arith}
 use Rattle.std.specs.Prelude.{Contains, ℤ, pos, negsuc, ◌*ℤ◌, ◌≤ℤ◌, int_le}
 use Rattle.std.specs.List.{AllByRecursion, sum_by}
@@ -28,9 +28,9 @@ use Rattle.suit_layouts.specs.ClassLayouts.{class_layouts}
 use Rattle.suit_layouts.proofs.ClassWeights.{layouts_grouped}
 use Rattle.suit_plans.specs.BestReplies.{least, reply_to_plan, worth}
 use Rattle.suit_plans.specs.declared.plan.Plan.{Plan}
-use Rattle.suit_plans.specs.Masses.{plan_mass, mass_from, mass_of}
 use Rattle.suit_plans.specs.Properness.{IsProperPlan}
 use Rattle.suit_plans.proofs.ProperPlans.{proper_plan}
+use Rattle.suit_plans.proofs.RepliesAreBounded.{first_mass}
 use Rattle.suit_lift.specs.LiftLaws.{PlansEarn}
 use Rattle.suit_lift.specs.Lifts.{plan_way}
 use Rattle.suit_lift.proofs.LiftPaysItsWorth.{plans_pay}
@@ -68,10 +68,6 @@ grouped_by_classes question worth_of valid =
     (λ west found. ap (λ (counts : ClassLayout). weight question (length west) * worth_of counts)
     (sym (counts_alike question west (layouts_are_deals question west valid.north valid.south valid.apart found).1))))
     ∙ layouts_grouped worth_of question (sizes_of question) (sum-defence_sizes (hands_of question))
-
-plan_den : (question : Question) (plan : Plan) → plan_mass question plan [] ≡ plan.den
-unfolding plan_mass mass_of mass_from
-plan_den question plan = refl
 
 pub den_some : (den : ℤ) → int_le (pos 1) den ≡ true → 0 < counted den
 den_some (pos n) told = omega (arith, ints, int_le-true (pos 1) (pos n) told)
@@ -113,7 +109,7 @@ module _ (question : Question) (plan : Plan) (valid : IsValid question) (proper 
   each_layout defence west found =
       subst (λ (mass : ℤ). IsAtLeast (pay question (plan_way question plan) defence west [])
       (counted (worth (reply_to_plan question plan (counts_of (hands_of question) west)) [])) (counted mass))
-      (plan_den question plan)
+      (first_mass question plan)
       (plans_pay question plan defence west [] proper (play_none question west valid found))
 
   gain_least : (defence : DefenceWay) → IsAtLeast (gain question (plan_way question plan) defence) (counted

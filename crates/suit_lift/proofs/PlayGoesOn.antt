@@ -1,14 +1,13 @@
 -- What holds of a play that is not decided (IsOn).
-use Rattle.std.proofs.Common.{◌≡◌, ◌<◌, Bool, false, not, List, [], ◌∷◌, ◌++◌, length, refl, sym, ap, ◌∙◌, subst, arith}
+use Rattle.std.proofs.Common.{◌≡◌, ◌<◌, Bool, false, not, [], ◌∷◌, ◌++◌, length, refl, sym, ap, ◌∙◌, arith}
 use Rattle.std.specs.Prelude.{Contains, if◌then◌else◌}
 use Rattle.std.proofs.lemmas.Bool.{or_parts}
 use Rattle.std.proofs.lemmas.List.{length-append, length-map}
-use Rattle.suit_lists.proofs.Elements.{Contains-first}
+use Rattle.suit_lists.proofs.Elements.{Contains-first, Contains-same}
 use Rattle.suit_lists.proofs.Firsts.{HasFirst}
 use Rattle.suit_cards.specs.Cards.{Cards}
 use Rattle.suit_cards.specs.declared.seats.Seat.TheVariants.{N, E, S, W}
 use Rattle.suit_game.specs.declared.question.Question.{Question}
-use Rattle.suit_game.specs.declared.moves.Move.{Move}
 use Rattle.suit_game.specs.declared.turn.Turn.TheVariants as games
 use Rattle.suit_game.specs.Gains.{is_declarer_turn}
 use Rattle.suit_game.specs.Histories.{History}
@@ -72,7 +71,7 @@ is_on question west history play undecided =
     let agrees = class_game_agrees question west history play in
     let goes : has_ended question place ≡ false = goes_in question place place.trick undecided in
     let some = legal_at-some question west place goes in
-    let found : Contains (legal question west history) some.0 = subst (λ (l : List Move). Contains l some.0)
+    let found : Contains (legal question west history) some.0 = Contains-same some.0
     (sym some.2) (Contains-first some.0 some.1) in
     let turn : class_turn (view_after question history) ≡ class_turn_for (turn_on place.trick) =
     agrees.turn

@@ -1,13 +1,13 @@
 -- The shares of the class moves at a turn stand as their masses (side_shares).
 use Rattle.std.proofs.Common.{◌≡◌, ℕ, zero, suc, ◌+◌, ◌*◌, ◌≤◌, ◌<◌, Bool, true, false, cond, not, List, [], ◌∷◌, ◌++◌}
-use Rattle.std.proofs.Common.{Some, None, map, refl, sym, ap, ◌∙◌, subst, inl, inr, arith}
+use Rattle.std.proofs.Common.{Some, None, map, refl, sym, ap, ◌∙◌, inl, inr, arith}
 use Rattle.std.specs.Prelude.{Contains, ◌==◌, ℤ, pos, negsuc, ◌+ℤ◌, ◌*ℤ◌, ◌≤ℤ◌, if◌then◌else◌}
 use Rattle.std.specs.List.{AllByRecursion, list_all, sum_by, filter}
 use Rattle.std.proofs.lemmas.Bool.{and_parts, cases_eq, eq-eqb, eqb-true, false≢true, true≢false}
 use Rattle.std.proofs.lemmas.Int.{ints}
 use Rattle.std.proofs.lemmas.List.Sums.{sum_by-cons}
 use Rattle.suit_lists.proofs.Elements.{Contains-cons_cases, Contains-first, Contains-later, Contains-nil, each_gives}
-use Rattle.suit_lists.proofs.Elements.{each_in}
+use Rattle.suit_lists.proofs.Elements.{Contains-same, each_in}
 use Rattle.suit_lists.proofs.Firsts.{HasFirst}
 use Rattle.suit_lists.proofs.Once.{IsOnce}
 use Rattle.suit_lists.proofs.Sums.{sum_by_alike, sum_by_none, term_small}
@@ -33,6 +33,7 @@ use Rattle.suit_plans.proofs.MassSteps.{mass_shared}
 use Rattle.suit_lift.specs.Lifts.{RowCounts, class_share, row_count}
 use Rattle.suit_lift.proofs.SumsOverMergedMoves.{other_class}
 use Rattle.suit_lift.proofs.PlayGoesOn.{IsOn, view_after}
+use Rattle.suit_lift.proofs.NoMoveHasACount.{none_without}
 
 -- ---- numbers that are not negative
 
@@ -130,10 +131,6 @@ some_above f (first ∷ moves) all = elim (cases_eq (f first) 0) [
   | inr some ↦ (first, Contains-first first moves, omega (arith, some))
 ]
 
-no_row : (moves : List ClassMove) → list_all (λ other. row_count None other == 0) moves ≡ true
-no_row [] = refl
-no_row (move ∷ moves) = no_row moves
-
 no_share : (first : Bool) (mass : ℤ) (move : ClassMove) → counted (share None first mass move)
     ≡ (if first then 1 else 0) * counted mass
 no_share true mass move = omega arith
@@ -185,7 +182,7 @@ shared_when true (Some counts) first more mass next empty is positive adds =
       each = λ move found. rw (one, nothing) (omega (arith, ap counted (is move), count_none move found));
     }
 shared_when false None first more mass next empty is positive adds =
-    absurd (false≢true (sym empty ∙ no_row (first ∷ more)))
+    absurd (false≢true (sym empty ∙ none_without (first ∷ more)))
 shared_when false (Some counts) first more mass next empty is positive adds =
     let merges : List ClassMove = first ∷ more in
     let whole : sum_by (row_count (Some counts)) (each_once merges)
@@ -251,7 +248,7 @@ side_shares question side west history play on realised plays same =
     (λ move found. realised.positive (line ++ move ∷ [])
     ((allowed_moves question counts line move).1 (
       allowed,
-      subst (λ (l : List ClassMove). Contains l move)
+      Contains-same move
           (sym on.moves) found,
     )))
     (ap (λ (l : List ClassMove). sum_of (map next l)) (sym on.moves) ∙ realised.shared line allowed plays)

@@ -7,13 +7,12 @@ use Rattle.std.specs.Int.{int_max}
 use Rattle.std.specs.List.{AllByRecursion, filter, sum_by}
 use Rattle.std.proofs.Math.Nat.{mul-le-mul_left, mul-pos}
 use Rattle.std.proofs.lemmas.Bool.{cases_Bool, true≢false}
-use Rattle.std.proofs.lemmas.List.Sums.{sum_by-cons}
 use Rattle.std.proofs.lemmas.Slice.Eq.{bytes_eq-Decides}
-use Rattle.suit_lists.proofs.Elements.{Contains-first, each_in, each_of}
+use Rattle.suit_lists.proofs.Elements.{Contains-first, Contains-same, each_in, each_of}
 use Rattle.suit_lists.proofs.Filters.{Contains-filter, kept_parts}
 use Rattle.suit_lists.proofs.Firsts.{HasFirst}
 use Rattle.suit_lists.proofs.Maps.{Contains-map}
-use Rattle.suit_lists.proofs.Sums.{sum_by-mul, sum_by_same}
+use Rattle.suit_lists.proofs.Sums.{sum_by-mul, sum_by_constant, sum_by_same}
 use Rattle.suit_cards.specs.Cards.{Cards, ClassLayout}
 use Rattle.suit_cards.specs.Holdings.{holds}
 use Rattle.suit_game.specs.declared.question.Question.{Question}
@@ -86,10 +85,6 @@ one_is (suc n) some = refl
 one_more : (n : ℕ) → n ≤ at_least_one n
 one_more zero = omega arith
 one_more (suc n) = omega arith
-
-all_alike : {X : Type 0} (k : ℕ) (xs : List X) → sum_by (λ x. k) xs ≡ length xs * k
-all_alike k [] = omega arith
-all_alike {X} k (x ∷ xs) = let same : X → ℕ = λ y. k in omega (arith, sum_by-cons same x xs, all_alike k xs)
 
 either_some : (b : Bool) (here : Fraction) → 0 < here.den → 0 < (if b then here else whole 0).den
 either_some true here some = some
@@ -222,7 +217,7 @@ module _ (question : Question) (declarer : Way) (defence : Defence) (valid : IsV
           here_some = one_some (many layout.0);
           there_some = omega arith;
           least =
-              rw (all_alike (earns layout.0) those) (omega (
+              rw (sum_by_constant (earns layout.0) those) (omega (
                 arith,
                 mul-le-mul_left (earns layout.0) (one_more
                     (many layout.0)),
@@ -300,7 +295,7 @@ module _ (question : Question) (declarer : Way) (defence : Defence) (valid : IsV
           weighs = live.weighs;
         } in
         let there : Contains (class_moves (view_after question history) (counts_of hands west)) (merge hands move) =
-        subst (λ (l : List ClassMove). Contains l (merge hands move)) (sym (on_at west live).moves)
+        Contains-same (merge hands move) (sym (on_at west live).moves)
         (each_once-Contains (map (merge hands) (legal question west history)) (merge hands move) (Contains-map
         (merge hands) (legal question west history) move found)) in
         Contains-filter (λ class. some_allows question (here_line ++ class ∷ [])) every_move (merge hands move)
@@ -325,7 +320,7 @@ module _ (question : Question) (declarer : Way) (defence : Defence) (valid : IsV
         let on = on_at start live in
         let worths : List ℤ = map (λ move. worth reply (here_line ++ move ∷ [])) replies_at in
         let first : Contains (legal question start history) on.some.first =
-        subst (λ (l : List Move). Contains l on.some.first) (sym on.some.parts)
+        Contains-same on.some.first (sym on.some.parts)
         (Contains-first on.some.first on.some.more) in
         worth_on reply here_line replies_at on.few (ap (λ (over : Bool). if over then [] else replies_at) on.undecided)
         (has_first replies_at (merge (hands_of question) on.some.first) (reply_has start on.some.first live first))
@@ -385,7 +380,7 @@ module _ (question : Question) (declarer : Way) (defence : Defence) (valid : IsV
           let hands : Hands = hands_of question in
           let side = defenders question defence.den defence.rows (counts_of hands west) in
           let is_legal_move : Contains (legal question west history) choice.1 =
-          subst (λ (l : List Move). Contains l choice.1) (sym (same_legal west)) (pick_legal choice found) in (
+          Contains-same choice.1 (sym (same_legal west)) (pick_legal choice found) in (
             ap (mass_of_layout west) (merged-push hands history choice.1)
                 ∙ ap counted (mass_kept question side here_line (merge hands choice.1) ((on_at west alive).defences
                 ∙ ap not own)),
@@ -440,8 +435,7 @@ module _ (question : Question) (declarer : Way) (defence : Defence) (valid : IsV
           let hands : Hands = hands_of question in
           let reply : Reply = reply_to_defence question defence in
           let class : ClassMove = merge hands choice.1 in
-          let legal_start : Contains (legal question start history) choice.1 = subst (λ
-          (l : List Move). Contains l choice.1) (sym (same_legal start)) (pick_legal choice found) in
+          let legal_start : Contains (legal question start history) choice.1 = Contains-same choice.1 (sym (same_legal start)) (pick_legal choice found) in
           let low = counted_least (worth reply (here_line ++ class ∷ [])) (worth reply here_line)
           (subst (λ (z : ℤ). worth reply (here_line ++ class ∷ []) ≤ℤ z) (sym (most_by start live true own))
           (most_of (λ move. worth reply (here_line ++ move ∷ [])) replies_at class
@@ -454,8 +448,7 @@ module _ (question : Question) (declarer : Way) (defence : Defence) (valid : IsV
       pick_bound choice found =
           let next : History = history ++ choice.1 ∷ [] in
           let share : Fraction = parts_of choice.0 picks_weight in
-          let legal_start : Contains (legal question start history) choice.1 = subst (λ
-          (l : List Move). Contains l choice.1) (sym (same_legal start)) (pick_legal choice found) in
+          let legal_start : Contains (legal question start history) choice.1 = Contains-same choice.1 (sym (same_legal start)) (pick_legal choice found) in
           let alive : IsLive question start next =
           record {
             play = play_more question start history choice.1 live.play legal_start;
@@ -599,7 +592,7 @@ module _ (question : Question) (declarer : Way) (defence : Defence) (valid : IsV
       live_before west move found =
           let from = kept_parts (λ other. is_one_of (legal question other history) move)
           (live_layouts question history) west
-          (subst (λ (l : List Cards). Contains l west) (sym (live_later question history move)) found) in
+          (Contains-same west (sym (live_later question history move)) found) in
           (from.0, one_of_tells (legal question west history) move from.1)
 
       column : (move : Move) (list : List Cards) → live_layouts question (history ++ move ∷ []) ≡ list
@@ -610,7 +603,7 @@ module _ (question : Question) (declarer : Way) (defence : Defence) (valid : IsV
           record { here_some = mul-pos common_some (omega arith); there_some = common_some; least = omega arith }
       column move (west ∷ wests) is =
           let next : History = history ++ move ∷ [] in
-          let found : Contains (live_layouts question next) west = subst (λ (l : List Cards). Contains l west)
+          let found : Contains (live_layouts question next) west = Contains-same west
           (sym is) (Contains-first west wests) in
           let before = live_before west move found in
           let held : Holds next = later west move (live_is question west next valid found) before.1 in
@@ -653,8 +646,7 @@ module _ (question : Question) (declarer : Way) (defence : Defence) (valid : IsV
       unfolding next_worth
       bound_among move [] is = omega arith
       bound_among move (west ∷ wests) is =
-          let found : Contains (live_layouts question (history ++ move ∷ [])) west = subst (λ
-          (l : List Cards). Contains l west) (sym is) (Contains-first west wests) in
+          let found : Contains (live_layouts question (history ++ move ∷ [])) west = Contains-same west (sym is) (Contains-first west wests) in
           let before = live_before west move found in
           let class : ClassMove = merge (hands_of question) move in
           let among : is_among replies_at class ≡ true = among_contained replies_at class (reply_has west move
@@ -671,8 +663,7 @@ module _ (question : Question) (declarer : Way) (defence : Defence) (valid : IsV
           then card_share question gone_now replies_at next_worth card else 0)
       bound_left card [] is = omega arith
       bound_left card (west ∷ wests) is =
-          let found : Contains (live_layouts question (history ++ Follow card ∷ [])) west = subst (λ
-          (l : List Cards). Contains l west) (sym is) (Contains-first west wests) in
+          let found : Contains (live_layouts question (history ++ Follow card ∷ [])) west = Contains-same west (sym is) (Contains-first west wests) in
           let before = live_before west (Follow card) found in
           let held = their_left question west history card
           (live_is question west history valid before.0).play theirs before.1 in
@@ -759,7 +750,7 @@ module _ (question : Question) (declarer : Way) (defence : Defence) (valid : IsV
       (hands_of question) history)))) (sym is)
       (nothing_more (most_at (merged (hands_of question) history)))
   holds_listed history (west ∷ wests) is =
-      let found : Contains (live_layouts question history) west = subst (λ (l : List Cards). Contains l west)
+      let found : Contains (live_layouts question history) west = Contains-same west
       (sym is) (Contains-first west wests) in
       holds_within (room question (after question history)) history west (live_is question west history valid found)
       (omega arith)

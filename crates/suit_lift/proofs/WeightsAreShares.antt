@@ -4,6 +4,7 @@ use Rattle.std.proofs.Common.{refl, ap, arith}
 use Rattle.std.specs.Prelude.{Contains, ◌==◌}
 use Rattle.std.proofs.lemmas.Bool.{agree_below_at, eqb-true, true≢false}
 use Rattle.std.proofs.lemmas.List.{length-map}
+use Rattle.suit_lists.proofs.Elements.{some_of}
 use Rattle.suit_lists.proofs.Filters.{Contains-filter, length_filter-most}
 use Rattle.suit_cards.specs.Cards.{Cards}
 use Rattle.suit_cards.specs.Holdings.{IsHolding}
@@ -38,9 +39,6 @@ unfolding common divided
 common_divided zero some few = absurd (omega arith)
 common_divided (suc among) some few =
     eqb-true (360360 / suc among * suc among) 360360 (agree_below_at divided (λ n. true) 13 among refl (omega arith))
-
-some_of : {X : Type 0} (xs : List X) (x : X) → Contains xs x → 0 < length xs
-some_of xs x found = omega (arith, found.1)
 
 -- a move is among its fellows
 pub fellows_some : (hands : Hands) (moves : List Move) (move : Move) → Contains moves move

@@ -1,6 +1,6 @@
 -- No play of a proper plan is worth less than 0 (worth_positive), and no reply to a proper defence is (most_positive).
-use Rattle.std.proofs.Common.{ℕ, zero, suc, ◌-◌, Bool, true, false, List, [], ◌∷◌, ◌++◌, length, map, arith}
-use Rattle.std.specs.Prelude.{ℤ, pos, ◌*ℤ◌, ◌≤ℤ◌, if◌then◌else◌}
+use Rattle.std.proofs.Common.{ℕ, zero, suc, ◌-◌, List, [], ◌∷◌, ◌++◌, length, map, arith}
+use Rattle.std.specs.Prelude.{ℤ, pos, ◌*ℤ◌, ◌≤ℤ◌}
 use Rattle.std.specs.Int.{int_max, int_min}
 use Rattle.std.specs.List.{AllByRecursion}
 use Rattle.std.proofs.lemmas.Int.{clamps, ints}
@@ -9,7 +9,6 @@ use Rattle.suit_lists.proofs.Maps.{each_map}
 use Rattle.suit_num.proofs.IntegerLaws.{mul_not_negative}
 use Rattle.suit_cards.specs.Cards.{ClassLayout}
 use Rattle.suit_game.specs.declared.question.Question.{Question}
-use Rattle.suit_classes.specs.declared.class_moves.ClassMove.{ClassMove}
 use Rattle.suit_classes.specs.ClassPlaces.{class_after, class_payoff}
 use Rattle.suit_plans.specs.BestReplies.{Reply, allowing_layouts, best_of, reply_to_defence, reply_to_plan, worth}
 use Rattle.suit_plans.specs.BestReplies.{worth_at, worth_within}
@@ -20,6 +19,7 @@ use Rattle.suit_plans.specs.Properness.{IsProperDefence, IsProperPlan, sum_of}
 use Rattle.suit_plans.proofs.ProperDefences.{defence_sound}
 use Rattle.suit_plans.proofs.ProperPlans.{plan_sound}
 use Rattle.suit_plans.proofs.SideIsRealised.{mass_positive}
+use Rattle.suit_plans.proofs.SharesAddUpToTheMass.{count_case}
 use Rattle.suit_lift.proofs.SharesAreMasses.{total_positive}
 use Rattle.suit_classes.specs.ClassMoves.{ClassHistory}
 
@@ -27,10 +27,6 @@ sum_positive : (worths : List ℤ) → AllByRecursion (λ number. pos 0 ≤ℤ n
 unfolding sum_of
 sum_positive [] each = omega (arith, ints)
 sum_positive (worth ∷ worths) each = omega (arith, ints, each.0, sum_positive worths each.1)
-
-either_positive : (b : Bool) (here there : ℤ) → pos 0 ≤ℤ here → pos 0 ≤ℤ there → pos 0 ≤ℤ (if b then here else there)
-either_positive true here there low high = low
-either_positive false here there low high = high
 
 number_positive : (number : ℕ) → pos 0 ≤ℤ pos number
 number_positive number = omega (arith, ints)
@@ -49,7 +45,7 @@ module _ (reply : Reply) (best : (a b : ℤ) → pos 0 ≤ℤ a → pos 0 ≤ℤ
       → pos 0 ≤ℤ worth_at reply history worths
   at_positive history [] each = earned history
   at_positive history (worth ∷ worths) each =
-      either_positive (reply.replies history) (best_of reply.best (worth ∷ worths)) (sum_of (worth ∷ worths))
+      count_case (reply.replies history) (best_of reply.best (worth ∷ worths)) (sum_of (worth ∷ worths))
       (best_positive (worth ∷ worths) each) (sum_positive (worth ∷ worths) each)
 
   within_positive : (n : ℕ) (history : ClassHistory) → pos 0 ≤ℤ worth_within n reply history

@@ -5,7 +5,7 @@ ghost use Rattle.suit_classes.specs.WhatIsAllowed.{is_among};
 ghost use Rattle.suit_classes.specs.ClassGame.{cards_in, counts_of};
 ghost use Rattle.suit_classes.specs.ClassMoves.{merge, merged};
 ghost use Rattle.suit_lift.specs.Lifts.{fellows, is_lowest};
-ghost use Rattle.suit_game.specs.declared.limits.TheConstants.{HAND_SIZE};
+ghost use Rattle.suit_game.specs.declared.limits.TheConstants.{HAND_SIZE, MOST_MOVES};
 
 use arrayvec::ArrayVec;
 use suit_cards::{Holding, Rank};
@@ -30,7 +30,7 @@ pub(crate) fn merge(classes: &Classes, mv: Move) -> ClassMove
 
 /// Moves, of which there are at most 52, each with its card replaced by the card's class.
 pub(crate) fn merged(classes: &Classes, moves: &[Move]) -> ArrayVec<ClassMove, 52>
-    requires { length moves.now ≤ 52 }
+    requires { length moves.now ≤ MOST_MOVES }
     ensures { result.items ≡ merged classes.now moves.now }
 {
     let mut merges = ArrayVec::new();
@@ -43,7 +43,7 @@ pub(crate) fn merged(classes: &Classes, moves: &[Move]) -> ArrayVec<ClassMove, 5
 /// How many of some moves merge to a class move.
 #[tactic(auto, unfolding(crate::specs::Lifts::fellows))]
 pub(crate) fn how_often(classes: &Classes, moves: &[Move], class: ClassMove) -> u8
-    requires { length moves.now ≤ 52 }
+    requires { length moves.now ≤ MOST_MOVES }
     ensures { result ≡ length (fellows classes.now moves.now class) }
 {
     let mut count = 0;
@@ -58,7 +58,7 @@ pub(crate) fn how_often(classes: &Classes, moves: &[Move], class: ClassMove) -> 
 /// Whether a move is the last of some that merges as it does.
 #[tactic(auto, unfolding(crate::specs::Lifts::is_lowest))]
 pub(crate) fn is_lowest(classes: &Classes, mut moves: &[Move], mv: &Move) -> bool
-    requires { length moves.now ≤ 52 }
+    requires { length moves.now ≤ MOST_MOVES }
     ensures { result ≡ is_lowest classes.now moves.entry.now mv.now }
 {
     while let [first, later @ ..] = moves {
@@ -72,7 +72,7 @@ pub(crate) fn is_lowest(classes: &Classes, mut moves: &[Move], mv: &Move) -> boo
 
 // Whether one of some moves merges to a class move.
 fn some_merges_to(classes: &Classes, moves: &[Move], class: ClassMove) -> bool
-    requires { length moves.now ≤ 52 }
+    requires { length moves.now ≤ MOST_MOVES }
     ensures { result ≡ is_among (merged classes.now moves.now) class }
 {
     is_among(merged(classes, moves).as_slice(), class)
