@@ -15,12 +15,16 @@ def say(text):
     print(f"ask: {text}", file=sys.stderr)
 
 
+def is_built():
+    """Whether the proved program stands and was built from these sources."""
+    return subprocess.run(["sh", "-c", ". scripts/built.sh && is_built"], cwd=HOME, stderr=subprocess.DEVNULL, check=False).returncode == 0
+
+
 class Program:
-    """The proved program, where it was built from these sources; ask runs no other one."""
+    """The proved program, where it was built from these sources."""
 
     def __init__(self):
-        told = subprocess.run(["sh", "-c", ". scripts/built.sh && is_built"], cwd=HOME, stderr=subprocess.DEVNULL, check=False)
-        if told.returncode != 0:
+        if not is_built():
             say("the program is not built from these sources yet: ./ask prove proves and builds it, in about half an hour")
             raise SystemExit(70)
         self.running = []
