@@ -27,7 +27,7 @@ struct Play {
 }
 
 // Whether these are West's cards under a layout.
-#[tactic(auto, using(suit_lift::proofs::ListedLayouts::layout_listed))]
+#[tactic(auto, using(suit_lift::proofs::LayoutIsListed::layout_listed))]
 fn is_layout(question: &Question, west: Holding) -> bool
     ensures { IsTrue result → Contains (layouts question.now) west }
 {
