@@ -1,5 +1,5 @@
 -- `number_back` and `small_back`: what is written for a number is read back as it.
-use Rattle.std.proofs.Common.{ℕ, zero, suc, ◌+◌, ◌%◌, ◌^◌, ◌<◌, ◌≤◌, ◌≡◌, ◌==◌, ◌&&◌, nat_lt, nat_le, Bool, true, false}
+use Rattle.std.proofs.Common.{ℕ, zero, suc, ◌+◌, ◌%◌, ◌^◌, ◌<◌, ◌≤◌, ◌≡◌, ◌==◌, ◌&&◌, nat_lt, Bool, true, false}
 use Rattle.std.proofs.Common.{List, [], ◌∷◌, ◌++◌, length, get_or, codes, decimal, ℤ, pos, negsuc, Some, Ok, refl}
 use Rattle.std.proofs.Common.{arith, length-append}
 use Rattle.std.specs.Char.{is_ascii_digit}
@@ -12,8 +12,8 @@ use Rattle.std.proofs.lemmas.Int.{ints}
 use Rattle.suit_text.specs.Strict.{is_filled, has_spare_zero, number_read}
 use Rattle.suit_answer.specs.Numbers.{number_due, small_due}
 use Rattle.suit_answer.specs.Writable.{IsWritableNumber}
-use Rattle.suit_text.proofs.ShortNumbers.{numerals}
-use Rattle.suit_answer.proofs.NumberWords.{both_pass}
+use Rattle.suit_text.proofs.ShortNumbers.{is_below, is_within, numerals}
+use Rattle.suit_text.proofs.LooseNumbersBack.{both_true}
 
 -- a word that is written: bytes above the space, and no colon
 pub record IsWord (word : List ℕ) : Type 0 where
@@ -28,7 +28,7 @@ AreDigits word = AllByRecursion (λ byte. (47 < byte) × (byte < 58)) word
 digits_are : (word : List ℕ) → all_ascii_digits word ≡ true → AreDigits word
 digits_are [] h = tt
 digits_are (byte ∷ word) h =
-    let tests = both_pass (is_ascii_digit byte) (all_ascii_digits word) h in
+    let tests = both_true (is_ascii_digit byte) (all_ascii_digits word) h in
     let digit : is_ascii_digit byte ≡ true = tests.0 in
     ((grind (arith, nat_tests), grind (arith, nat_tests)), digits_are word tests.1)
 
@@ -64,12 +64,6 @@ no_spare (suc n) small =
     never_zero (nat_lt 1 (length (decimal (suc n)))) (get_or (decimal (suc n)) 0 0)
     ((leads (suc n) small).first (omega arith))
 
-is_below : (a b : ℕ) → a < b → nat_lt a b ≡ true
-is_below a b h = grind (arith, nat_tests)
-
-is_at_most : (a b : ℕ) → a ≤ b → nat_le a b ≡ true
-is_at_most a b h = grind (arith, nat_tests)
-
 pub decimal_digits : (n : ℕ) → n < 2 ^ 127 → AreDigits (decimal n)
 decimal_digits n small =
     let wide : n < 10 ^ 64 = omega arith in
@@ -96,7 +90,7 @@ number_back line (negsuc n) h = let least = h.least in absurd (omega (arith, int
 -- and so is one with a limit
 pub small_back : (most line n : ℕ) → n ≤ most → n < 2 ^ 127 → small_due most line (decimal n) ≡ Ok n
 unfolding small_due
-small_back most line n low small = rw (read_back n small, is_at_most n most low) refl
+small_back most line n low small = rw (read_back n small, is_within n most low) refl
 
 plain_digits : (word : List ℕ) → AreDigits word → AllByRecursion (λ byte. 32 < byte) word
 plain_digits [] h = tt

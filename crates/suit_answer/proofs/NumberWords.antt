@@ -20,6 +20,7 @@ use Rattle.suit_answer.specs.Results.{◌>>=◌}
 use Rattle.suit_answer.specs.Writable.{IsWritableNumber}
 use Rattle.suit_text.proofs.ShortNumbers.{numerals}
 use Rattle.suit_text.proofs.TooLarge.{le_after}
+use Rattle.suit_text.proofs.LooseNumbersBack.{both_true}
 use Rattle.suit_answer.specs.declared.faults.AnswerFault.TheVariants.{Number}
 
 digit_code : (c : ℕ) → digit_value c < 10 → 48 + digit_value c ≡ c
@@ -56,10 +57,6 @@ written_of (c ∷ e ∷ cs) digits some lead small =
     ∙ ap (λ (x : List ℕ). x ++ (e ∷ cs)) (decimal_digit (0 * 10 + digit_value c) (omega arith)
     ∙ ap (λ (x : ℕ). x ∷ []) is)
 
-pub both_pass : (a b : Bool) → (a && b) ≡ true → (a ≡ true) × (b ≡ true)
-both_pass true b h = (refl, h)
-both_pass false b h = absurd cc
-
 -- what an outcome of a test says that has an answer
 pub passed : {A : Type 0} (b : Bool) (o : Option A) (x : A) → cond b o None ≡ Some x → (b ≡ true) × (o ≡ Some x)
 passed true o x h = (refl, h)
@@ -81,12 +78,12 @@ at_most a b h = grind (arith, nat_tests)
 pub read_taken : (text : Text) (n : ℕ) → number_read text ≡ Some n → (text ≡ decimal n) × (n < 2 ^ 127)
 read_taken text n h =
     let outer = passed (is_filled text && not (has_spare_zero text)) (digits_read text) n h in
-    let form = both_pass (is_filled text) (not (has_spare_zero text)) outer.0 in
+    let form = both_true (is_filled text) (not (has_spare_zero text)) outer.0 in
     let lead = no_spare text form.0 form.1 in
     let inner = passed (all_ascii_digits text
     && nat_lt (digits_value 10 text) (2 ^ 127)) (Some (digits_value 10 text)) n
     outer.1 in
-    let tests = both_pass (all_ascii_digits text) (nat_lt (digits_value 10 text) (2 ^ 127)) inner.0 in
+    let tests = both_true (all_ascii_digits text) (nat_lt (digits_value 10 text) (2 ^ 127)) inner.0 in
     let small : digits_value 10 text < 2 ^ 127 = below (digits_value 10 text) (2 ^ 127) tests.1 in
     let value : digits_value 10 text ≡ n = (let e = inner.1 in cc) in (
       sym (written_of text (numerals.to text tests.0) lead.0 lead.1 (omega arith)) ∙ ap decimal value,

@@ -14,6 +14,7 @@ use Rattle.suit_plans.specs.Masses.{Shares}
 use Rattle.suit_plans.specs.declared.plan.Row.{Row}
 use Rattle.suit_plans.specs.declared.defence.DefenceRow.{DefenceRow}
 use Rattle.suit_text.specs.Strict.{is_filled}
+use Rattle.suit_text.proofs.LooseNumbersBack.{both_true}
 use Rattle.suit_answer.specs.Forms.{is_value, are_shares, is_turn, is_layout_turn}
 use Rattle.suit_answer.specs.Letters.{move_due, move_word}
 use Rattle.suit_answer.specs.Numbers.{number_due, small_due}
@@ -25,7 +26,7 @@ use Rattle.suit_answer.specs.Writable.{IsWritableDefenceRow}
 use Rattle.suit_answer.specs.Writing.{share_words, turn_words, plan_row_words, defence_row_words}
 use Rattle.suit_answer.specs.declared.faults.AnswerFault.TheVariants.{Line, Count}
 use Rattle.suit_answer.proofs.MoveWords.{move_taken}
-use Rattle.suit_answer.proofs.NumberWords.{both_pass, number_taken, small_taken}
+use Rattle.suit_answer.proofs.NumberWords.{number_taken, small_taken}
 use Rattle.suit_answer.proofs.Steps.{bind_ok, ok_is, chosen_ok, same_text}
 
 module _ (letters : Text) (line : ℕ) where
@@ -61,7 +62,7 @@ module _ (letters : Text) (line : ℕ) where
         moves = (move.1, rest.moves);
         then_shares =
             λ form. let inner : (is_filled word && is_turn words) ≡ true = rw e at form in
-            rest.then_shares (both_pass (is_filled word) (is_turn words) inner).1;
+            rest.then_shares (both_true (is_filled word) (is_turn words) inner).1;
       })
 
   history_taken : (words : List Text) (found : ClassHistory × List Text) → history_due letters line words ≡ Ok found
@@ -124,7 +125,7 @@ module _ (letters : Text) (line : ℕ) where
   plan_row_taken (word ∷ words) row h =
       let form = chosen_ok (bytes_eq word (codes "at") && is_turn words) (plan_turn_due letters line words) (Line line)
       row h in
-      let tests = both_pass (bytes_eq word (codes "at")) (is_turn words) form.0 in
+      let tests = both_true (bytes_eq word (codes "at")) (is_turn words) form.0 in
       let history = bind_ok (history_due letters line words) (λ found. (shares_due letters line found.1 >>= λ shares.
       Ok (record { history = found.0; counts = shares }))) row form.1 in
       let shares = bind_ok (shares_due letters line history.0.1) (λ shares.
@@ -166,7 +167,7 @@ module _ (letters : Text) (line : ℕ) where
         small = (count.1, rest.small);
         then_turn =
             λ form. let inner : (is_value word && is_layout_turn words) ≡ true = rw e at form in
-            rest.then_turn (both_pass (is_value word) (is_layout_turn words) inner).1;
+            rest.then_turn (both_true (is_value word) (is_layout_turn words) inner).1;
       })
 
   counts_taken : (words : List Text) (found : ClassLayout × List Text) → counts_due line words ≡ Ok found
@@ -187,7 +188,7 @@ module _ (letters : Text) (line : ℕ) where
   defence_row_taken classes (word ∷ words) row h =
       let form = chosen_ok (bytes_eq word (codes "west") && is_layout_turn words)
       (defence_turn_due letters classes line words) (Line line) row h in
-      let tests = both_pass (bytes_eq word (codes "west")) (is_layout_turn words) form.0 in
+      let tests = both_true (bytes_eq word (codes "west")) (is_layout_turn words) form.0 in
       let counts = bind_ok (counts_due line words) (λ counts. (history_due letters line counts.1 >>= λ found.
       (shares_due letters line found.1 >>= λ shares.
       counted classes line (record { west = counts.0; history = found.0; counts = shares })))) row form.1 in
