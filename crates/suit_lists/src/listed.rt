@@ -1,10 +1,10 @@
 //! Elements in order, which contracts see as a list.
-ghost use Rattle.std.specs.Prelude.{List, ◌≡◌, ℕ};
+ghost use Rattle.std.specs.Prelude.{List, ◌≡◌};
 
 use std::marker::Model;
 
 /// The elements that it was made of, in their order.
-#[derive(Drop)]
+#[derive(Debug, Drop)]
 pub struct Listed<T> {
     items: Vec<T>,
 }
@@ -16,12 +16,14 @@ impl<T> Model for Listed<T> {
 }
 
 impl<T> Listed<T> {
+    /// The list of these elements.
     pub fn of(items: Vec<T>) -> Self
         ensures { result ≡ items.items }
     {
         Listed { items }
     }
 
+    /// The elements, in order.
     pub fn items(&self) -> &[T]
         ensures { result.now ≡ self.now }
     {
