@@ -1,14 +1,14 @@
 -- The lines of a class history and of those that go on from it: its own, and then those of the class histories with one
 -- of its live moves more (`lines_unfold`). No line is told where no mass comes (`untold`).
 use Rattle.std.proofs.Common.{◌≡◌, ℕ, zero, suc, ◌+◌, ◌-◌, ◌≤◌, Bool, true, false, cond, List, [], ◌∷◌, ◌++◌, length}
-use Rattle.std.proofs.Common.{map, refl, sym, ap, ◌∙◌, arith}
-use Rattle.std.specs.Prelude.{Contains, filter, ◌&&◌, not, nat_lt, if◌then◌else◌, ℤ, pos, ◌≤ℤ◌, int_lt}
+use Rattle.std.proofs.Common.{refl, sym, ap, ◌∙◌, arith}
+use Rattle.std.specs.Prelude.{Contains, filter, ◌&&◌, not, nat_lt, ℤ, pos, ◌≤ℤ◌, int_lt}
 use Rattle.std.specs.List.{flat_map}
 use Rattle.std.proofs.lemmas.Int.{ints}
 use Rattle.std.proofs.lemmas.List.{length-append}
-use Rattle.std.proofs.lemmas.List.Concat.{flat_map-append}
-use Rattle.std.proofs.lemmas.List.Elements.{filter-append}
-use Rattle.suit_lists.proofs.Elements.{Contains-first, Contains-later}
+use Rattle.suit_lists.proofs.Elements.{nil_from_none}
+use Rattle.suit_lists.proofs.FlatMaps.{filter_flat_map, flat_map_flat_map, flat_map_none, flat_map_same}
+use Rattle.suit_lists.proofs.FlatMaps.{flat_map_filter_first, flat_map_passing}
 use Rattle.suit_num.proofs.IntegerLaws.{int_lt-false}
 use Rattle.suit_cards.specs.Cards.{Text}
 use Rattle.suit_game.specs.declared.question.Question.{Question}
@@ -30,72 +30,6 @@ use Rattle.suit_lines.specs.Told.{is_live, is_told, live_shares, share_of, told_
 use Rattle.suit_lines.specs.Walks.{lines_from, next_lines, own_line}
 
 -- ---- lists
-
-filter_flat_map : {X Y : Type 0} (test : Y → Bool) (piece : X → List Y) (xs : List X)
-    → filter test (flat_map piece xs) ≡ flat_map (λ x. filter test (piece x)) xs
-filter_flat_map test piece [] = refl
-filter_flat_map {X} {Y} test piece (x ∷ xs) =
-    filter-append test (piece x) (flat_map piece xs)
-    ∙ ap (λ (l : List Y). filter test (piece x) ++ l) (filter_flat_map test piece xs)
-
-flat_map_flat_map : {X Y Z : Type 0} (write : Y → List Z) (piece : X → List Y) (xs : List X)
-    → flat_map write (flat_map piece xs) ≡ flat_map (λ x. flat_map write (piece x)) xs
-flat_map_flat_map write piece [] = refl
-flat_map_flat_map {X} {Y} {Z} write piece (x ∷ xs) =
-    flat_map-append write (piece x) (flat_map piece xs)
-    ∙ ap (λ (l : List Z). flat_map write (piece x) ++ l) (flat_map_flat_map write piece xs)
-
--- two functions that agree on the elements of a list write the same of it
-flat_map_same : {X Y : Type 0} (f g : X → List Y) (xs : List X) → ((x : X) → Contains xs x → f x ≡ g x)
-    → flat_map f xs ≡ flat_map g xs
-flat_map_same f g [] same = refl
-flat_map_same f g (x ∷ xs) same =
-    let first : f x ≡ g x = same x (Contains-first x xs) in
-    let others : flat_map f xs ≡ flat_map g xs = flat_map_same f g xs
-    (λ y found. same y (Contains-later x xs y found)) in
-    cc
-
-flat_map_none : {X Y : Type 0} (f : X → List Y) (xs : List X) → ((x : X) → Contains xs x → f x ≡ [])
-    → flat_map f xs ≡ []
-flat_map_none f [] none = refl
-flat_map_none {X} {Y} f (x ∷ xs) none =
-    ap (λ (l : List Y). l ++ flat_map f xs) (none x (Contains-first x xs))
-    ∙ flat_map_none f xs (λ y found. none y (Contains-later x xs y found))
-
--- a list without elements
-none_in : {X : Type 0} (xs : List X) → ((x : X) → Contains xs x → ⊥) → xs ≡ []
-none_in [] none = refl
-none_in (x ∷ xs) none = absurd (none x (Contains-first x xs))
-
-first_case : {X Y : Type 0} (write : X → List Y) (x : X) (kept : List X) (b : Bool)
-    → flat_map write (cond b (x ∷ kept) kept) ≡ (if b then write x else []) ++ flat_map write kept
-first_case write x kept true = refl
-first_case write x kept false = refl
-
--- what is written of a first element that passes a test, or does not
-write_first : {X Y : Type 0} (test : X → Bool) (write : X → List Y) (x : X) (xs : List X)
-    → flat_map write (filter test (x ∷ xs)) ≡ (if test x then write x else []) ++ flat_map write (filter test xs)
-write_first test write x xs = first_case write x (filter test xs) (test x)
-
-either_case : {Z : Type 0} (written whole : List Z) (b : Bool) → (b ≡ true → written ≡ whole)
-    → (b ≡ false → whole ≡ []) → (if b then written else []) ≡ whole
-either_case written whole true same none = same refl
-either_case written whole false same none = sym (none refl)
-
--- what is written of images that pass a test is all that is written, where nothing is of the others
-write_passing : {X Y Z : Type 0} (test : Y → Bool) (image : X → Y) (write : Y → List Z) (all : X → List Z) (xs : List X)
-    → ((x : X) → Contains xs x → write (image x) ≡ all x)
-    → ((x : X) → Contains xs x → test (image x) ≡ false → all x ≡ [])
-    → flat_map write (filter test (map image xs)) ≡ flat_map all xs
-write_passing test image write all [] same none = refl
-write_passing {X} {Y} {Z} test image write all (x ∷ xs) same none =
-    write_first test write (image x) (map image xs)
-    ∙ ap (λ (l : List Z). (if test (image x) then write (image x) else []) ++ l)
-    (write_passing test image write all xs (λ y found. same y (Contains-later x xs y found))
-    (λ y found. none y (Contains-later x xs y found)))
-    ∙ ap (λ (l : List Z). l ++ flat_map all xs)
-    (either_case (write (image x)) (all x) (test (image x)) (λ passes. same x (Contains-first x xs))
-    (λ fails. none x (Contains-first x xs) fails))
 
 and-false : (b : Bool) → (b && false) ≡ false
 and-false true = refl
@@ -154,7 +88,7 @@ module _ (question : Question) (plan : Plan) (valid : IsValid question) (proper 
       ≡ flat_map (λ move. lines_from question plan (history ++ move ∷ [])) (public_moves question history)
   unfolding live_shares lines_from
   over_live history =
-      write_passing is_live (share_of question plan history) (next_lines question plan history)
+      flat_map_passing is_live (share_of question plan history) (next_lines question plan history)
       (λ move. lines_from question plan (history ++ move ∷ [])) (public_moves question history)
       (λ move found. refl)
       (λ move found dead. ap (flat_map (history_line question plan))
@@ -167,20 +101,20 @@ module _ (question : Question) (plan : Plan) (valid : IsValid question) (proper 
       (public_moves question history)
   unfolding continued lines_from
   unfold_at zero history long =
-      let none : public_moves question history ≡ [] = none_in (public_moves question history)
+      let none : public_moves question history ≡ [] = nil_from_none (public_moves question history)
       (λ move found. omega (
         arith,
         long,
         public_short question valid history move found,
         length-append history (move ∷ []),
       )) in
-      write_first (is_told question plan) (history_line question plan) history []
+      flat_map_filter_first (is_told question plan) (history_line question plan) history []
       ∙ ap (λ (moves : List ClassMove). own_line question plan history
       ++ flat_map (λ move. lines_from question plan (history ++ move ∷ [])) moves) (sym none)
   unfold_at (suc more) history long =
       let moves : List ClassMove = public_moves question history in
       let piece : ClassMove → List ClassHistory = λ move. continued more question (history ++ move ∷ []) in
-      write_first (is_told question plan) (history_line question plan) history (flat_map piece moves)
+      flat_map_filter_first (is_told question plan) (history_line question plan) history (flat_map piece moves)
       ∙ ap (λ (l : Text). own_line question plan history ++ l)
       (ap (flat_map (history_line question plan)) (filter_flat_map (is_told question plan) piece moves)
       ∙ flat_map_flat_map (history_line question plan) (λ move. filter (is_told question plan) (piece move)) moves

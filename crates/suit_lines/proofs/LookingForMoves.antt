@@ -1,36 +1,16 @@
 -- The loops that look for moves, and for the class layouts that have one, step by step.
 use Rattle.std.proofs.Common.{◌≡◌, ℕ, ◌+◌, ◌<◌, Bool, true, false, cond, List, [], ◌∷◌, ◌++◌, length, get_or, take, map}
-use Rattle.std.proofs.Common.{refl, sym, ap, append-nil, ◌∙◌}
-use Rattle.std.specs.Prelude.{◌||◌, filter, if◌then◌else◌}
+use Rattle.std.proofs.Common.{sym, ap, append-nil, ◌∙◌}
+use Rattle.std.specs.Prelude.{filter, if◌then◌else◌}
 use Rattle.std.specs.List.{list_any}
 use Rattle.std.proofs.lemmas.List.{map_push, take_more}
-use Rattle.std.proofs.lemmas.List.Elements.{filter-append, filter_more}
+use Rattle.std.proofs.lemmas.List.Elements.{filter-append}
+use Rattle.suit_lists.proofs.Tests.{any_image}
 use Rattle.suit_cards.specs.Cards.{ClassLayout}
 use Rattle.suit_classes.specs.declared.class_moves.ClassMove.{ClassMove}
 use Rattle.suit_classes.specs.WhatIsAllowed.{every_move, is_among}
 use Rattle.suit_classes.specs.ClassPlaces.{ClassView, class_decided, class_moves}
 use Rattle.suit_lines.specs.Walks.{having, moves_for, some_have}
-
--- one element more, which a test keeps or not
-pub filter_next : {X : Type 0} (test : X → Bool) (xs : List X) (i : ℕ) (d : X) (kept new : List X) (b : Bool)
-    → i < length xs → kept ≡ filter test (take i xs) → test (get_or xs i d) ≡ b
-    → new ≡ kept ++ cond b (get_or xs i d ∷ []) [] → new ≡ filter test (take (i + 1) xs)
-filter_next {X} test xs i d kept new b below so_far is next =
-    next ∙ ap (λ (l : List X). l ++ cond b (get_or xs i d ∷ []) []) so_far
-    ∙ ap (λ (c : Bool). filter test (take i xs) ++ cond c (get_or xs i d ∷ []) []) (sym is)
-    ∙ sym (filter_more test xs i d below)
-
--- the same over images
-pub image_next : {X Y : Type 0} (image : X → Y) (test : Y → Bool) (xs : List X) (i : ℕ) (d : X) (kept new : List Y)
-    (b : Bool) → i < length xs → kept ≡ filter test (map image (take i xs)) → test (image (get_or xs i d)) ≡ b
-    → new ≡ kept ++ cond b (image (get_or xs i d) ∷ []) [] → new ≡ filter test (map image (take (i + 1) xs))
-image_next {X} {Y} image test xs i d kept new b below so_far is next =
-    let made : List Y = map image (take i xs) in
-    next ∙ ap (λ (l : List Y). l ++ cond b (image (get_or xs i d) ∷ []) []) so_far
-    ∙ ap (λ (c : Bool). filter test made ++ cond c (image (get_or xs i d) ∷ []) []) (sym is)
-    ∙ sym (filter-append test made (image (get_or xs i d) ∷ []))
-    ∙ ap (filter test) (sym (map_push image (take i xs) (get_or xs i d)))
-    ∙ ap (λ (l : List X). filter test (map image l)) (sym (take_more xs i d below))
 
 module _ {X : Type 0} (counts : X → ClassLayout) (view : ClassView) (move : ClassMove) (xs : List X) (i : ℕ) (x : X)
     (kept : List X) (below : i < length xs) (item : x ≡ get_or xs i x)
@@ -66,11 +46,6 @@ pub having_none : {X : Type 0} (counts : X → ClassLayout) (view : ClassView) (
     → map counts kept ≡ having view [] move
 unfolding having
 having_none counts view move kept none = ap (map counts) none
-
-any_image : {X Y : Type 0} (image : X → Y) (test : Y → Bool) (xs : List X)
-    → list_any test (map image xs) ≡ list_any (λ x. test (image x)) xs
-any_image image test [] = refl
-any_image image test (x ∷ xs) = ap (λ (b : Bool). test (image x) || b) (any_image image test xs)
 
 -- offers that are the moves of some counts have a move where some of the counts have it
 pub offered : {X Y : Type 0} (items : X → List ClassMove) (counts : Y → ClassLayout) (view : ClassView)

@@ -1,9 +1,9 @@
 -- The moves of a question can be written: public_writable.
-use Rattle.std.proofs.Common.{Bool, true, false, List, [], ◌∷◌, ◌++◌, map, subst}
+use Rattle.std.proofs.Common.{List, [], ◌∷◌, ◌++◌, map, subst}
 use Rattle.std.specs.Prelude.{Contains, if◌then◌else◌}
 use Rattle.std.specs.List.{AllByRecursion}
 use Rattle.std.proofs.lemmas.List.Elements.{recursion_from_All}
-use Rattle.suit_lists.proofs.Elements.{each_append, each_at, each_gives}
+use Rattle.suit_lists.proofs.Elements.{Contains-same, each_append, each_at, each_gives, each_unless}
 use Rattle.suit_lists.proofs.Maps.{Contains-map_from, each_map}
 use Rattle.suit_cards.specs.declared.seats.Seat.TheVariants.{N, S}
 use Rattle.suit_cards.specs.Cards.{Cards, ClassLayout}
@@ -30,11 +30,6 @@ use Rattle.suit_classes.proofs.ClassPlaceFollowsPlay.{play_dealt}
 use Rattle.suit_plans.specs.BestReplies.{public_moves}
 use Rattle.suit_plans.proofs.PublicMoves.{allowing_before, allowing_parts, public_allowed, some_layout}
 use Rattle.suit_answer.specs.Writable.{IsWritableMove}
-
-each_unless : {X : Type 0} (P : X → Type 0) (b : Bool) (xs : List X) → AllByRecursion P xs
-    → AllByRecursion P (if b then xs else [])
-each_unless P true xs each = each
-each_unless P false xs each = tt
 
 module _ (question : Question) where
   -- a move of single cards is merged to one that can be written
@@ -94,7 +89,7 @@ module _ (question : Question) where
       let place : Position = after question allows.cards in
       let from = Contains-map_from (merge (hands_of question)) (legal question allows.west allows.cards) move
       (Contains-each_once (map (merge (hands_of question)) (legal question allows.west allows.cards)) move
-      (subst (λ (l : List ClassMove). Contains l move) same found)) in
+      (Contains-same move same found)) in
       subst (IsWritableMove (class_count (hands_of question))) from.2
       (each_at IsNamed (legal question allows.west allows.cards) from.0
       (each_legal allows.west place place.trick (play_dealt question allows.west allows.cards allows.play)) from.1)

@@ -1,20 +1,21 @@
 -- A walk through the class histories that some mass comes to: where it starts (`stands_first`), how it goes on
 -- (`stands_next`), and which moves it finds (`moves_found`).
-use Rattle.std.proofs.Common.{◌≡◌, ℕ, ◌+◌, ◌-◌, ◌<◌, ◌≤◌, Bool, true, false, cond, List, [], ◌∷◌, ◌++◌, length, get_or}
+use Rattle.std.proofs.Common.{◌≡◌, ℕ, ◌+◌, ◌<◌, ◌≤◌, Bool, true, false, List, [], ◌∷◌, ◌++◌, length, get_or}
 use Rattle.std.proofs.Common.{take, map, refl, sym, ap}
 use Rattle.std.proofs.Common.{◌∙◌, subst, arith}
-use Rattle.std.specs.Prelude.{codes, Contains, filter, ◌&&◌, ◌||◌, not, nat_lt, All, if◌then◌else◌, ℤ, pos, ◌≤ℤ◌, ◌<ℤ◌}
+use Rattle.std.specs.Prelude.{codes, Contains, filter, ◌&&◌, not, nat_lt, All, if◌then◌else◌, ℤ, pos, ◌≤ℤ◌, ◌<ℤ◌}
 use Rattle.std.specs.Prelude.{int_lt, FitsSigned}
-use Rattle.std.specs.List.{flat_map, list_any}
+use Rattle.std.specs.List.{flat_map}
 use Rattle.std.specs.Int.{w128}
 use Rattle.std.proofs.lemmas.Bool.{false≢true}
 use Rattle.std.proofs.lemmas.Int.{ints}
-use Rattle.std.proofs.lemmas.List.{append_assoc, flat_map_more, length-append, length-map, take_all, take_at}
+use Rattle.std.proofs.lemmas.List.{append_assoc, flat_map_more, length-map, take_all}
 use Rattle.std.proofs.lemmas.List.{take_more}
 use Rattle.std.proofs.lemmas.List.Elements.{All-append, All-cons, Contains-get_or, filter_agree}
-use Rattle.suit_lists.proofs.Elements.{Contains-first}
-use Rattle.suit_lists.proofs.Filters.{filter_of_map, kept_parts}
+use Rattle.suit_lists.proofs.Elements.{Contains-same, first_of}
+use Rattle.suit_lists.proofs.Filters.{any_map_kept, filter_of_map, kept_parts}
 use Rattle.suit_lists.proofs.Maps.{Contains-map_from}
+use Rattle.suit_lists.proofs.Tests.{any_alike}
 use Rattle.suit_num.proofs.IntegerLaws.{int_le-true, int_lt-true}
 use Rattle.suit_cards.specs.Cards.{ClassLayout, Text}
 use Rattle.suit_game.specs.declared.question.Question.{Question}
@@ -42,6 +43,7 @@ use Rattle.suit_game.specs.declared.limits.TheConstants.{MOST_MOVES}
 use Rattle.suit_answer.specs.Letters.{class_letters}
 use Rattle.suit_answer.specs.declared.answer.Answer.{Answer}
 use Rattle.suit_answer.specs.Writable.{IsWritableMove}
+use Rattle.suit_answer.proofs.OneFractionInLowestTerms.{some_from_one}
 use Rattle.suit_lines.specs.Lines.{history_line, lines_of}
 use Rattle.suit_lines.specs.Sentences.{choice_words, opening}
 use Rattle.suit_lines.specs.Told.{is_live, is_told, live_shares, share_of}
@@ -72,25 +74,6 @@ counts_next question history move valid =
 
 -- ---- the moves
 
-any_case : {X Y : Type 0} (image : X → Y) (test : Y → Bool) (x : X) (kept : List X) (rest b : Bool)
-    → list_any test (map image kept) ≡ rest
-    → list_any test (map image (cond b (x ∷ kept) kept)) ≡ ((b && test (image x)) || rest)
-any_case image test x kept rest true same = ap (λ (c : Bool). test (image x) || c) same
-any_case image test x kept rest false same = same
-
--- some that a test keeps, and that pass another, are some that pass both
-any_kept : {X Y : Type 0} (keeps : X → Bool) (image : X → Y) (test : Y → Bool) (xs : List X)
-    → list_any test (map image (filter keeps xs)) ≡ list_any (λ x. keeps x && test (image x)) xs
-any_kept keeps image test [] = refl
-any_kept keeps image test (x ∷ xs) =
-    any_case image test x (filter keeps xs) (list_any (λ y. keeps y && test (image y)) xs) (keeps x)
-    (any_kept keeps image test xs)
-
-any_same : {X : Type 0} (p q : X → Bool) (xs : List X) → ((x : X) → p x ≡ q x) → list_any p xs ≡ list_any q xs
-any_same p q [] same = refl
-any_same p q (x ∷ xs) same =
-    ap (λ (b : Bool). b || list_any p xs) (same x) ∙ ap (λ (b : Bool). q x || b) (any_same p q xs same)
-
 -- some class layout that allows a class history has a move where some allows the history with the move
 have_allows : (question : Question) (history : ClassHistory) (move : ClassMove)
     → some_have (class_after question history) (allowing_counts question history) move
@@ -98,9 +81,9 @@ have_allows : (question : Question) (history : ClassHistory) (move : ClassMove)
 unfolding allowing_counts some_allows
 have_allows question history move =
     let layouts : List (ClassLayout × ℕ) = class_layouts question (sizes_of question) in
-    any_kept (λ (layout : ClassLayout × ℕ). allows question layout.0 history) (λ (layout : ClassLayout × ℕ). layout.0)
+    any_map_kept (λ (layout : ClassLayout × ℕ). allows question layout.0 history) (λ (layout : ClassLayout × ℕ). layout.0)
     (λ counts. is_among (class_moves (class_after question history) counts) move) layouts
-    ∙ any_same (λ (layout : ClassLayout × ℕ). allows question layout.0 history
+    ∙ any_alike (λ (layout : ClassLayout × ℕ). allows question layout.0 history
     && is_among (class_moves (class_after question history) layout.0) move)
     (λ (layout : ClassLayout × ℕ). allows question layout.0 (history ++ move ∷ [])) layouts
     (λ layout. sym (allows-push question layout.0 history move))
@@ -117,9 +100,6 @@ moves_found question history =
     (have_allows question history) every_move)
 
 -- ---- the walk
-
-one_above : (den : ℤ) → pos 1 ≤ℤ den → pos 0 <ℤ den
-one_above den some = omega (arith, ints)
 
 none_writable : (question : Question) → All (IsWritableMove (class_count (hands_of question))) []
 none_writable question = λ k d below. absurd (omega arith)
@@ -138,7 +118,7 @@ stands_first question plan counts valid proper are =
       place = refl;
       mass_is = sym (first_mass question plan);
       counts_are = listed;
-      live = one_above plan.den (int_le-true (pos 1) plan.den (proper_plan question plan proper).0);
+      live = some_from_one plan.den (int_le-true (pos 1) plan.den (proper_plan question plan proper).0);
       some = subst (λ (l : List ClassLayout). 0 < length l) (sym listed)
           (some_counts question [] valid (some_allow_none question valid));
       writable = none_writable question;
@@ -193,10 +173,6 @@ stands_next question plan history view mass all share next kept stands found is 
         → All (IsWritableMove (class_count (hands_of question))) (move ∷ [])
     one_writable question move is =
         All-cons (IsWritableMove (class_count (hands_of question))) move [] is (none_writable question)
-
-first_of : {X : Type 0} (xs : List X) → 0 < length xs → (x : X) × Contains xs x
-first_of [] some = absurd (omega (arith, some))
-first_of (x ∷ xs) some = (x, Contains-first x xs)
 
 counts_short : (question : Question) (history : ClassHistory) → IsValid question
     → 0 < length (allowing_counts question history) → length history ≤ MOST_MOVES
@@ -261,7 +237,7 @@ choice_told question plan history view mass all moves stands goes =
 -- its line
 pub line_written : (question : Question) (plan : Plan) (history : ClassHistory) (view : ClassView) (mass : ℤ)
     (all : List ClassLayout) (letters : Text) (shares : List (ClassMove × ℤ))
-        → StandsAt question plan history view mass all
+    → StandsAt question plan history view mass all
     → letters ≡ class_letters (hands_of question) → shares ≡ live_shares question plan history
     → opening letters (class_start question) history
     ++ choice_words letters (class_turn view) mass shares ++ codes ".\n"
@@ -288,17 +264,9 @@ shares_writable question plan history shares valid are =
     let share : ClassMove × ℤ = get_or shares k d in
     public_writable question history share.0 valid
     (share_parts question plan history share
-    (subst (λ (l : List (ClassMove × ℤ)). Contains l share) are (Contains-get_or shares k d below))).goes
+    (Contains-same share are (Contains-get_or shares k d below))).goes
 
 -- ---- steps of the walk
-
--- a history with its last move taken off
-pub one_off : {X : Type 0} (before all after : List X) (x : X) (n : ℕ) → all ≡ before ++ x ∷ [] → n ≡ length all
-    → after ≡ take (n - 1) all → after ≡ before
-one_off {X} before all after x n is long off =
-    let less : n - 1 ≡ length before = omega (arith, long, ap length is, length-append before (x ∷ [])) in
-    off ∙ ap (λ (l : List X). take (n - 1) l) is ∙ ap (λ (m : ℕ). take m (before ++ x ∷ [])) less
-    ∙ take_at before (x ∷ []) (length before) refl
 
 -- the lines of one share more
 pub lines_more : (question : Question) (plan : Plan) (history longer : ClassHistory) (shares : List (ClassMove × ℤ))

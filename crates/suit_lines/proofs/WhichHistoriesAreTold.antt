@@ -4,12 +4,12 @@ use Rattle.std.proofs.Common.{ap, ◌∙◌, subst, arith, append-nil, append_as
 use Rattle.std.specs.Prelude.{Contains, filter, fold, ◌&&◌, not, nat_lt, if◌then◌else◌, ℤ, pos, ◌<ℤ◌, int_lt}
 use Rattle.std.specs.List.{AllByRecursion, flat_map}
 use Rattle.std.specs.Int.{int_max}
-use Rattle.std.proofs.lemmas.Bool.{and_from, and_parts, lt-ltb, ltb-true}
+use Rattle.std.proofs.lemmas.Bool.{and_from, and_parts, lt-ltb, ltb-true, not_from_false}
 use Rattle.std.proofs.lemmas.Int.{ints}
 use Rattle.suit_lists.proofs.Chains.{Chained, chained_filter, chained_pairs, pairs_chained}
 use Rattle.suit_lists.proofs.Elements.{Contains-first, Contains-later, Contains-nil, each_at}
 use Rattle.suit_lists.proofs.Filters.{Contains-filter, kept_parts}
-use Rattle.suit_lists.proofs.FlatMaps.{Contains-flat_map, each_flat_map}
+use Rattle.suit_lists.proofs.FlatMaps.{Contains-flat_map, each_flat_map, flat_map_alike}
 use Rattle.suit_num.proofs.IntegerLaws.{int_lt-true}
 use Rattle.suit_cards.specs.Cards.{ClassLayout}
 use Rattle.suit_game.specs.declared.question.Question.{Question}
@@ -66,9 +66,6 @@ move_made false moves move found = refl
 undecided_is : (b : Bool) → not b ≡ true → b ≡ false
 undecided_is true is = sym is
 undecided_is false is = refl
-
-decided_not : (b : Bool) → b ≡ false → not b ≡ true
-decided_not b is = ap not is
 
 module _ (question : Question) (valid : IsValid question) where
   -- a class history that some class layout allows and that goes past no decided position
@@ -192,7 +189,7 @@ module _ (question : Question) (valid : IsValid question) where
         (class_histories_are_short question layout.0 history told.allowed.allows) told.allowed.allows told.through)
         (and_from (going_on && own && choice) live
         (and_from (going_on && own) choice
-        (and_from going_on own (decided_not (class_decided (class_after question history)) told.undecided) told.turn)
+        (and_from going_on own (not_from_false (class_decided (class_after question history)) told.undecided) told.turn)
         (lt-ltb 1 (length (public_moves question history))
         (subst (λ (l : List ClassMove). 1 < length l)
         (sym (own_moves_on question valid history told.undecided layout held told.turn)) (told.choice layout.0))))
@@ -224,13 +221,6 @@ seen_play question = record {
   earned = λ history. pos 0;
   live = λ history. false;
 }
-
-flat_map_alike : {X Y : Type 0} (f g : X → List Y) (xs : List X) → ((x : X) → f x ≡ g x) → flat_map f xs ≡ flat_map g xs
-flat_map_alike f g [] same = refl
-flat_map_alike f g (x ∷ xs) same =
-    let first : f x ≡ g x = same x in
-    let others : flat_map f xs ≡ flat_map g xs = flat_map_alike f g xs same in
-    cc
 
 continued_within : (more : ℕ) (question : Question) (history : ClassHistory)
     → continued more question history ≡ histories_within more (seen_play question) history

@@ -1,10 +1,12 @@
 -- The first line: the value, and the percentage or the number of tricks that it is.
-use Rattle.std.specs.Prelude.{ℕ, ◌*◌, ◌/◌, ◌%◌, ◌++◌, codes, decimal, unsigned_abs, pos, ◌≤ℤ◌, ◌*ℤ◌, ◌^◌}
+use Rattle.std.specs.Prelude.{ℕ, ◌*◌, ◌/◌, ◌%◌, ◌++◌, codes, decimal, unsigned_abs, pos, ◌≤ℤ◌, ◌*ℤ◌}
 use Rattle.std.specs.Fmt.{signed_decimal}
 use Rattle.suit_cards.specs.Cards.{Text}
 use Rattle.suit_num.specs.declared.fraction.Frac.{Frac}
 use Rattle.suit_game.specs.declared.question.Goal.{Goal}
 use Rattle.suit_game.specs.declared.question.Goal.TheVariants.{AtLeast, Tricks}
+use Rattle.suit_plans.specs.declared.plan.TheConstants.{MOST_MASS}
+use Rattle.suit_lines.specs.declared.value.TheConstants.{MOST_VALUE}
 
 -- the value of a goal of at least so many tricks is told in percent, that of all tricks in tricks
 abbrev pub unit : Goal → Text
@@ -30,8 +32,8 @@ value_line goal value =
     codes "Value " ++ signed_decimal value.num ++ codes "/" ++ signed_decimal value.den ++ codes ", "
     ++ decimals (hundredths goal value) ++ codes " " ++ unit goal ++ codes ".\n"
 
--- a value of which such a line can be written: it is from 0 to 1,000, and its denominator is at most 2^114
+-- a value of which such a line can be written: from 0 to MOST_VALUE, over a denominator of at most MOST_MASS
 pub record IsTellable (value : Frac) : Type 0 where
   pub least : pos 0 ≤ℤ value.num
-  pub most : value.num ≤ℤ (pos 1000 *ℤ value.den)
-  pub fine : value.den ≤ℤ pos (2 ^ 114)
+  pub most : value.num ≤ℤ (pos MOST_VALUE *ℤ value.den)
+  pub fine : value.den ≤ℤ pos MOST_MASS

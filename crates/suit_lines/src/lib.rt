@@ -8,6 +8,7 @@ mod telling;
 mod value;
 
 pub use telling::lines_text;
+pub use value::{MOST_DECIMALS, MOST_HUNDREDTHS, MOST_VALUE};
 
 /// Memory ran out.
 pub type Memory = std::alloc::AllocError;

@@ -1,11 +1,21 @@
 //! The line of the value.
 ghost use Rattle.std.specs.Prelude.{◌≡◌, ◌++◌, ◌+◌, ◌*◌, ◌/◌, ◌^◌, ◌<◌, ◌≤◌, codes, OnOk};
+ghost use Rattle.suit_plans.specs.declared.plan.TheConstants.{MOST_MASS};
 ghost use Rattle.suit_lines.specs.Values.{IsTellable, decimals, hundredths, unit, value_line};
 
 use super::Memory;
 use suit_answer::write_number;
 use suit_game::Goal;
 use suit_num::Frac;
+
+/// The largest value of which a line is written.
+pub const MOST_VALUE: u128 = 1_000;
+
+/// The most digits after the point of a value that are told: a percentage shows two of its four behind its own point.
+pub const MOST_DECIMALS: u32 = 4;
+
+/// The most hundredths of its unit that the largest value has.
+pub const MOST_HUNDREDTHS: u64 = 10_000_000;
 
 /// Writes the line of the value at the end of a text.
 pub(crate) fn write_value(text: &mut Vec<u8>, goal: Goal, value: Frac) -> Result<(), Memory>
@@ -38,7 +48,7 @@ fn unit(goal: Goal) -> &'static [u8]
 fn hundredths(goal: Goal, value: Frac) -> u64
     requires { IsTellable value }
     ensures value { result ≡ hundredths goal value }
-    ensures few { result ≤ 10000000 }
+    ensures few { result ≤ MOST_HUNDREDTHS }
 {
     let digits = match goal {
         Goal::AtLeast(_) => 4,
@@ -51,11 +61,11 @@ fn hundredths(goal: Goal, value: Frac) -> u64
 /// digit, so that nothing grows to more than ten times the divisor.
 fn quotient(num: u128, den: u128, digits: u32) -> u64
     requires some { 0 < den }
-    requires fine { den ≤ 2 ^ 114 }
-    requires most { num ≤ 1000 * den }
-    requires few { digits ≤ 4 }
+    requires fine { den ≤ MOST_MASS }
+    requires most { num ≤ MOST_VALUE * den }
+    requires few { digits ≤ MOST_DECIMALS }
     ensures value { result ≡ num * 10 ^ digits / den }
-    ensures few { result ≤ 10000000 }
+    ensures few { result ≤ MOST_HUNDREDTHS }
 {
     let mut whole = (num / den) as u64;
     let mut rest = num % den;

@@ -2,11 +2,12 @@ use Rattle.std.proofs.Common.{append-nil, map, sym, ap, ◌∙◌, true, false, 
 use Rattle.std.specs.Prelude.{filter}
 use Rattle.std.specs.List.{list_any}
 use Rattle.std.proofs.lemmas.List.{take_all}
+use Rattle.suit_lists.proofs.Walks.{filter_next}
 use Rattle.suit_cards.specs.declared.seats.Seat.TheVariants.{N}
 use Rattle.suit_classes.specs.declared.class_moves.ClassMove.TheVariants.{Lead}
 use Rattle.suit_classes.specs.WhatIsAllowed.{is_among}
 use Rattle.suit_lines.specs.Walks.{some_have}
-use Rattle.suit_lines.proofs.LookingForMoves.{filter_next, moves_decided, moves_going, offered}
+use Rattle.suit_lines.proofs.LookingForMoves.{moves_decided, moves_going, offered}
 use Rattle.suit_lines.proofs.moves.moves_for.Goals as goal
 use Rattle.suit_lines.proofs.moves.moves_for.Goals.{then-is_offered+in_ok-push, else-is_offered}
 

@@ -1,10 +1,11 @@
-use Rattle.std.proofs.Common.{◌≡◌, ◌++◌, [], ◌∷◌, List, ℤ, get_or, length, map, refl, sym, ap, ◌∙◌, subst, arith}
+use Rattle.std.proofs.Common.{◌≡◌, ◌++◌, [], ◌∷◌, List, get_or, length, map, refl, sym, ap, ◌∙◌, arith}
 use Rattle.std.proofs.Common.{rules}
 use Rattle.std.specs.Prelude.{Contains, filter, pos, FitsSigned}
 use Rattle.std.specs.Int.{w128}
 use Rattle.std.proofs.lemmas.Int.{to_z-of_z}
 use Rattle.std.proofs.lemmas.List.{length-append}
 use Rattle.std.proofs.lemmas.List.Elements.{Contains-get_or}
+use Rattle.suit_lists.proofs.Elements.{Contains-same}
 use Rattle.suit_cards.specs.declared.seats.Seat.TheVariants.{N}
 use Rattle.suit_classes.specs.declared.class_moves.ClassMove.{ClassMove}
 use Rattle.suit_classes.specs.declared.class_moves.ClassMove.TheVariants.{Lead}
@@ -64,7 +65,7 @@ write_from-requires t c =
     let are = c.deref-mv-items.ensures.value
     ∙ shares_are question plan history c.in_ok-moves.moves.items c.in_ok-shares.shares.items goes told in
     let found : Contains (live_shares question plan history) share =
-    subst (λ (l : List (ClassMove × ℤ)). Contains l share) are
+    Contains-same share are
     (Contains-get_or shares c.loop-mv.mv-index (Lead N 0, pos 0) c.loop-mv-test.true) in
     let pushed : c.push.new.self.items ≡ history ++ share.0 ∷ [] =
     c.in_ok-push.ensures.items ∙ ap (λ (h : ClassHistory). h ++ share.0 ∷ []) c.loop-mv.invariant.kept in

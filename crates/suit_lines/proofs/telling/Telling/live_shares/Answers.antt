@@ -2,11 +2,11 @@ use Rattle.std.proofs.Common.{◌≡◌, ◌++◌, [], ◌∷◌, ℤ, get_or, t
 use Rattle.std.specs.Prelude.{pos, int_lt, FitsSigned}
 use Rattle.std.specs.Int.{w128}
 use Rattle.std.proofs.lemmas.Int.{to_z-of_z}
+use Rattle.suit_lists.proofs.Walks.{image_next}
 use Rattle.suit_cards.specs.declared.seats.Seat.TheVariants.{N}
 use Rattle.suit_classes.specs.declared.class_moves.ClassMove.TheVariants.{Lead}
 use Rattle.suit_plans.specs.Masses.{plan_mass}
 use Rattle.suit_lines.specs.Told.{is_live, share_of}
-use Rattle.suit_lines.proofs.LookingForMoves.{image_next}
 use Rattle.suit_lines.proofs.WalkWhereMassGoes.{let_is}
 use Rattle.suit_lines.proofs.telling.Telling.live_shares.Goals as goal
 use Rattle.suit_lines.proofs.telling.Telling.live_shares.Goals.{then-share-gt0+in_ok-push, else-share-gt0}
