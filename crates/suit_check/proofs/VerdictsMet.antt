@@ -1,5 +1,5 @@
 -- valid_is_met, found_are_exact: what a finding says of an answer.
-use Rattle.std.proofs.Common.{◌≡◌, ◌^◌, Bool, true, false, Ok, Err, ap, sym, ◌∙◌, subst, refl}
+use Rattle.std.proofs.Common.{◌≡◌, Bool, true, false, Ok, Err, ap, sym, ◌∙◌, subst, refl}
 use Rattle.std.specs.Prelude.{⊤, Result, if◌then◌else◌, ℤ, pos, ◌*ℤ◌, ◌≤ℤ◌}
 use Rattle.std.specs.Ordering.{int_eq}
 use Rattle.std.proofs.lemmas.Bool.{and_from, and_parts}
