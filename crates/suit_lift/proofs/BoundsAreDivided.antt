@@ -21,6 +21,7 @@ use Rattle.suit_game.specs.declared.moves.Move.{Move}
 use Rattle.suit_game.specs.declared.moves.Move.TheVariants as cards
 use Rattle.suit_game.specs.Positions.{without}
 use Rattle.suit_game.specs.Question.{missing}
+use Rattle.suit_game.specs.declared.limits.TheConstants.{HAND_SIZE}
 use Rattle.suit_game.proofs.WhatAHandHolds.{holds-from_without}
 use Rattle.suit_classes.specs.declared.class_moves.ClassMove.{ClassMove}
 use Rattle.suit_classes.specs.declared.class_moves.ClassMove.TheVariants.{Follow, ShowOut}
@@ -128,7 +129,7 @@ their_once classes once = (
     is_out ShowOut = true
     is_out _ = false
 
-shared_class : (n worth : ℕ) → n ≤ 13 → n * (common / n * worth) ≤ common * worth
+shared_class : (n worth : ℕ) → n ≤ HAND_SIZE → n * (common / n * worth) ≤ common * worth
 shared_class zero worth few = omega arith
 shared_class (suc n) worth few =
     let divides : common / suc n * suc n ≡ common = common_divided (suc n) (omega arith) few in
@@ -151,7 +152,7 @@ module _ (question : Question) (gone : Cards) (moves : List ClassMove) (worth : 
       common / unplayed question gone (cards.Follow card)
       * worth_among moves worth (Follow (class_of (hands_of question) card))
 
-  pub few_of_class : (class : ℕ) → cards_in (hands_of question) left class ≤ 13
+  pub few_of_class : (class : ℕ) → cards_in (hands_of question) left class ≤ HAND_SIZE
   few_of_class class =
       omega (
         arith,

@@ -21,6 +21,7 @@ use Rattle.suit_game.specs.PlaceViews.{IsPlay}
 use Rattle.suit_game.specs.Positions.{Position, Trick, Closed, Open, after, dealt, follows_of, hand, legal, legal_in}
 use Rattle.suit_game.specs.Positions.{without}
 use Rattle.suit_game.specs.Question.{missing}
+use Rattle.suit_game.specs.declared.limits.TheConstants.{HAND_SIZE}
 use Rattle.suit_game.proofs.WhatAHandHolds.{holds-from_without, holds-without}
 use Rattle.suit_classes.specs.Classes.{hands_of, class_of}
 use Rattle.suit_classes.specs.ClassMoves.{merge}
@@ -79,7 +80,7 @@ legal_listed question west history play waits =
     listed_in question west (after question history) (after question history).trick
     (play_dealt question west history play) waits
 
-unplayed_most : (question : Question) (gone : Cards) (move : Move) → unplayed question gone move ≤ 13
+unplayed_most : (question : Question) (gone : Cards) (move : Move) → unplayed question gone move ≤ HAND_SIZE
 unplayed_most question gone (Follow card) =
     few_of_class question gone [] (λ class. 0) (class_of (hands_of question) card)
 unplayed_most question gone (Lead seat card) = omega arith
@@ -90,7 +91,7 @@ pub unplayed_fits : (question : Question) (west : Cards) (history : History) (mo
     → IsPlay question west history → is_declarer_turn (after question history).trick ≡ false
     → Contains (legal question west history) move
     → (0 < unplayed question (after question history).gone move)
-    × (unplayed question (after question history).gone move ≤ 13)
+    × (unplayed question (after question history).gone move ≤ HAND_SIZE)
 unplayed_fits question west history move play waits found =
     let gone : Cards = (after question history).gone in
     let stepped = count_step question west history move play waits found in

@@ -12,7 +12,7 @@ use Rattle.std.specs.List.{AllByRecursion, filter, flat_map}
 use Rattle.std.proofs.lemmas.Bool.{and_from, and_parts, cases_Bool, not-true}
 use Rattle.std.proofs.lemmas.List.Elements.{All-from_recursion}
 use Rattle.std.proofs.lemmas.Slice.Eq.{bytes_eq-Decides}
-use Rattle.suit_lists.proofs.Elements.{each_at, each_gives, each_in}
+use Rattle.suit_lists.proofs.Elements.{Contains-same, each_at, each_gives, each_in}
 use Rattle.suit_lists.proofs.Filters.{Contains-filter, kept_parts}
 use Rattle.suit_lists.proofs.FlatMaps.{Contains-flat_map, each_flat_map}
 use Rattle.suit_lists.proofs.Maps.{Contains-map, each_map}
@@ -40,6 +40,7 @@ use Rattle.suit_lift.proofs.FullLists.RowNumbers.{defence_rows_tell, names_moves
 use Rattle.suit_lift.proofs.FullLists.RowNumbers.{rows_tell, same_key}
 use Rattle.suit_lift.proofs.FullLists.SomeWeight.{defence_weighs, plan_weighs}
 use Rattle.suit_game.specs.Strategies.{same_play}
+use Rattle.suit_game.specs.declared.limits.TheConstants.{MOST_MOVES}
 
 -- whether a side is to move after a history
 moves_next : Question → Bool → History → Bool
@@ -172,7 +173,7 @@ module _ (question : Question) (plan : Plan) (valid : IsValid question) where
   own_weight west history move next found =
       sym (rows_tell question (plan_way question plan) own_keys history move (own_key west history next)
       ∙ number_is (plan_way question plan history) (legal question [] history) move
-      (subst (λ (moves : List Move). Contains moves move) (declarers_legal question west [] history next.turn) found))
+      (Contains-same move (declarers_legal question west [] history next.turn) found))
 
   own_pays : (defence : DefenceWay) (west : Cards) (history : History) → IsPlay question west history
       → pay question (plan_way question plan) defence west history
@@ -186,7 +187,7 @@ module _ (question : Question) (plan : Plan) (valid : IsValid question) where
         | inr waits ↦ acting_same question (plan_way question plan) (by_rows own_rows) defence defence west line move
             false waits refl
       ])
-      52 history play
+      MOST_MOVES history play
 
 pub plans_are_lists : PlansAreLists
 plans_are_lists question plan valid =
@@ -298,7 +299,7 @@ module _ (question : Question) (defence : Defence) (valid : IsValid question) wh
             (by_defence_rows their_rows) west line move false waits (their_weight west line move
             (record { layout = at.layout; legal = at.legal; goes = goes; turn = waits }) found)
       ])
-      52 history play
+      MOST_MOVES history play
 
 pub defences_are_lists : DefencesAreLists
 defences_are_lists question defence valid =

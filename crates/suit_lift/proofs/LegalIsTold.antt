@@ -1,5 +1,5 @@
 -- The test whether a history is legal under a layout (legal_told), and under layouts of one class layout (legal_alike).
-use Rattle.std.proofs.Common.{◌≡◌, Bool, true, false, List, [], ◌∷◌, ◌++◌, refl, sym, ap, ◌∙◌, subst, inl, inr}
+use Rattle.std.proofs.Common.{◌≡◌, Bool, true, List, [], ◌∷◌, ◌++◌, refl, sym, ap, ◌∙◌, subst, inl, inr}
 use Rattle.std.specs.Prelude.{Contains, bytes_eq, fold, ◌&&◌}
 use Rattle.std.proofs.lemmas.Bool.{and_from, and_parts, cases_Bool, false≢true, false_from_ne_true, or_cases, or_left}
 use Rattle.std.proofs.lemmas.Bool.{or_right}

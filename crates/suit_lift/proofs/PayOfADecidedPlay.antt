@@ -10,6 +10,7 @@ use Rattle.suit_game.specs.Histories.{History}
 use Rattle.suit_game.specs.Positions.{LegalFrom, Position, after, legal_at, payoff, step}
 use Rattle.suit_game.specs.PlaceViews.{IsPlay}
 use Rattle.suit_game.specs.Strategies.{DefenceWay, Way}
+use Rattle.suit_game.specs.declared.limits.TheConstants.{MOST_MOVES}
 use Rattle.suit_game.proofs.PaysKeepWhatMovesKeep.{pay_within-kept}
 use Rattle.suit_game.proofs.MeansLieBetween.{mean-least, mean-most}
 use Rattle.std.proofs.lemmas.List.Sums.{fold_push}
@@ -65,11 +66,11 @@ module _ (question : Question) (declarer : Way) (defence : DefenceWay) (west : C
               payoffs = λ place come. omega (arith, worth_same place come);
               moves = from_later question west (after question history);
               means = mean-least won 1;
-            }) 52 history (from_first question west (after question history)),
+            }) MOST_MOVES history (from_first question west (after question history)),
         pay_within-kept question declarer defence west (IsFrom question west (after question history))
             (λ fraction. IsAtMost fraction won 1) (record {
               payoffs = λ place come. omega (arith, worth_same place come);
               moves = from_later question west (after question history);
               means = mean-most won 1;
-            }) 52 history (from_first question west (after question history)),
+            }) MOST_MOVES history (from_first question west (after question history)),
       )

@@ -14,6 +14,7 @@ use Rattle.suit_game.specs.Histories.{History}
 use Rattle.suit_game.specs.Positions.{Position, Trick, Closed, Open, after, ended_in, has_ended, is_empty, leads_at}
 use Rattle.suit_game.specs.Positions.{legal}
 use Rattle.suit_game.specs.PlaceViews.{IsPlay, turn_on}
+use Rattle.suit_game.specs.declared.limits.TheConstants.{MOST_MOVES}
 use Rattle.suit_game.proofs.LegalPlays.{legal_moves_extend}
 use Rattle.suit_game.proofs.LongestPlay.{histories_are_short}
 use Rattle.suit_game.proofs.PayDenominators.{legal_at-some}
@@ -41,7 +42,7 @@ pub record IsOn (question : Question) (west : Cards) (history : History) : Type 
   pub moves : class_moves (view_after question history) (counts_of (hands_of question) west)
       ≡ merged_moves question west history
   pub some : HasFirst (legal question west history)
-  pub few : length (merged (hands_of question) history) < 52
+  pub few : length (merged (hands_of question) history) < MOST_MOVES
 
 goes_in : (question : Question) (place : Position) (trick : Trick) → decided_in question place trick ≡ false
     → ended_in question place trick ≡ false

@@ -17,6 +17,7 @@ use Rattle.suit_game.specs.Histories.{History}
 use Rattle.suit_game.specs.Positions.{Position, Trick, Closed, Open, after, dealt, follows_of, hand, legal, legal_in}
 use Rattle.suit_game.specs.PlaceViews.{IsPlay}
 use Rattle.suit_game.specs.Strategies.{counted}
+use Rattle.suit_game.specs.declared.limits.TheConstants.{HAND_SIZE}
 use Rattle.suit_classes.specs.declared.class_moves.ClassMove.{ClassMove}
 use Rattle.suit_classes.specs.Classes.{Hands, hands_of}
 use Rattle.suit_classes.specs.ClassMoves.{merge, same_class_move}
@@ -34,11 +35,11 @@ unfolding plan_way plan_share common
 plan_weights_are_shares question plan history move = omega arith
 
 -- each number of cards up to thirteen divides the common multiple
-pub common_divided : (among : ℕ) → 0 < among → among ≤ 13 → common / among * among ≡ common
+pub common_divided : (among : ℕ) → 0 < among → among ≤ HAND_SIZE → common / among * among ≡ common
 unfolding common divided
 common_divided zero some few = absurd (omega arith)
 common_divided (suc among) some few =
-    eqb-true (360360 / suc among * suc among) 360360 (agree_below_at divided (λ n. true) 13 among refl (omega arith))
+    eqb-true (360360 / suc among * suc among) 360360 (agree_below_at divided (λ n. true) HAND_SIZE among refl (omega arith))
 
 -- a move is among its fellows
 pub fellows_some : (hands : Hands) (moves : List Move) (move : Move) → Contains moves move
@@ -54,13 +55,13 @@ fellows_most : (hands : Hands) (moves : List Move) (class : ClassMove)
 unfolding fellows
 fellows_most hands moves class = length_filter-most (λ move. same_class_move (merge hands move) class) moves
 
-follows_most : (cards : Cards) → IsHolding cards → length (follows_of cards) ≤ 13
+follows_most : (cards : Cards) → IsHolding cards → length (follows_of cards) ≤ HAND_SIZE
 follows_most [] is = omega arith
 follows_most (card ∷ cards) is = omega (arith, length-map (card ∷ cards) Follow, length-IsHolding (card ∷ cards) is)
 
 legal_in-most : (question : Question) (west : Cards) (place : Position) (trick : Trick) → IsDealt question west
     → is_declarer_turn trick ≡ false
-    → length (legal_in question west place trick) ≤ 13
+    → length (legal_in question west place trick) ≤ HAND_SIZE
 unfolding legal_in
 legal_in-most question west place Closed is waits = absurd (true≢false waits)
 legal_in-most question west place (Open turn after winner highest) is waits =
@@ -70,7 +71,7 @@ legal_in-most question west place (Open turn after winner highest) is waits =
 -- a defender has at most thirteen fellows of a move, and one at least
 pub among_few : (question : Question) (west : Cards) (history : History) (move : Move) → IsPlay question west history
     → is_declarer_turn (after question history).trick ≡ false
-    → length (fellows (hands_of question) (legal question west history) (merge (hands_of question) move)) ≤ 13
+    → length (fellows (hands_of question) (legal question west history) (merge (hands_of question) move)) ≤ HAND_SIZE
 among_few question west history move play waits =
     omega (
       arith,

@@ -4,6 +4,7 @@ use Rattle.std.specs.Prelude.{Contains, ℤ, ◌≤ℤ◌, if◌then◌else◌}
 use Rattle.std.specs.Int.{int_min, int_max}
 use Rattle.suit_lists.proofs.Firsts.{HasFirst, HasFirst-found, HasFirst-map}
 use Rattle.suit_lists.proofs.Maps.{Contains-map}
+use Rattle.suit_game.specs.declared.limits.TheConstants.{MOST_MOVES}
 use Rattle.suit_classes.specs.declared.class_moves.ClassMove.{ClassMove}
 use Rattle.suit_plans.specs.BestReplies.{Reply, best_of, worth, worth_at}
 use Rattle.suit_plans.specs.Properness.{sum_of}
@@ -14,7 +15,7 @@ use Rattle.suit_classes.specs.ClassMoves.{ClassHistory}
 -- without a move it is worth what is earned
 pub worth_none : (reply : Reply) (history : ClassHistory) → reply.moves history ≡ [] → worth reply history
     ≡ reply.earned history
-worth_none reply history none = ended_worth reply (52 - length history) history none
+worth_none reply history none = ended_worth reply (MOST_MOVES - length history) history none
 
 at_some : (reply : Reply) (history : ClassHistory) (worths : List ℤ) → HasFirst worths
     → worth_at reply history worths ≡ (if reply.replies history then best_of reply.best worths else sum_of worths)
@@ -22,7 +23,7 @@ at_some reply history [] some = absurd (cc)
 at_some reply history (first ∷ worths) some = refl
 
 -- with a move it is worth the best, or the sum
-pub worth_on : (reply : Reply) (history moves : ClassHistory) → length history < 52 → reply.moves history ≡ moves
+pub worth_on : (reply : Reply) (history moves : ClassHistory) → length history < MOST_MOVES → reply.moves history ≡ moves
     → HasFirst moves
     → worth reply history
     ≡ (if reply.replies history then best_of reply.best (map (λ move. worth reply (history ++ move ∷ [])) moves)

@@ -9,6 +9,7 @@ use Rattle.suit_lists.proofs.Maps.{each_map}
 use Rattle.suit_num.proofs.IntegerLaws.{mul_not_negative}
 use Rattle.suit_cards.specs.Cards.{ClassLayout}
 use Rattle.suit_game.specs.declared.question.Question.{Question}
+use Rattle.suit_game.specs.declared.limits.TheConstants.{MOST_MOVES}
 use Rattle.suit_classes.specs.ClassPlaces.{class_after, class_payoff}
 use Rattle.suit_plans.specs.BestReplies.{Reply, allowing_layouts, best_of, reply_to_defence, reply_to_plan, worth}
 use Rattle.suit_plans.specs.BestReplies.{worth_at, worth_within}
@@ -58,7 +59,7 @@ module _ (reply : Reply) (best : (a b : ℤ) → pos 0 ≤ℤ a → pos 0 ≤ℤ
       (λ move. within_positive n (history ++ move ∷ []))))
 
   reply_positive : (history : ClassHistory) → pos 0 ≤ℤ worth reply history
-  reply_positive history = within_positive (52 - length history) history
+  reply_positive history = within_positive (MOST_MOVES - length history) history
 
 -- no mass of a proper plan is negative
 pub plan_mass_positive : (question : Question) (plan : Plan) (history : ClassHistory)

@@ -11,6 +11,7 @@ use Rattle.suit_game.specs.declared.moves.Move.{Move}
 use Rattle.suit_game.specs.Histories.{History}
 use Rattle.suit_game.specs.Positions.{IsLegal, LegalFrom, Position, after, legal}
 use Rattle.suit_game.specs.Validity.{IsValid}
+use Rattle.suit_game.specs.declared.limits.TheConstants.{MOST_MOVES}
 use Rattle.suit_game.proofs.LegalPlays.{after_move, legal_moves_extend}
 use Rattle.suit_game.proofs.LongestPlay.{histories_are_short}
 
@@ -55,15 +56,15 @@ legal_listed (suc n) question west history (move ∷ moves) plays few =
 
 -- all histories that are legal under a layout
 abbrev pub legal_histories : Question → Cards → List History
-legal_histories question west = histories_from 52 question west []
+legal_histories question west = histories_from MOST_MOVES question west []
 
 pub all_legal : (question : Question) (west : Cards) → AllByRecursion (IsLegal question west)
     (legal_histories question west)
 unfolding LegalFrom
-all_legal question west = listed_legal 52 question west [] tt
+all_legal question west = listed_legal MOST_MOVES question west [] tt
 
 pub each_legal : (question : Question) (west : Cards) (history : History) → IsValid question
     → IsLegal question west history → Contains (legal_histories question west) history
 each_legal question west history valid legal_history =
-    legal_listed 52 question west [] history legal_history
+    legal_listed MOST_MOVES question west [] history legal_history
     (histories_are_short question west history valid.north valid.south valid.apart legal_history)
