@@ -11,7 +11,6 @@ pub mod DefenceGoesOn
 pub mod DefenceInALayout
 pub mod HowManyAnswers
 pub mod HowManyColumns
-pub mod KeptSoFar
 pub mod LedgerByPostings
 pub mod LedgerFromTheStart
 pub mod LedgerIsTheProgram

@@ -1,12 +1,12 @@
 -- Where a support has all moves of both best replies, the plan and the defence that are read meet at what its game is
 -- worth (`supported_replies_meet`, `whole_supports_meet`, `supports_grow`).
-use Rattle.std.proofs.Common.{◌≡◌, Bool, true, false, List, [], ◌∷◌, refl, sym, ap, ◌∙◌, subst, inl, inr}
-use Rattle.std.proofs.Common.{arith}
+use Rattle.std.proofs.Common.{◌≡◌, Bool, true, false, List, [], ◌∷◌, refl, sym, ap, ◌∙◌, subst, inl, inr, arith}
 use Rattle.std.specs.Prelude.{Contains, ◌||◌, cond, filter, not, if◌then◌else◌, ℤ, pos, ◌*ℤ◌, ◌<ℤ◌, ◌≤ℤ◌}
 use Rattle.std.specs.List.{list_any}
 use Rattle.std.proofs.lemmas.Bool.{cases_Bool, or_parts}
 use Rattle.std.proofs.lemmas.Int.{ints}
-use Rattle.suit_lists.proofs.Elements.{Contains-first, Contains-later}
+use Rattle.suit_lists.proofs.Elements.{Contains-same}
+use Rattle.suit_lists.proofs.Tests.{none_new}
 use Rattle.suit_cards.specs.Cards.{ClassLayout}
 use Rattle.suit_num.proofs.IntegerLaws.{le-mul_right, same_from_mul}
 use Rattle.suit_game.specs.declared.question.Question.{Question}
@@ -31,8 +31,7 @@ use Rattle.suit_program.specs.Programs.{supported_worth}
 use Rattle.suit_program.specs.Readings.ReadingLaws.{IsReadable, SupportedRepliesMeet, SupportsGrow}
 use Rattle.suit_program.specs.Readings.ReadingLaws.{WholeSupportsMeet, defence_read, plan_read}
 use Rattle.suit_program.specs.Readings.{defence_of, parts_of, plan_at, plan_den, plan_point}
-use Rattle.suit_program.specs.Supports.{Support, are_new, first_and, legal_moves, names, supported_moves}
-use Rattle.suit_program.specs.Supports.{whole_support}
+use Rattle.suit_program.specs.Supports.{Support, are_new, first_and, legal_moves, names, supported_moves, whole_support}
 use Rattle.suit_program.proofs.lemmas.Readings.DefencesHoldTheWorth.{read_defences_are_proper}
 use Rattle.suit_program.proofs.lemmas.Readings.DefencesHoldTheWorth.{read_defences_hold_the_worth}
 use Rattle.suit_program.proofs.lemmas.Duality.WeakDuality.{weak_duality}
@@ -102,10 +101,6 @@ supported_replies_meet question support optimum readable priced none =
 
 -- ---- all moves
 
-filter_true : (moves : List ClassMove) → filter (λ move. true) moves ≡ moves
-filter_true [] = refl
-filter_true (move ∷ moves) = ap (λ (l : List ClassMove). move ∷ l) (filter_true moves)
-
 choice_same : (b : Bool) → (if b then true else true) ≡ true
 choice_same true = refl
 choice_same false = refl
@@ -128,13 +123,6 @@ unfolding supported_moves
 whole_moves question west history =
     all_moves (names question whole_support west history) (legal_moves question west history)
     (λ move. choice_same (is_declarers (class_turn (class_after question history))))
-
-none_new : {X : Type 0} (test : X → Bool) (xs : List X) → ((x : X) → Contains xs x → test x ≡ true)
-    → list_any (λ x. not (test x)) xs ≡ false
-none_new test [] all = refl
-none_new test (x ∷ xs) all =
-    ap (λ (b : Bool). not b || list_any (λ y. not (test y)) xs) (all x (Contains-first x xs))
-    ∙ none_new test xs (λ y found. all y (Contains-later x xs y found))
 
 -- so no move of a best reply is new to it
 whole_none : (question : Question) (plan : Plan) (defence : Defence) → IsValid question
@@ -164,7 +152,7 @@ whole_none question plan defence valid =
         let moves = whole_moves question [] entry.history
         ∙ legal_going question whole_support [] entry.history [] choice.going in
         among_contained (supported_moves question whole_support [] entry.history) entry.mv
-        (subst (λ (l : List ClassMove). Contains l entry.mv)
+        (Contains-same entry.mv
         (own_moves_on question valid entry.history choice.going layout.0 layout.1 choice.turn
         ∙ declarers_moves (class_after question entry.history) layout.0.0 [] choice.turn ∙ sym moves) choice.legal)
 
@@ -177,7 +165,7 @@ whole_none question plan defence valid =
         let moves = whole_moves question west entry.history
         ∙ legal_going question whole_support west entry.history west choice.going in
         among_contained (supported_moves question whole_support west entry.history) entry.mv
-        (subst (λ (l : List ClassMove). Contains l entry.mv) (sym moves) choice.legal)
+        (Contains-same entry.mv (sym moves) choice.legal)
 
 pub whole_supports_meet : WholeSupportsMeet
 whole_supports_meet question optimum readable priced =

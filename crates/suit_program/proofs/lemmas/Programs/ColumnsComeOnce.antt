@@ -1,6 +1,5 @@
 -- No column of a program comes twice, so that each has the number of its place (`columns_once`, `columns_are_given`).
-use Rattle.std.proofs.Common.{◌≡◌, ℕ, zero, suc, ◌<◌, Bool, true, false, List, [], ◌∷◌, length, get_or, map, refl}
-use Rattle.std.proofs.Common.{sym}
+use Rattle.std.proofs.Common.{◌≡◌, ℕ, zero, suc, ◌<◌, Bool, true, false, List, [], ◌∷◌, length, get_or, map, refl, sym}
 use Rattle.std.proofs.Common.{ap, ◌∙◌, subst, inl, inr, arith}
 use Rattle.std.specs.Prelude.{Contains, bytes_eq, if◌then◌else◌, ℤ, pos, ◌+ℤ◌, ◌*ℤ◌}
 use Rattle.std.specs.List.{AllByRecursion, flat_map}
@@ -8,8 +7,9 @@ use Rattle.std.proofs.lemmas.Bool.{and_from, and_parts, false≢true, false_from
 use Rattle.std.proofs.lemmas.Int.{ints}
 use Rattle.std.proofs.lemmas.List.Elements.{Contains-get_or}
 use Rattle.std.proofs.lemmas.Slice.Eq.{bytes_eq-Decides}
-use Rattle.suit_lists.proofs.Chains.{chained_filter}
+use Rattle.suit_lists.proofs.Chains.{chained_filter, once_pieces}
 use Rattle.suit_lists.proofs.Elements.{Contains-cons_cases, Contains-nil, each_at}
+use Rattle.suit_lists.proofs.FlatMaps.{flat_map_from}
 use Rattle.suit_lists.proofs.Maps.{Contains-map_from}
 use Rattle.suit_lists.proofs.Once.{IsOnce, once_map, once_pairs}
 use Rattle.suit_cards.specs.Cards.{ClassLayout}
@@ -26,10 +26,8 @@ use Rattle.suit_program.specs.Programs.{columns, columns_at, held_column, limits
 use Rattle.suit_program.specs.Supports.{Support, declarer_chooses, defence_chooses, is_reached, layouts_of}
 use Rattle.suit_program.specs.Supports.{reached_histories, reached_layouts, supported_moves}
 use Rattle.suit_program.proofs.lemmas.Programs.RowsComeOnce.{IsLayoutBefore, counts-never, layouts_chained, limits_once}
-use Rattle.suit_program.proofs.lemmas.Programs.RowsComeOnce.{once_pieces}
 use Rattle.suit_program.proofs.lemmas.Programs.PricesByName.{price_at}
 use Rattle.suit_program.proofs.lemmas.Supports.ReachedInOrder.{reached_chained}
-use Rattle.suit_program.proofs.lemmas.Supports.WhatIsReached.{flat_map_from}
 use Rattle.suit_program.proofs.lemmas.Supports.TurnCases.{supported_once}
 
 abbrev place_of : Column → List ClassMove

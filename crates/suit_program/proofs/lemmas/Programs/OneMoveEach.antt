@@ -6,8 +6,8 @@ use Rattle.std.specs.List.{AllByRecursion, flat_map}
 use Rattle.std.proofs.lemmas.Bool.{and_parts, cases_Bool, false≢true, false_from_ne_true}
 use Rattle.std.proofs.lemmas.Int.{ints}
 use Rattle.suit_lists.proofs.Chains.{Chained}
-use Rattle.suit_lists.proofs.Elements.{Contains-cons_cases, Contains-nil, each_at}
-use Rattle.suit_lists.proofs.FlatMaps.{Contains-flat_map, each_flat_map}
+use Rattle.suit_lists.proofs.Elements.{Contains-cons_cases, Contains-nil, Contains-same, each_at}
+use Rattle.suit_lists.proofs.FlatMaps.{Contains-flat_map, each_flat_map, flat_map_from}
 use Rattle.suit_lists.proofs.Maps.{Contains-map, map_same}
 use Rattle.suit_lists.proofs.Once.{IsOnce}
 use Rattle.suit_cards.specs.Cards.{ClassLayout}
@@ -26,17 +26,14 @@ use Rattle.suit_program.specs.Programs.Points.{Column, Held, Passed, Point, give
 use Rattle.suit_program.specs.Programs.{Answered, Limit, Shared, columns, columns_at, excess, held_column, limits}
 use Rattle.suit_program.specs.Programs.{sum_passed}
 use Rattle.suit_program.specs.Supports.{Support, declarer_chooses, is_reached, layouts_of, reached_histories}
-use Rattle.suit_program.specs.Supports.{reached_layouts}
-use Rattle.suit_program.specs.Supports.{supported_moves}
+use Rattle.suit_program.specs.Supports.{reached_layouts, supported_moves}
 use Rattle.suit_program.specs.Programs.Worths.{mass_at}
 use Rattle.suit_program.proofs.lemmas.Programs.WithinTheRows.{their_only}
-use Rattle.suit_program.proofs.lemmas.Supports.WhatIsReached.{AtOwn, AtTheirs, IsSomewhere, StandsAt, flat_map_from}
-use Rattle.suit_program.proofs.lemmas.Supports.WhatIsReached.{limits_reached}
+use Rattle.suit_program.proofs.lemmas.Supports.WhatIsReached.{AtOwn, AtTheirs, IsSomewhere, StandsAt, limits_reached}
 use Rattle.suit_program.proofs.lemmas.Supports.WhatIsReached.{reached_fits, reached_listed, reached_next, reached_none}
 use Rattle.suit_program.proofs.lemmas.Supports.ReachedInOrder.{reached_chained}
 use Rattle.suit_program.proofs.lemmas.Supports.TurnCases.{Ended, Forced, Own, Theirs, TurnAt, mass_passed}
-use Rattle.suit_program.proofs.lemmas.Supports.TurnCases.{supported_once}
-use Rattle.suit_program.proofs.lemmas.Supports.TurnCases.{turn_at}
+use Rattle.suit_program.proofs.lemmas.Supports.TurnCases.{supported_once, turn_at}
 
 abbrev ones : ℕ → ℤ
 ones index = pos 1
@@ -277,16 +274,16 @@ module _ (question : Question) (support : Support) (valid : IsValid question) (t
         → TurnAt question support layout.0 history
         → mass_at question support taken_point (history ++ move ∷ []) ≡ number (chosen (history ++ move ∷ []))
     next_taken history move reached is found (Ended over none waits) =
-        absurd (Contains-nil move (subst (λ (l : List ClassMove). Contains l move) none found))
+        absurd (Contains-nil move (Contains-same move none found))
     next_taken history move reached is found (Forced only alone one nobody same) =
-        elim (Contains-cons_cases only [] move (subst (λ (l : List ClassMove). Contains l move) one found)) [
+        elim (Contains-cons_cases only [] move (Contains-same move one found)) [
           | inl here ↦ stays history move nobody.0 (subst (λ (m : ClassMove). mass_at question support taken_point
               (history ++ m ∷ []) ≡ mass_at question support taken_point history) here (same taken_point)) is
           | inr there ↦ absurd (Contains-nil move there)
         ]
     next_taken history move reached is found (Own chooses waits same some) =
         mass_passed question support taken_point history move chooses
-        (subst (λ (l : List ClassMove). Contains l move) same found)
+        (Contains-same move same found)
         ∙ taken_passed history move (reached_listed question support valid layout listed history reached) chooses
         ∙ ap (λ (b : Bool). number (chosen history && (if b then same_class_move (taken history) move else true)))
         (sym chooses) ∙ ap number (sym (chosen-push history move))

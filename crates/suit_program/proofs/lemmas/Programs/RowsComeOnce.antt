@@ -2,16 +2,16 @@
 use Rattle.std.proofs.Common.{◌≡◌, ℕ, Bool, true, false, List, [], ◌∷◌, map, refl, sym, ap, ◌∙◌, subst, inl, inr}
 use Rattle.std.proofs.Common.{Ordering}
 use Rattle.std.specs.Prelude.{Contains, ◌&&◌, ◌||◌, ◌==◌, cond, nat_lt, if◌then◌else◌}
-use Rattle.std.specs.List.{AllByRecursion, flat_map}
+use Rattle.std.specs.List.{flat_map}
 use Rattle.std.specs.Ordering.{nat_cmp, ordering_then}
 use Rattle.std.specs.Cmp.Lexicographic.{slice_cmp}
 use Rattle.std.specs.declared.cmp.Ordering.TheVariants.{Less, Equal, Greater}
 use Rattle.std.proofs.lemmas.Bool.{false≢true}
-use Rattle.suit_lists.proofs.Chains.{Chained, chained_filter, pairs_chained}
-use Rattle.suit_lists.proofs.Elements.{Contains-cons_cases, Contains-nil, each_at, each_gives, each_in}
-use Rattle.suit_lists.proofs.FlatMaps.{each_flat_map}
+use Rattle.suit_lists.proofs.Chains.{Chained, chained_filter, once_pieces, pairs_chained}
+use Rattle.suit_lists.proofs.Elements.{Contains-cons_cases, Contains-nil, each_gives}
+use Rattle.suit_lists.proofs.FlatMaps.{flat_map_from}
 use Rattle.suit_lists.proofs.Maps.{Contains-map_from}
-use Rattle.suit_lists.proofs.Once.{IsOnce, once_append, once_map}
+use Rattle.suit_lists.proofs.Once.{IsOnce, once_map}
 use Rattle.suit_cards.specs.Cards.{ClassLayout}
 use Rattle.suit_game.specs.declared.question.Question.{Question}
 use Rattle.suit_classes.specs.declared.class_moves.ClassMove.{ClassMove}
@@ -23,24 +23,8 @@ use Rattle.suit_plans.proofs.KeyOrder.{history-never}
 use Rattle.suit_program.specs.Programs.{Answered, Limit, Shared, answered_limits, limits, limits_at}
 use Rattle.suit_program.specs.Supports.{Support, declarer_chooses, defence_chooses, is_reached, layouts_of}
 use Rattle.suit_program.specs.Supports.{reached_histories, reached_layouts, supported_moves}
-use Rattle.suit_program.proofs.lemmas.Supports.WhatIsReached.{flat_map_from}
 use Rattle.suit_program.proofs.lemmas.Supports.ReachedInOrder.{reached_chained}
 use Rattle.suit_program.proofs.lemmas.Supports.TurnCases.{supported_once}
-
--- pieces of which none has an element of a later one
-pub once_pieces : {X Y : Type 0} (R : X → X → Type 0) (piece : X → List Y) (xs : List X) → Chained R xs
-    → ((x : X) → IsOnce (piece x))
-    → ((x z : X) → R x z → (y : Y) → Contains (piece x) y → Contains (piece z) y → ⊥)
-    → IsOnce (flat_map piece xs)
-unfolding IsOnce Chained
-once_pieces R piece [] chain each apart = tt
-once_pieces {X} {Y} R piece (x ∷ xs) chain each apart =
-    once_append (piece x) (flat_map piece xs) (each x) (once_pieces R piece xs chain.1 each apart)
-    (each_in (λ y. AllByRecursion (λ w. y ≡ w → ⊥) (flat_map piece xs)) (piece x)
-    (λ y here. each_flat_map (λ w. y ≡ w → ⊥) piece xs
-    (λ z later. each_in (λ w. y ≡ w → ⊥) (piece z)
-    (λ w there same. apart x z (each_at (R x) xs z chain.0 later) y here
-    (subst (Contains (piece z)) (sym same) there)))))
 
 -- which class history a row stands at, and for which counts
 abbrev place_of : Limit → List ClassMove

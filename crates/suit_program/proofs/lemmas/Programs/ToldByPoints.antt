@@ -1,11 +1,12 @@
--- What rows come to at all points tells the program (`costs_told`, `rows_told`).
-use Rattle.std.proofs.Common.{◌≡◌, ℕ, zero, suc, ◌+◌, ◌<◌, ◌≤◌, Bool, true, false, List, [], ◌∷◌, length, get_or}
-use Rattle.std.proofs.Common.{map}
+-- What rows come to at all points tells the program (`costs_told`, `row_told`).
+use Rattle.std.proofs.Common.{◌≡◌, ℕ, zero, suc, ◌+◌, ◌<◌, ◌≤◌, Bool, true, false, List, [], ◌∷◌, length, get_or, map}
 use Rattle.std.proofs.Common.{refl, sym, ap, ◌∙◌, subst, arith}
 use Rattle.std.specs.Prelude.{◌==◌, filter, if◌then◌else◌, ℤ, pos, neg_ℤ, ◌+ℤ◌, ◌-ℤ◌, ◌*ℤ◌}
 use Rattle.std.specs.List.{range_with_len}
 use Rattle.std.proofs.lemmas.Bool.{cond-false, cond-true, eq-eqb, ne_eqb}
 use Rattle.std.proofs.lemmas.Int.{ints}
+use Rattle.suit_lists.proofs.Maps.{map_twice}
+use Rattle.suit_lists.proofs.Walks.{range_map}
 use Rattle.suit_num.proofs.IntegerLaws.{mul-neg_left}
 use Rattle.suit_game.specs.declared.question.Question.{Question}
 use Rattle.suit_plans.specs.Properness.{sum_of}
@@ -25,20 +26,6 @@ use Rattle.suit_program.specs.Walks.Writing.{AreGiven, told}
 use Rattle.suit_program.specs.Programs.Worths.{objective_at}
 use Rattle.suit_program.proofs.lemmas.Programs.ColumnsComeOnce.{columns_are_given}
 use Rattle.suit_program.proofs.lemmas.Programs.LinearInThePoint.{costs_tell, rows_tell}
-use Rattle.suit_program.proofs.lemmas.Walks.AccountsByLayout.{map_twice}
-
--- ---- lists
-
--- what is made of the numbers of a list's places is what is made of its elements
-pub range_map : {X Y : Type 0} (f : ℕ → Y) (g : X → Y) (xs : List X) (d : X) (first : ℕ)
-    → ((index : ℕ) → index < length xs → f (first + index) ≡ g (get_or xs index d))
-    → map f (range_with_len first (length xs)) ≡ map g xs
-range_map f g [] d first same = refl
-range_map {Y = Y} f g (x ∷ xs) d first same =
-    ap (λ (l : List Y). f first ∷ l)
-    (range_map f g xs d (first + 1)
-    (λ index below. ap f (omega arith) ∙ same (suc index) (omega (arith, below))))
-    ∙ ap (λ (y : Y). y ∷ map g xs) (ap f (omega arith) ∙ same 0 (omega arith))
 
 -- ---- rows by number
 

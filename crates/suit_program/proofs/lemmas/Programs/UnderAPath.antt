@@ -1,10 +1,9 @@
 -- Points that lie under the path to a class history: masses at them are at most 1, and worths at most thirteen tricks
 -- (`tame_worths`).
-use Rattle.std.proofs.Common.{◌≡◌, ℕ, true, List, [], ◌∷◌, ◌++◌, refl, sym, subst, inl, inr}
-use Rattle.std.proofs.Common.{arith}
+use Rattle.std.proofs.Common.{◌≡◌, ℕ, true, List, [], ◌∷◌, ◌++◌, refl, sym, subst, inl, inr, arith}
 use Rattle.std.specs.Prelude.{Contains, ℤ, pos, ◌+ℤ◌, ◌-ℤ◌, ◌*ℤ◌, ◌≤ℤ◌, ◌-◌, length}
 use Rattle.std.proofs.lemmas.Int.{ints}
-use Rattle.suit_lists.proofs.Elements.{Contains-cons_cases, Contains-nil}
+use Rattle.suit_lists.proofs.Elements.{Contains-cons_cases, Contains-nil, Contains-same}
 use Rattle.suit_cards.specs.Cards.{ClassLayout}
 use Rattle.suit_game.specs.declared.question.Question.{Question}
 use Rattle.suit_game.specs.Validity.{IsValid}
@@ -22,8 +21,7 @@ use Rattle.suit_program.proofs.lemmas.Programs.LinearInThePoint.{AreCombined, ma
 use Rattle.suit_program.proofs.lemmas.Supports.WhatIsReached.{reached_allows, reached_fits, reached_next, reached_none}
 use Rattle.suit_program.proofs.lemmas.Programs.SumsInOrder.{le_trans, sum_le}
 use Rattle.suit_program.proofs.lemmas.Supports.TurnCases.{Ended, Forced, Own, Theirs, TurnAt, mass_passed}
-use Rattle.suit_program.proofs.lemmas.Supports.TurnCases.{supported_once}
-use Rattle.suit_program.proofs.lemmas.Supports.TurnCases.{turn_at}
+use Rattle.suit_program.proofs.lemmas.Supports.TurnCases.{supported_once, turn_at}
 use Rattle.suit_program.proofs.lemmas.Programs.WorthWithinMass.{AreKept, masses_low, within_low, within_paid}
 
 abbrev path_at : List ClassMove → Column → ℤ
@@ -93,9 +91,9 @@ module _ (question : Question) (support : Support) (valid : IsValid question) (t
       → Contains (supported_moves question support layout.0 history) move
       → TurnAt question support layout.0 history → Along (history ++ move ∷ [])
   goes_on history move along found (Ended over none not_theirs) =
-      absurd (Contains-nil move (subst (λ (l : List ClassMove). Contains l move) none found))
+      absurd (Contains-nil move (Contains-same move none found))
   goes_on history move along found (Forced only alone is nobody same) =
-      elim (Contains-cons_cases only [] move (subst (λ (l : List ClassMove). Contains l move) is found)) [
+      elim (Contains-cons_cases only [] move (Contains-same move is found)) [
         | inl here ↦ kept_on history move along found (subst (λ (m : ClassMove). mass_on (history ++ m ∷ [])
             ≡ mass_on history) here (same (path target)))
         | inr there ↦ absurd (Contains-nil move there)
@@ -103,7 +101,7 @@ module _ (question : Question) (support : Support) (valid : IsValid question) (t
   goes_on history move along found (Own chooses not_theirs same some) =
       passed_on history move along found
       (mass_passed question support (path target) history move chooses
-      (subst (λ (l : List ClassMove). Contains l move) same found))
+      (Contains-same move same found))
   goes_on history move along found (Theirs chooses some same) =
       kept_on history move along found (same (path target) move)
 

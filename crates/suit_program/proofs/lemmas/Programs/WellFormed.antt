@@ -1,13 +1,11 @@
 -- Every support's program is well formed (`programs_are_well_formed`): no bound is negative, all numbers are narrow.
 use Rattle.std.proofs.Common.{◌≡◌, ℕ, ◌<◌, ◌≤◌, Bool, true, false, List, [], ◌∷◌, ◌++◌, length, map, refl, sym}
 use Rattle.std.proofs.Common.{ap, ◌∙◌, arith}
-use Rattle.std.specs.Prelude.{All, Contains, ◌&&◌, ◌^◌, if◌then◌else◌, ℤ, pos, negsuc, neg_ℤ, ◌-ℤ◌, ◌*ℤ◌}
-use Rattle.std.specs.Prelude.{◌≤ℤ◌, ◌-◌, bytes_eq}
+use Rattle.std.specs.Prelude.{All, ◌&&◌, ◌^◌, if◌then◌else◌, ℤ, pos, negsuc, neg_ℤ, ◌-ℤ◌, ◌*ℤ◌, ◌≤ℤ◌, ◌-◌, bytes_eq}
 use Rattle.std.proofs.lemmas.Bool.{and_parts}
 use Rattle.std.proofs.lemmas.Int.{ints}
 use Rattle.std.proofs.lemmas.List.{length-map}
-use Rattle.std.proofs.lemmas.List.Elements.{All-from_recursion, All-map}
-use Rattle.suit_lists.proofs.Elements.{each_in}
+use Rattle.suit_lists.proofs.Maps.{All-mapped}
 use Rattle.suit_cards.specs.Cards.{ClassLayout}
 use Rattle.suit_num.specs.Narrow.{IsNarrow}
 use Rattle.suit_game.specs.declared.question.Question.{Question}
@@ -130,12 +128,6 @@ neg_narrow number tiny =
     let a = tiny.low in let b = tiny.few in
     narrow_within (neg_ℤ number) 13 (omega (arith, ints, a, b)) (omega (arith, ints, a, b)) (omega arith)
 
--- what holds of all that a list is mapped to
-all_mapped : {X Y : Type 0} (P : Y → Type 0) (f : X → Y) (xs : List X) → ((x : X) → Contains xs x → P (f x))
-    → All P (map f xs)
-all_mapped {X} P f xs each = All-map P f xs (All-from_recursion (λ (x : X). P (f x)) xs
-    (each_in (λ (x : X). P (f x)) xs each))
-
 module _ (question : Question) (support : Support) (valid : IsValid question) where
   excess_tiny : (point : Point) → IsTame point → (limit : Limit) → StandsAt question support limit
       → IsTiny (excess question support point limit)
@@ -210,20 +202,20 @@ programs_are_well_formed question support valid =
     let rows : List Limit = limits question support in
     let row : Limit → ProgramRow = row_of question support all in
     record {
-      bounds = all_mapped (λ (r : ProgramRow). pos 0 ≤ℤ r.bound) row rows
+      bounds = All-mapped (λ (r : ProgramRow). pos 0 ≤ℤ r.bound) row rows
           (λ limit found. bound_low question support valid limit);
-      widths = all_mapped (λ (r : ProgramRow). length r.entries
+      widths = All-mapped (λ (r : ProgramRow). length r.entries
           ≡ length (map (λ column. objective_at question support (unit_point column)) all)) row rows
           (λ limit found. length-map all (λ column. excess question support (unit_point column) limit)
           ∙ sym (length-map all (λ column. objective_at question support (unit_point column))));
-      narrow_costs = all_mapped IsNarrow (λ column. objective_at question support (unit_point column)) all
+      narrow_costs = All-mapped IsNarrow (λ column. objective_at question support (unit_point column)) all
           (λ column found. costs_narrow question support valid column);
-      narrow_entries = all_mapped (λ (r : ProgramRow). All IsNarrow r.entries) row rows
-          (λ limit found. all_mapped IsNarrow (λ column. excess question support (unit_point column) limit) all
+      narrow_entries = All-mapped (λ (r : ProgramRow). All IsNarrow r.entries) row rows
+          (λ limit found. All-mapped IsNarrow (λ column. excess question support (unit_point column) limit) all
           (λ column there. tiny_narrow (excess question support (unit_point column) limit)
           (excess_tiny question support valid (unit_point column) (unit_tame column) limit
           (limits_reached question support valid limit found))));
-      narrow_bounds = all_mapped (λ (r : ProgramRow). IsNarrow r.bound) row rows
+      narrow_bounds = All-mapped (λ (r : ProgramRow). IsNarrow r.bound) row rows
           (λ limit found. neg_narrow (excess question support no_point limit)
           (excess_tiny question support valid no_point none_tame limit
           (limits_reached question support valid limit found)));

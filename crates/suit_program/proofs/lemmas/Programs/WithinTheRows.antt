@@ -1,10 +1,9 @@
 -- A point within the rows of a support's program keeps them at all that is reached (`kept_within`).
-use Rattle.std.proofs.Common.{◌≡◌, ℕ, Bool, true, false, List, [], ◌∷◌, ◌++◌, length}
-use Rattle.std.proofs.Common.{sym, ap, ◌∙◌, subst, arith}
+use Rattle.std.proofs.Common.{◌≡◌, ℕ, Bool, true, false, List, [], ◌∷◌, ◌++◌, length, sym, ap, ◌∙◌, arith}
 use Rattle.std.specs.Prelude.{Contains, ◌&&◌, nat_lt, ℤ, pos, ◌-ℤ◌, ◌*ℤ◌, ◌≤ℤ◌}
 use Rattle.std.proofs.lemmas.Bool.{and_parts, false≢true}
 use Rattle.std.proofs.lemmas.Int.{ints}
-use Rattle.suit_lists.proofs.Elements.{Contains-first}
+use Rattle.suit_lists.proofs.Elements.{Contains-first, Contains-same}
 use Rattle.suit_lists.proofs.Firsts.{HasFirst}
 use Rattle.suit_cards.specs.Cards.{ClassLayout}
 use Rattle.suit_game.specs.declared.question.Question.{Question}
@@ -101,7 +100,7 @@ module _ (question : Question) (support : Support) (valid : IsValid question) (p
           let theirs = their_choice question support layout.0 history chooses in
           let first : ClassMove = theirs.some.first in
           let found : Contains (supported_moves question support layout.0 history) first =
-          subst (λ (l : List ClassMove). Contains l first) (sym theirs.some.parts)
+          Contains-same first (sym theirs.some.parts)
           (Contains-first first theirs.some.more) in
           held_paid (mass_at question support point history)
           (worth_at question support point layout.0 (history ++ first ∷ [])) (point.at (Held layout.0 history))

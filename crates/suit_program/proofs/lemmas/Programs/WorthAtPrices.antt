@@ -1,17 +1,16 @@
 -- At feasible prices a point is worth no more than what it exceeds the rows by comes to (`units_bounded`,
 -- `points_bounded`), class layout by class layout (`exceeds_by_play`).
 use Rattle.std.proofs.Common.{◌≡◌, ℕ, zero, suc, ◌<◌, Bool, true, false, List, [], ◌∷◌, ◌++◌, length, map, refl, sym}
-use Rattle.std.proofs.Common.{ap}
-use Rattle.std.proofs.Common.{◌∙◌, subst, arith}
-use Rattle.std.specs.Prelude.{Contains, cond, filter, slice_index_or, if◌then◌else◌, ℤ, pos, neg_ℤ, ◌+ℤ◌, ◌-ℤ◌, ◌*ℤ◌}
-use Rattle.std.specs.Prelude.{◌≤ℤ◌}
+use Rattle.std.proofs.Common.{ap, ◌∙◌, subst, arith}
+use Rattle.std.specs.Prelude.{Contains, slice_index_or, if◌then◌else◌, ℤ, pos, neg_ℤ, ◌+ℤ◌, ◌-ℤ◌, ◌*ℤ◌, ◌≤ℤ◌}
 use Rattle.std.specs.List.{flat_map}
 use Rattle.std.proofs.lemmas.Bool.{false≢true}
 use Rattle.std.proofs.lemmas.Int.{ints}
 use Rattle.std.proofs.lemmas.List.{length-map}
 use Rattle.std.proofs.Math.IntN.{*ℤ_comm}
 use Rattle.suit_lists.proofs.Elements.{Contains-first, Contains-later}
-use Rattle.suit_lists.proofs.Maps.{map_same}
+use Rattle.suit_lists.proofs.Filters.{filter_all}
+use Rattle.suit_lists.proofs.Maps.{map_same, map_twice}
 use Rattle.suit_cards.specs.Cards.{ClassLayout}
 use Rattle.suit_num.proofs.IntegerLaws.{mul-add_left}
 use Rattle.suit_game.specs.declared.question.Question.{Question}
@@ -43,16 +42,6 @@ mapped_at : {X : Type 0} (f : X → ℤ) (xs : List X) (index : ℕ) (x : X) →
 mapped_at f [] index x below = absurd (omega (arith, below))
 mapped_at f (first ∷ xs) zero x below = refl
 mapped_at f (first ∷ xs) (suc index) x below = mapped_at f xs index x (omega (arith, below))
-
-mapped_twice : {X Y Z : Type 0} (f : Y → Z) (g : X → Y) (xs : List X) → map f (map g xs) ≡ map (λ x. f (g x)) xs
-mapped_twice f g [] = refl
-mapped_twice {X} {Y} {Z} f g (x ∷ xs) = ap (λ (l : List Z). f (g x) ∷ l) (mapped_twice f g xs)
-
-pub filter_all : {X : Type 0} (test : X → Bool) (xs : List X) → ((x : X) → test x ≡ true) → filter test xs ≡ xs
-filter_all test [] all = refl
-filter_all {X} test (x ∷ xs) all =
-    ap (λ (b : Bool). cond b (x ∷ filter test xs) (filter test xs)) (all x)
-    ∙ ap (λ (l : List X). x ∷ l) (filter_all test xs all)
 
 -- what holds of each product holds of the sum, at numbers 1
 ones_le : (scale : ℤ) (all : List Column) (f g : Column → ℤ)
@@ -110,7 +99,7 @@ module _ (question : Question) (support : Support) (prices : List ℤ) (scale : 
       mapped_at objective all index column found.1 ∙ ap objective found.2 in
       let entries : column_entries (map row (limits question support)) index
       ≡ map (excess question support (unit_point column)) (limits question support) =
-      mapped_twice (λ other. number_at other.entries index) row (limits question support)
+      map_twice (λ other. number_at other.entries index) row (limits question support)
       ∙ map_same (λ limit. number_at (row limit).entries index) (excess question support (unit_point column))
       (limits question support)
       (λ limit there. mapped_at (λ other. excess question support (unit_point other) limit) all index column found.1
@@ -132,7 +121,7 @@ module _ (question : Question) (support : Support) (prices : List ℤ) (scale : 
       let bounds : priced all prices (λ limit. neg_ℤ (f limit)) ≡ value =
       sym (dot_priced all prices (λ limit. neg_ℤ (f limit)) prices_long)
       ∙ ap (λ (l : List ℤ). dot prices (number_at l))
-      (sym (mapped_twice (λ (row : ProgramRow). row.bound) (row_of question support (columns question support)) all))
+      (sym (map_twice (λ (row : ProgramRow). row.bound) (row_of question support (columns question support)) all))
       ∙ is in
       let turned = priced_linear (neg_ℤ (pos 1)) all prices f (λ limit. pos 0) (λ limit. neg_ℤ (f limit))
       (λ limit. negated (f limit)) in
@@ -210,7 +199,7 @@ module _ (question : Question) (support : Support) (prices : List ℤ) (scale : 
             ≡ (if b then sum_of (map (λ move. price_of (limits question support) prices layout.0 history move
             *ℤ (point.at (Held layout.0 history) -ℤ worth_at question support point layout.0 (history ++ move ∷ [])))
             (supported_moves question support layout.0 history)) else pos 0)
-        at true = ap sum_of (mapped_twice by_name (Answered layout.0 history)
+        at true = ap sum_of (map_twice by_name (Answered layout.0 history)
             (supported_moves question support layout.0 history))
         at false = refl
 

@@ -1,15 +1,15 @@
 -- What a class history is worth by what its moves are worth, and which moves go on from it (`worth_summed`,
 -- `own_next`).
 use Rattle.std.proofs.Common.{◌≡◌, ℕ, suc, ◌-◌, ◌≤◌, Bool, true, false, List, [], ◌∷◌, ◌++◌, length, map, refl}
-use Rattle.std.proofs.Common.{sym, ap, ◌∙◌, subst, arith}
+use Rattle.std.proofs.Common.{sym, ap, ◌∙◌, arith}
 use Rattle.std.specs.Prelude.{Contains, ◌&&◌, filter, nat_lt, ℤ, pos, ◌*ℤ◌}
 use Rattle.std.specs.List.{flat_map}
 use Rattle.std.proofs.lemmas.List.{length-append}
 use Rattle.std.proofs.lemmas.List.Elements.{filter_agree}
-use Rattle.suit_lists.proofs.Elements.{Contains-first}
+use Rattle.suit_lists.proofs.Elements.{Contains-first, Contains-same}
 use Rattle.suit_lists.proofs.Filters.{filter_none}
 use Rattle.suit_lists.proofs.Firsts.{HasFirst}
-use Rattle.suit_lists.proofs.FlatMaps.{Contains-flat_map}
+use Rattle.suit_lists.proofs.FlatMaps.{Contains-flat_map, flat_map_from, flat_map_none}
 use Rattle.suit_lists.proofs.Maps.{map_same}
 use Rattle.suit_cards.specs.Cards.{ClassLayout}
 use Rattle.suit_game.specs.declared.question.Question.{Question}
@@ -27,7 +27,7 @@ use Rattle.suit_program.specs.Programs.Points.{Held, Point}
 use Rattle.suit_program.specs.Supports.{Support, declarer_chooses, defence_chooses, is_reached, layouts_of, legal_moves}
 use Rattle.suit_program.specs.Supports.{next_moves, reached_layouts, supported_moves}
 use Rattle.suit_program.specs.Programs.Worths.{mass_at, worth_at, worth_within}
-use Rattle.suit_program.proofs.lemmas.Supports.WhatIsReached.{flat_map_from, reached_allows}
+use Rattle.suit_program.proofs.lemmas.Supports.WhatIsReached.{reached_allows}
 use Rattle.suit_program.proofs.lemmas.Supports.TurnCases.{own_supported, supported_going}
 use Rattle.suit_program.proofs.lemmas.Supports.SumsByPlay.{supported_all}
 use Rattle.suit_program.proofs.lemmas.Programs.WorthWithinMass.{choosing, going, some_summed}
@@ -86,10 +86,6 @@ reached_short question support valid layout listed history reached =
 
 -- ---- moves
 
-pub flat_none : {X Y : Type 0} (f : X → List Y) (xs : List X) → ((x : X) → f x ≡ []) → flat_map f xs ≡ []
-flat_none f [] none = refl
-flat_none {Y = Y} f (x ∷ xs) none = ap (λ (l : List Y). l ++ flat_map f xs) (none x) ∙ flat_none f xs none
-
 module _ (question : Question) (support : Support) (history : List ClassMove) where
   -- none where play is decided
   pub over_supported : class_decided (class_after question history) ≡ true → (west : ClassLayout)
@@ -107,8 +103,8 @@ module _ (question : Question) (support : Support) (history : List ClassMove) wh
   unfolding next_moves is_among
   over_next over =
       ap (λ (l : List ClassMove). filter (is_among l) every_move)
-      (flat_none (λ (layout : ClassLayout × ℕ). supported_moves question support layout.0 history)
-      (reached_layouts question support history) (λ layout. over_supported over layout.0))
+      (flat_map_none (λ (layout : ClassLayout × ℕ). supported_moves question support layout.0 history)
+      (reached_layouts question support history) (λ layout found. over_supported over layout.0))
       ∙ filter_none every_move
 
   -- at a turn of declarer's those of his
@@ -127,10 +123,10 @@ module _ (question : Question) (support : Support) (history : List ClassMove) wh
       (λ move. same_bools (is_among (flat_map moves layouts) move) (is_among mine move)
       (λ among.
       let from = flat_map_from moves layouts move (among-Contains (flat_map moves layouts) move among) in
-      among_contained mine move (subst (λ (l : List ClassMove). Contains l move) (same from.0) from.2))
+      among_contained mine move (Contains-same move (same from.0) from.2))
       (λ among. among_contained (flat_map moves layouts) move
       (Contains-flat_map moves layouts layout move held
-      (subst (λ (l : List ClassMove). Contains l move) (sym (same layout)) (among-Contains mine move among)))))
+      (Contains-same move (sym (same layout)) (among-Contains mine move among)))))
       every_move
       ∙ sym (supported_all question support [] history)
 

@@ -1,12 +1,11 @@
 -- At a point that keeps within the rows a class history is worth between nothing and thirteen tricks of its mass
 -- (`within_paid`).
 use Rattle.std.proofs.Common.{◌≡◌, ℕ, zero, suc, ◌-◌, ◌≤◌, Bool, true, false, List, [], ◌∷◌, ◌++◌, length, Some, None}
-use Rattle.std.proofs.Common.{map}
-use Rattle.std.proofs.Common.{refl, sym, ap, ◌∙◌, subst, arith}
+use Rattle.std.proofs.Common.{map, refl, sym, ap, ◌∙◌, subst, arith}
 use Rattle.std.specs.Prelude.{Contains, if◌then◌else◌, ℤ, pos, ◌*ℤ◌, ◌≤ℤ◌}
 use Rattle.std.proofs.lemmas.Int.{ints}
 use Rattle.std.proofs.lemmas.List.{length-append}
-use Rattle.suit_lists.proofs.Elements.{Contains-first}
+use Rattle.suit_lists.proofs.Elements.{Contains-first, Contains-same}
 use Rattle.suit_lists.proofs.Firsts.{HasFirst}
 use Rattle.suit_lists.proofs.Maps.{map_same}
 use Rattle.suit_cards.specs.Cards.{ClassLayout}
@@ -186,7 +185,7 @@ module _ (question : Question) (support : Support) (point : Point) (west : Class
       paid_more (sum_of (map (λ move. mass (history ++ move ∷ [])) moves)) (mass history)
       (sum_of (map (next more history) moves))
       (sum_paid (next more history) (λ move. mass (history ++ move ∷ [])) moves
-      (λ move found. paid move (subst (λ (l : List ClassMove). Contains l move) (sym same) found)))
+      (λ move found. paid move (Contains-same move (sym same) found)))
       (subst (λ (z : ℤ). z ≤ℤ mass history) (sym passes) (kept.shared history fits chooses))
 
   turn_paid : (more : ℕ) (history : List ClassMove) → Fits history → suc more ≡ 53 - length history
@@ -199,7 +198,7 @@ module _ (question : Question) (support : Support) (point : Point) (west : Class
   turn_paid more history fits left paid (Forced move alone only nobody same) =
       let one : IsPaid (mass history) (next more history move) =
       subst (λ (z : ℤ). IsPaid z (next more history move)) (same point)
-      (paid move (subst (λ (l : List ClassMove). Contains l move) (sym only) (Contains-first move []))) in
+      (paid move (Contains-same move (sym only) (Contains-first move []))) in
       subst (IsPaid (mass history)) (sym (going question support point west more history (move ∷ []) nobody.1 only
       ∙ only_one (next more history
       move))) one

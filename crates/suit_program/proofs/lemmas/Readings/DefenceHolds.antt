@@ -2,8 +2,7 @@
 -- the support has the moves of the best reply to it (`defence_holds`).
 use Rattle.std.proofs.Common.{◌≡◌, ◌⊎◌, ℕ, zero, suc, ◌-◌, Bool, true, false, List, [], ◌∷◌, ◌++◌, length}
 use Rattle.std.proofs.Common.{map, refl, sym, ap, ◌∙◌, subst, inl, inr, arith}
-use Rattle.std.specs.Prelude.{Contains, ◌&&◌, filter, nat_lt, if◌then◌else◌, ℤ, pos, ◌+ℤ◌, ◌-ℤ◌, ◌*ℤ◌}
-use Rattle.std.specs.Prelude.{◌≤ℤ◌, int_lt}
+use Rattle.std.specs.Prelude.{Contains, ◌&&◌, filter, nat_lt, if◌then◌else◌, ℤ, pos, ◌+ℤ◌, ◌-ℤ◌, ◌*ℤ◌, ◌≤ℤ◌, int_lt}
 use Rattle.std.specs.List.{list_any}
 use Rattle.std.specs.Ordering.{int_eq}
 use Rattle.std.proofs.lemmas.Bool.{cases_Bool, false≢true, false_from_ne_true}
@@ -14,8 +13,8 @@ use Rattle.std.proofs.lemmas.List.Elements.{filter_agree}
 use Rattle.std.proofs.Math.IntN.{*ℤ_comm}
 use Rattle.suit_cards.specs.Cards.{ClassLayout}
 use Rattle.suit_num.proofs.IntegerLaws.{int_lt-false, int_lt-true, le-mul_right, mul_assoc}
-use Rattle.suit_lists.proofs.Elements.{Contains-first}
-use Rattle.suit_lists.proofs.Filters.{filter-filter}
+use Rattle.suit_lists.proofs.Elements.{Contains-first, Contains-same}
+use Rattle.suit_lists.proofs.Filters.{filter-filter, filter_all}
 use Rattle.suit_lists.proofs.Firsts.{HasFirst-found}
 use Rattle.suit_lists.proofs.Maps.{Contains-map_from, map_same}
 use Rattle.suit_lists.proofs.Tests.{passing_some, some_passing}
@@ -25,24 +24,20 @@ use Rattle.suit_classes.specs.declared.class_moves.ClassMove.{ClassMove}
 use Rattle.suit_classes.specs.WhatIsAllowed.{every_move, is_among}
 use Rattle.suit_classes.specs.ClassMoves.{same_class_move}
 use Rattle.suit_classes.specs.ClassPlaces.{class_after, class_decided, class_moves, class_turn}
-use Rattle.suit_classes.proofs.SameMoves.{among-Contains, among_contained, same_move-itself}
+use Rattle.suit_classes.proofs.SameMoves.{among-Contains, among_contained, both_second, same_move-itself}
 use Rattle.suit_plans.specs.declared.defence.Defence.{Defence}
 use Rattle.suit_plans.specs.BestReplies.{Reply, allowing_layouts, first_of, follows}
-use Rattle.suit_plans.specs.BestReplies.{most, most_reply, public_moves, reply_move}
-use Rattle.suit_plans.specs.BestReplies.{reply_to_defence, worth}
+use Rattle.suit_plans.specs.BestReplies.{most, most_reply, public_moves, reply_move, reply_to_defence, worth}
 use Rattle.suit_plans.specs.Masses.{defence_mass, defenders, is_declarers, is_defences, weight_of}
 use Rattle.suit_plans.specs.Properness.{IsProperDefence, some_allows, sum_of}
 use Rattle.suit_plans.proofs.RepliesAreBounded.{some_allow_none, weight_listed}
-use Rattle.suit_plans.proofs.DefenceWorths.{defences_at_declarers, defences_at_defences}
-use Rattle.suit_plans.proofs.DefenceWorths.{mass_positive}
-use Rattle.suit_plans.proofs.DefenceWorths.{room}
+use Rattle.suit_plans.proofs.DefenceWorths.{defences_at_declarers, defences_at_defences, mass_positive, room}
 use Rattle.suit_plans.proofs.MassBounds.{mass_falls}
 use Rattle.suit_plans.proofs.MassSteps.{mass_kept}
 use Rattle.suit_plans.proofs.NumberSums.{sum_kept, sum_times, sums_exchanged}
 use Rattle.suit_plans.proofs.ProperDefences.{defences_are_realised}
 use Rattle.suit_plans.proofs.PublicMoves.{Contains-allowing, allowing_before, allowing_parts}
-use Rattle.suit_plans.proofs.PublicMoves.{layout_weighs, own_moves_on, public_allowed, public_going}
-use Rattle.suit_plans.proofs.PublicMoves.{some_public}
+use Rattle.suit_plans.proofs.PublicMoves.{layout_weighs, own_moves_on, public_allowed, public_going, some_public}
 use Rattle.suit_plans.proofs.ReplyChoices.{reply_move_found}
 use Rattle.suit_plans.proofs.SharesAddUpToTheMass.{within_sum}
 use Rattle.suit_plans.proofs.TurnMoves.{declarers_moves}
@@ -58,21 +53,19 @@ use Rattle.suit_program.specs.Supports.{layouts_of, legal_moves, names, reached_
 use Rattle.suit_program.specs.Programs.Worths.{objective_at, worth_within}
 use Rattle.suit_program.proofs.lemmas.Readings.PlanKeeps.{first_passes}
 use Rattle.suit_program.proofs.lemmas.Readings.PricesCoverTheMass.{sum_less}
-use Rattle.suit_program.proofs.lemmas.Programs.WorthAtPrices.{exceeds, exceeds_by_play, filter_all, part_of}
-use Rattle.suit_program.proofs.lemmas.Programs.WorthAtPrices.{points_bounded}
+use Rattle.suit_program.proofs.lemmas.Programs.WorthAtPrices.{exceeds, exceeds_by_play, part_of, points_bounded}
 use Rattle.suit_program.proofs.lemmas.Supports.WhatIsReached.{reached_allows, reached_next, reached_none}
-use Rattle.suit_program.proofs.lemmas.Readings.DefenceIsProper.{none_theirs, unsupported_none}
+use Rattle.suit_program.proofs.lemmas.Readings.DefenceIsProper.{few_all, none_theirs, unsupported_none}
 use Rattle.suit_program.proofs.lemmas.Readings.MassesNoLess.{not_own}
 use Rattle.suit_program.proofs.lemmas.Programs.SumsInOrder.{le_trans, sum_le}
 use Rattle.suit_program.proofs.lemmas.Supports.HasTheReply.{both_true, follows_next}
 use Rattle.suit_program.proofs.lemmas.Supports.TurnCases.{Ended, Forced, Own, Theirs, TurnAt, legal_going}
 use Rattle.suit_program.proofs.lemmas.Supports.TurnCases.{own_supported, turn_at}
 use Rattle.suit_program.proofs.lemmas.Programs.OneMoveEach.{chosen, chosen-push, chosen_none, taken_columns}
-use Rattle.suit_program.proofs.lemmas.Programs.OneMoveEach.{taken_listed}
-use Rattle.suit_program.proofs.lemmas.Programs.OneMoveEach.{taken_point, taken_tight}
-use Rattle.suit_program.proofs.lemmas.Supports.SumsByPlay.{both_second, layouts_next, play_sum, supported_all}
+use Rattle.suit_program.proofs.lemmas.Programs.OneMoveEach.{taken_listed, taken_point, taken_tight}
+use Rattle.suit_program.proofs.lemmas.Supports.SumsByPlay.{layouts_next, play_sum, supported_all}
 use Rattle.suit_program.proofs.lemmas.Programs.WorthWithinMass.{choosing, going, only_one, some_summed}
-use Rattle.suit_program.proofs.lemmas.Readings.HeldInEachLayout.{few_all, sum_under_one, bounded, bound_stays}
+use Rattle.suit_program.proofs.lemmas.Readings.HeldInEachLayout.{sum_under_one, bounded, bound_stays}
 use Rattle.suit_program.proofs.lemmas.Readings.HeldInEachLayout.{bound_price, worth_low}
 use Rattle.suit_program.proofs.lemmas.Readings.HeldInEachLayout.{point_held, part_none, part_choice, play_low, held_low}
 use Rattle.suit_program.proofs.lemmas.Readings.HeldInEachLayout.{layout_parts}
@@ -256,7 +249,7 @@ module _ (question : Question) (support : Support) (valid : IsValid question) (p
   alone_own history move not_over own waits found =
       let legal : List ClassMove = legal_moves question [] history in
       let few : nat_lt 1 (length legal) ≡ false = sym (ap (λ (b : Bool). b && nat_lt 1 (length legal)) own) ∙ waits in
-      subst (λ (l : List ClassMove). Contains l move)
+      Contains-same move
       (sym (few_all (names question support [] history) legal few
       ∙ legal_going question support [] history [] not_over))
       found
@@ -284,7 +277,7 @@ module _ (question : Question) (support : Support) (valid : IsValid question) (p
             )
         | inr waits ↦ (
           alone_own history (reply_move reply history) not_over own waits
-              (subst (λ (l : List ClassMove). Contains l (reply_move reply history))
+              (Contains-same (reply_move reply history)
               (own_moves_on question valid history not_over layout
               (Contains-allowing question valid history layout listed
               (reached_allows question support valid layout listed history reached)) own
@@ -303,7 +296,7 @@ module _ (question : Question) (support : Support) (valid : IsValid question) (p
       ∙ filter_all (λ (layout : ClassLayout × ℕ). is_among (supported_moves question support layout.0 history) move)
       (reached_layouts question support history)
       (λ layout. among_contained (supported_moves question support layout.0 history) move
-      (subst (λ (l : List ClassMove). Contains l move)
+      (Contains-same move
       (sym (own_supported question support layout.0 history not_over own)) found))
 
   own_under : (more : ℕ) (history : List ClassMove) → IsGoing history → reply.live history ≡ true
@@ -323,7 +316,7 @@ module _ (question : Question) (support : Support) (valid : IsValid question) (p
       reply_move_found reply history max_picks short some own in
       let moved = own_move layout listed history reached not_over own fits.0 fits.1 live found in
       let each : (other : ClassLayout × ℕ) → Contains (supported_moves question support other.0 history) move =
-      λ other. subst (λ (l : List ClassMove). Contains l move)
+      λ other. Contains-same move
       (sym (own_supported question support other.0 history not_over own)) moved.0 in
       let on : IsGoing (history ++ move ∷ []) = (
         public_allowed question valid history move found,
@@ -443,7 +436,7 @@ module _ (question : Question) (support : Support) (valid : IsValid question) (p
       ≤ℤ held (suc more) history layout) (sym one)
       (subst (λ (z : ℤ). z ≤ℤ held (suc more) history layout) (sym (only_one (held more (history ++ move ∷ []) layout)))
       (held_falls more history move layout reached nobody.1
-      (subst (λ (l : List ClassMove). Contains l move) (sym one) (Contains-first move []))))
+      (Contains-same move (sym one) (Contains-first move []))))
   turn_held more history layout left reached not_own_turn (Own chooses waits same some) =
       absurd (false≢true (sym (not_own question support point history not_own_turn) ∙ chooses))
   turn_held more history layout left reached not_own_turn (Theirs chooses some same) =

@@ -13,9 +13,10 @@ use Rattle.std.proofs.lemmas.List.Elements.{Contains-append_right, recursion_fro
 use Rattle.std.proofs.lemmas.Slice.Eq.{bytes_eq-Decides}
 use Rattle.suit_lists.proofs.Chains.{Chained}
 use Rattle.suit_lists.proofs.Elements.{Contains-cons_cases, Contains-first, Contains-later, Contains-nil, each_append}
-use Rattle.suit_lists.proofs.Elements.{each_at, each_gives, each_of}
+use Rattle.suit_lists.proofs.Elements.{Contains-same, each_at, each_gives, each_of}
 use Rattle.suit_lists.proofs.Filters.{Contains-filter, kept_parts}
-use Rattle.suit_lists.proofs.FlatMaps.{each_flat_map}
+use Rattle.suit_lists.proofs.FlatMaps.{each_flat_map, flat_append}
+use Rattle.suit_lists.proofs.Indices.{find_after, find_none, find_start}
 use Rattle.suit_lists.proofs.Maps.{each_map}
 use Rattle.suit_lists.proofs.Once.{IsOnce}
 use Rattle.suit_cards.specs.Cards.{ClassLayout}
@@ -32,8 +33,7 @@ use Rattle.suit_plans.specs.declared.faults.PlanKind.{PlanKind}
 use Rattle.suit_plans.specs.declared.faults.PlanKind.TheVariants.{Den, Layout}
 use Rattle.suit_plans.specs.declared.defence.DefenceRow.{DefenceRow}
 use Rattle.suit_plans.specs.Masses.{Shares, Side, count_of, defence_mass, defence_shares_at, defenders, is_defences}
-use Rattle.suit_plans.specs.Masses.{is_first, mass_from}
-use Rattle.suit_plans.specs.Masses.{mass_of, share, weight_of}
+use Rattle.suit_plans.specs.Masses.{is_first, mass_from, mass_of, share, weight_of}
 use Rattle.suit_plans.specs.Orders.{counts_before, defence_row_before, history_before, key_before, same_class_history}
 use Rattle.suit_plans.specs.Properness.{IsProperDefence, defence_row_fault, defence_verdict, first_fault, last_passes}
 use Rattle.suit_plans.specs.Properness.{moves_of, row_fault}
@@ -48,8 +48,7 @@ use Rattle.suit_program.specs.Programs.{limits, program_of}
 use Rattle.suit_program.specs.Readings.{Reading, all_on_first, defence_of, defence_reading, has_row}
 use Rattle.suit_program.specs.Readings.{price_of, read_from, read_mass, read_shares, row_counts}
 use Rattle.suit_program.specs.Supports.{Support, defence_chooses, first_and, is_reached, layouts_of, legal_moves}
-use Rattle.suit_program.specs.Supports.{names, reached_histories}
-use Rattle.suit_program.specs.Supports.{supported_moves}
+use Rattle.suit_program.specs.Supports.{names, reached_histories, supported_moves}
 use Rattle.suit_program.proofs.lemmas.Supports.AtAChoice.{their_place}
 use Rattle.suit_program.proofs.lemmas.Programs.RowsComeOnce.{IsLayoutBefore, counts-never, layouts_chained}
 use Rattle.suit_program.proofs.lemmas.Readings.PricesCoverTheMass.{prices_enough}
@@ -58,13 +57,11 @@ use Rattle.suit_program.proofs.lemmas.Supports.WhatIsReached.{reached_allows, re
 use Rattle.suit_program.proofs.lemmas.Supports.WhatIsReached.{reached_next, reached_none}
 use Rattle.suit_program.proofs.lemmas.Supports.ReachedInOrder.{kept_chained}
 use Rattle.suit_program.proofs.lemmas.Readings.MassesNoLess.{read_mass-push}
-use Rattle.suit_program.proofs.lemmas.Readings.PlanIsProper.{any_before, any_found, chain_before, first_same, found_any}
-use Rattle.suit_program.proofs.lemmas.Readings.PlanIsProper.{only_first}
-use Rattle.suit_program.proofs.lemmas.Readings.PlanIsProper.{reached_undecided, supported_rise}
+use Rattle.suit_program.proofs.lemmas.Readings.PlanIsProper.{any_before, any_found, first_same, found_any, front_before}
+use Rattle.suit_program.proofs.lemmas.Readings.PlanIsProper.{back_after, only_first, reached_undecided, supported_rise}
 use Rattle.suit_program.proofs.lemmas.Readings.RowsFit.{faultless_ok, fits_counts, last_of_all, row_fits}
 use Rattle.suit_program.proofs.lemmas.Readings.MassSharedOut.{AreLow, ShareOut, filled_moves, filled_out, kept_counts}
-use Rattle.suit_program.proofs.lemmas.Readings.MassSharedOut.{low_mapped}
-use Rattle.suit_program.proofs.lemmas.Readings.MassSharedOut.{moves_mapped}
+use Rattle.suit_program.proofs.lemmas.Readings.MassSharedOut.{low_mapped, moves_mapped}
 use Rattle.suit_program.proofs.lemmas.Readings.MassSharedOut.{no_row_of, some_shares, sum_mapped, wants_row}
 use Rattle.suit_program.proofs.lemmas.Supports.TurnCases.{supported_class_move, supported_going, supported_once}
 
@@ -88,23 +85,6 @@ parted_at {X} (first ∷ xs) x found = elim (Contains-cons_cases first xs x foun
       record { front = first ∷ later.front; back = later.back; parts = ap (λ (l : List X). first ∷ l) later.parts }
 ]
 
-find_none : {R : Type 0} (passes : R → Bool) (rows : List R) → AllByRecursion (λ row. passes row ≡ false) rows
-    → find passes rows ≡ None
-find_none passes [] none = refl
-find_none passes (row ∷ rows) none = rw none.0 (find_none passes rows none.1)
-
-find_before : {R : Type 0} (passes : R → Bool) (front rest : List R) → find passes rest ≡ None
-    → find passes (front ++ rest) ≡ find passes front
-find_before passes [] rest none = none
-find_before {R} passes (row ∷ front) rest none =
-    ap (λ (o : Option R). cond (passes row) (Some row) o) (find_before passes front rest none)
-
-find_after : {R : Type 0} (passes : R → Bool) (front rest : List R) → AllByRecursion (λ row. passes row ≡ false) front
-    → find passes (front ++ rest) ≡ find passes rest
-find_after passes [] rest none = refl
-find_after {R} passes (row ∷ front) rest none =
-    ap (λ (b : Bool). cond b (Some row) (find passes (front ++ rest))) none.0 ∙ find_after passes front rest none.1
-
 faultless_append : {R : Type 0} (fault : List R → R → Option PlanKind) (before rows more : List R)
     → IsFaultless fault before rows → IsFaultless fault (before ++ rows) more → IsFaultless fault before (rows ++ more)
 unfolding IsFaultless
@@ -115,30 +95,6 @@ faultless_append {R} fault before (row ∷ rows) more fine later = (
   faultless_append fault (before ++ row ∷ []) rows more fine.1
       (subst (λ (l : List R). IsFaultless fault l more) (sym (append_assoc before (row ∷ []) rows)) later),
 )
-
-flat_append : {X Y : Type 0} (piece : X → List Y) (xs ys : List X)
-    → flat_map piece (xs ++ ys) ≡ flat_map piece xs ++ flat_map piece ys
-flat_append piece [] ys = refl
-flat_append {X} {Y} piece (x ∷ xs) ys =
-    ap (λ (l : List Y). piece x ++ l) (flat_append piece xs ys)
-    ∙ sym (append_assoc (piece x) (flat_map piece xs) (flat_map piece ys))
-
--- all of a chain stand before what comes after them
-front_before : {X : Type 0} (R : X → X → Type 0) (front : List X) (x : X) (back : List X)
-    → Chained R (front ++ x ∷ back)
-    → AllByRecursion (λ y. R y x) front
-unfolding Chained
-front_before R [] x back chain = tt
-front_before R (first ∷ front) x back chain = (
-  each_at (R first) (front ++ x ∷ back) x chain.0 (Contains-append_right front (x ∷ back) x (Contains-first x back)),
-  front_before R front x back chain.1,
-)
-
-back_after : {X : Type 0} (R : X → X → Type 0) (front : List X) (x : X) (back : List X) → Chained R (front ++ x ∷ back)
-    → AllByRecursion (R x) back
-unfolding Chained
-back_after R [] x back chain = chain.0
-back_after R (first ∷ front) x back chain = back_after R front x back chain.1
 
 -- ---- rows of a class layout
 
@@ -216,7 +172,7 @@ count_out (count ∷ shares) move out =
     (count.0 ∷ moves_of shares) m) (same_move_is count.0 move same) (Contains-first count.0 (moves_of shares)))))
     ∙ count_out shares move (λ found. out (Contains-later count.0 (moves_of shares) move found))
 
-few_all : (named : ClassMove → Bool) (moves : List ClassMove) → nat_lt 1 (length moves) ≡ false
+pub few_all : (named : ClassMove → Bool) (moves : List ClassMove) → nat_lt 1 (length moves) ≡ false
     → first_and named moves ≡ moves
 few_all named [] few = refl
 few_all named (move ∷ []) few = refl
@@ -234,7 +190,7 @@ alone_supported question support west history move theirs going waits found =
     let legal : List ClassMove = legal_moves question west history in
     let few : nat_lt 1 (length legal) ≡ false =
     sym (ap (λ (b : Bool). b && nat_lt 1 (length legal)) theirs) ∙ waits in
-    subst (λ (l : List ClassMove). Contains l move)
+    Contains-same move
     (sym (few_all (names question support west history) legal few
     ∙ ap (λ (b : Bool). if b then [] else class_moves (class_after question history) west) going)) found
 
@@ -286,7 +242,7 @@ module _ (question : Question) (support : Support) (valid : IsValid question) (p
       ap (option_map (λ (row : DefenceRow). row.counts))
       (find_after (is_at west history) (flat_map rows_in front) (mine ++ flat_map rows_in back)
       (others_fail west history front before)
-      ∙ find_before (is_at west history) mine (flat_map rows_in back)
+      ∙ find_start (is_at west history) mine (flat_map rows_in back)
       (find_none (is_at west history) (flat_map rows_in back) (others_fail west history back after)))
       ∙ own_rows west (counts_in west) histories history
 
@@ -488,7 +444,7 @@ module _ (question : Question) (support : Support) (valid : IsValid question) (p
               ∙ ap (λ (z : ℤ). share (defence_shares_at all_rows west history)
               (is_first (class_moves (class_after question history) west) move) z move) same
               ∙ choice_gives history move reached low chooses (has_row reading history) refl
-              ∙ count_out (shares history) move (λ named. out (subst (λ (l : List ClassMove). Contains l move)
+              ∙ count_out (shares history) move (λ named. out (Contains-same move
               (shares_moves history) named))
           | inr waits ↦ absurd (out (alone_supported question support west history move theirs going waits found))
         ]
@@ -569,7 +525,7 @@ module _ (question : Question) (support : Support) (valid : IsValid question) (p
         (each_gives (λ next. IsEarlier next history) (λ next. key_before west next west history ≡ true) done
         (λ next before. or_right (counts_before west west) (bytes_eq west west && history_before next history)
         (and_from (bytes_eq west west) (history_before next history) (counts_itself west) before))
-        (chain_before done history rest
+        (front_before IsEarlier done history rest
         (subst (Chained IsEarlier) parts (kept_chained (has_in west) question support)))))
 
     row_fine : (done : List (List ClassMove)) (history : List ClassMove) (rest : List (List ClassMove))
@@ -589,7 +545,7 @@ module _ (question : Question) (support : Support) (valid : IsValid question) (p
         let fits = fits_counts (class_moves (class_after question history) west) (mass history) (shares history)
         (shares_out history kept.0 (reads history kept.0).1 chooses)
         (λ move named. supported_class_move question support west history move
-        (subst (λ (l : List ClassMove). Contains l move) (shares_moves history) named))
+        (Contains-same move (shares_moves history) named))
         (subst (Chained (λ here there. stands_before here there ≡ true)) (sym (shares_moves history))
         (supported_rise question support west history place.1)) in
         ap (λ (b : Bool). if not b then Some Layout else row_fault question

@@ -1,10 +1,9 @@
 -- What each class layout holds declarer to at the prices, and where play is over (`over_under`).
 use Rattle.std.proofs.Common.{◌≡◌, ◌⊎◌, ℕ, zero, suc, ◌-◌, ◌≤◌, Bool, true, false, List, [], ◌∷◌, ◌++◌, length}
 use Rattle.std.proofs.Common.{map, refl, sym, ap, ◌∙◌, subst, inl, inr, arith}
-use Rattle.std.specs.Prelude.{Contains, ◌&&◌, nat_lt, not, if◌then◌else◌, ℤ, pos, ◌+ℤ◌, ◌-ℤ◌, ◌*ℤ◌}
-use Rattle.std.specs.Prelude.{◌≤ℤ◌}
+use Rattle.std.specs.Prelude.{Contains, ◌&&◌, nat_lt, not, if◌then◌else◌, ℤ, pos, ◌+ℤ◌, ◌-ℤ◌, ◌*ℤ◌, ◌≤ℤ◌}
 use Rattle.std.specs.List.{list_any}
-use Rattle.std.proofs.lemmas.Bool.{and_parts, false≢true, lt-ltb, or_parts}
+use Rattle.std.proofs.lemmas.Bool.{and_parts, false≢true, or_parts}
 use Rattle.std.proofs.lemmas.Int.{ints}
 use Rattle.std.proofs.lemmas.List.Elements.{recursion_from_All}
 use Rattle.std.proofs.Math.IntN.{*ℤ_comm}
@@ -12,9 +11,9 @@ use Rattle.suit_lists.proofs.Elements.{Contains-cons_cases, Contains-first, Cont
 use Rattle.suit_lists.proofs.Filters.{Contains-filter, kept_parts}
 use Rattle.suit_lists.proofs.Firsts.{HasFirst}
 use Rattle.suit_lists.proofs.Maps.{Contains-map, map_same}
+use Rattle.suit_lists.proofs.Tests.{none_fails}
 use Rattle.suit_cards.specs.Cards.{ClassLayout}
-use Rattle.suit_num.proofs.IntegerLaws.{le-mul_right, mul-sub_left}
-use Rattle.suit_num.proofs.IntegerLaws.{mul_not_negative}
+use Rattle.suit_num.proofs.IntegerLaws.{le-mul_right, mul-sub_left, mul_not_negative}
 use Rattle.suit_game.specs.declared.question.Question.{Question}
 use Rattle.suit_game.specs.Validity.{IsValid}
 use Rattle.suit_classes.specs.declared.class_moves.ClassMove.{ClassMove}
@@ -30,11 +29,9 @@ use Rattle.suit_plans.specs.BestReplies.{is_reached as reply_reaches, most_reply
 use Rattle.suit_plans.specs.BestReplies.{reply_to_defence, worth}
 use Rattle.suit_plans.specs.Masses.{count_of, defence_mass, is_declarers, is_defences, weight_of}
 use Rattle.suit_plans.specs.Properness.{IsProperDefence, some_allows, sum_of}
-use Rattle.suit_plans.proofs.DefenceWorths.{defences_at_decided}
-use Rattle.suit_plans.proofs.DefenceWorths.{no_masses_no_worth}
+use Rattle.suit_plans.proofs.DefenceWorths.{defences_at_decided, no_masses_no_worth}
 use Rattle.suit_plans.proofs.NumberSums.{sum_kept, sum_times}
-use Rattle.suit_plans.proofs.PublicMoves.{Contains-allowing, Contains-public}
-use Rattle.suit_plans.proofs.PublicMoves.{own_moves_on}
+use Rattle.suit_plans.proofs.PublicMoves.{Contains-allowing, Contains-public, own_moves_on}
 use Rattle.suit_plans.proofs.SharesAddUpToTheMass.{sum_positive}
 use Rattle.suit_plans.proofs.WhoseTurns.{own_turn}
 use Rattle.suit_linear.specs.Programs.{IsDualFeasible}
@@ -54,7 +51,7 @@ use Rattle.suit_program.proofs.lemmas.Supports.WhatIsReached.{reached_allows, re
 use Rattle.suit_program.proofs.lemmas.Readings.DefenceIsProper.{defence_masses, none_theirs}
 use Rattle.suit_program.proofs.lemmas.Readings.MassesNoLess.{read_mass-push}
 use Rattle.suit_program.proofs.lemmas.Programs.SumsInOrder.{sum_le}
-use Rattle.suit_program.proofs.lemmas.Supports.HasTheReply.{both_true, goes_within, none_fails}
+use Rattle.suit_program.proofs.lemmas.Supports.HasTheReply.{both_true, goes_within}
 use Rattle.suit_program.proofs.lemmas.Supports.TurnCases.{count_found, legal_going, own_legal}
 use Rattle.suit_program.proofs.lemmas.Supports.TurnCases.{supported_class_move, supported_going}
 use Rattle.suit_program.proofs.lemmas.Programs.OneMoveEach.{chosen, taken_columns, taken_held}
@@ -82,13 +79,6 @@ sum_under_one {X} f (first ∷ xs) x found low = elim (Contains-cons_cases first
 
     after : (x y z : ℤ) → x ≤ℤ pos 0 → y ≤ℤ z → (x +ℤ y) ≤ℤ z
     after x y z p q = omega (arith, ints, p, q)
-
-pub few_all : (named : ClassMove → Bool) (moves : List ClassMove) → nat_lt 1 (length moves) ≡ false
-    → first_and named moves ≡ moves
-few_all named [] few = refl
-few_all named (move ∷ []) few = refl
-few_all named (move ∷ next ∷ moves) few = absurd (false≢true (sym few
-    ∙ lt-ltb 1 (suc (suc (length moves))) (omega arith)))
 
 first_found : (moves : List ClassMove) → HasFirst moves → Contains moves (first_of moves)
 first_found [] some = absurd (nothing some.parts)

@@ -2,19 +2,19 @@
 -- `plan_proper`).
 use Rattle.std.proofs.Common.{◌≡◌, ℕ, suc, Bool, true, false, cond, List, [], ◌∷◌, ◌++◌, Option, Some, None, Err}
 use Rattle.std.proofs.Common.{map, refl, sym, ap, ◌∙◌, subst, inl, inr, arith, append_assoc}
-use Rattle.std.specs.Prelude.{Contains, ◌&&◌, ◌||◌, filter, find, length, nat_lt, not, option_map, if◌then◌else◌}
-use Rattle.std.specs.Prelude.{ℤ}
+use Rattle.std.specs.Prelude.{Contains, ◌&&◌, ◌||◌, filter, find, length, nat_lt, not, option_map, if◌then◌else◌, ℤ}
 use Rattle.std.specs.Prelude.{pos, ◌≤ℤ◌, int_le, int_lt}
 use Rattle.std.specs.List.{AllByRecursion, list_any}
 use Rattle.std.proofs.lemmas.Bool.{and_parts, cases_Bool, false≢true, false_from_ne_true, lt-ltb}
 use Rattle.std.proofs.lemmas.List.{map-append}
 use Rattle.std.proofs.lemmas.List.Elements.{Contains-append_right}
 use Rattle.suit_lists.proofs.Chains.{Chained, chained_filter, pairs_chained}
+use Rattle.suit_lists.proofs.Elements.{Contains-same}
 use Rattle.suit_lists.proofs.Elements.{Contains-cons_cases, Contains-first, Contains-nil, each_at, each_gives}
 use Rattle.suit_lists.proofs.Filters.{Contains-filter, each_filter, kept_parts}
 use Rattle.suit_lists.proofs.Maps.{each_map}
 use Rattle.suit_lists.proofs.Once.{IsOnce}
-use Rattle.suit_lists.proofs.Tests.{passing_some, some_passing}
+use Rattle.suit_lists.proofs.Tests.{any_append-none, passing_some, some_passing}
 use Rattle.suit_cards.specs.Cards.{ClassLayout}
 use Rattle.suit_game.specs.declared.question.Question.{Question}
 use Rattle.suit_game.specs.Validity.{IsValid}
@@ -30,8 +30,7 @@ use Rattle.suit_plans.specs.Masses.{Shares, Side, count_of, declarer, is_declare
 use Rattle.suit_plans.specs.Masses.{plan_shares_at, share}
 use Rattle.suit_plans.specs.Orders.{history_before, plan_row_before, same_class_history}
 use Rattle.suit_plans.specs.Properness.{IsProperPlan, first_fault, goes_undecided, last_passes, moves_of}
-use Rattle.suit_plans.specs.Properness.{plan_row_fault}
-use Rattle.suit_plans.specs.Properness.{plan_verdict, some_allows}
+use Rattle.suit_plans.specs.Properness.{plan_row_fault, plan_verdict, some_allows}
 use Rattle.suit_plans.proofs.FirstFaults.{IsFaultless}
 use Rattle.suit_plans.proofs.HistoryOrder.{IsStrict-moves, earlier-start, same_class_history-itself}
 use Rattle.suit_plans.proofs.HistoryOrder.{same_class_history_is}
@@ -43,23 +42,19 @@ use Rattle.suit_plans.specs.declared.plan.TheConstants.{MOST_DEN}
 use Rattle.suit_program.specs.Programs.Points.{IsPositive, Passed, Point}
 use Rattle.suit_program.specs.Programs.{sum_passed}
 use Rattle.suit_program.specs.Readings.{Reading, all_on_first, has_row, plan_at, plan_reading, read_from, read_mass}
-use Rattle.suit_program.specs.Readings.{read_shares}
-use Rattle.suit_program.specs.Readings.{row_counts}
+use Rattle.suit_program.specs.Readings.{read_shares, row_counts}
 use Rattle.suit_program.specs.Supports.{Support, declarer_chooses, is_reached, layouts_of, legal_moves, names}
 use Rattle.suit_program.specs.Supports.{reached_histories, supported_moves}
 use Rattle.suit_program.specs.Programs.Worths.{mass_at, passed}
 use Rattle.suit_program.proofs.lemmas.Supports.AtAChoice.{IsChoice, own_place}
 use Rattle.suit_program.proofs.lemmas.Supports.WhatIsReached.{IsSomewhere, listed_somewhere, reached_allows}
-use Rattle.suit_program.proofs.lemmas.Supports.WhatIsReached.{reached_fits}
-use Rattle.suit_program.proofs.lemmas.Supports.WhatIsReached.{reached_listed}
-use Rattle.suit_program.proofs.lemmas.Supports.WhatIsReached.{reached_next, reached_none}
+use Rattle.suit_program.proofs.lemmas.Supports.WhatIsReached.{reached_fits, reached_listed, reached_next, reached_none}
 use Rattle.suit_program.proofs.lemmas.Readings.MassesNoLess.{masses_are_read, not_own, read_mass-push}
 use Rattle.suit_program.proofs.lemmas.Supports.ReachedInOrder.{kept_chained}
 use Rattle.suit_program.proofs.lemmas.Readings.RowsFit.{faultless_ok, fits_counts, last_of_all, row_fits}
 use Rattle.suit_program.proofs.lemmas.Readings.RowsFit.{undecided-push}
 use Rattle.suit_program.proofs.lemmas.Readings.MassSharedOut.{ShareOut, kept_counts, moves_mapped, no_row_of}
-use Rattle.suit_program.proofs.lemmas.Readings.MassSharedOut.{some_shares, topped_moves}
-use Rattle.suit_program.proofs.lemmas.Readings.MassSharedOut.{topped_of_moves, wants_row}
+use Rattle.suit_program.proofs.lemmas.Readings.MassSharedOut.{some_shares, topped_moves, topped_of_moves, wants_row}
 use Rattle.suit_program.proofs.lemmas.Programs.SumsInOrder.{le_trans}
 use Rattle.suit_program.proofs.lemmas.Supports.TurnCases.{supported_class_move, supported_going, supported_once}
 use Rattle.suit_program.proofs.lemmas.Programs.WorthWithinMass.{masses_low}
@@ -173,21 +168,20 @@ forced_first question support west history move own waits found =
     let few : nat_lt 1 (length moves) ≡ false =
     ap (λ (b : Bool). nat_lt 1 (length (if b then [] else moves))) (sym going)
     ∙ sym (ap (λ (b : Bool). b && nat_lt 1 (length (legal_moves question [] history))) own) ∙ waits in
-    only_first moves move few (subst (λ (l : List ClassMove). Contains l move)
+    only_first moves move few (Contains-same move
     (declarers_moves (class_after question history) west [] own)
     (supported_class_move question support west history move found))
 
 -- ---- class histories in order
 
--- all of some stand before what comes after them
-pub chain_before : (done : List (List ClassMove)) (history : List ClassMove) (rest : List (List ClassMove))
-    → Chained IsEarlier (done ++ history ∷ rest) → AllByRecursion (λ other. IsEarlier other history) done
+-- all of a chain stand before what comes after them
+pub front_before : {X : Type 0} (R : X → X → Type 0) (front : List X) (x : X) (back : List X)
+    → Chained R (front ++ x ∷ back) → AllByRecursion (λ y. R y x) front
 unfolding Chained
-chain_before [] history rest chain = tt
-chain_before (first ∷ done) history rest chain = (
-  each_at (IsEarlier first) (done ++ history ∷ rest) history chain.0
-      (Contains-append_right done (history ∷ rest) history (Contains-first history rest)),
-  chain_before done history rest chain.1,
+front_before R [] x back chain = tt
+front_before R (first ∷ front) x back chain = (
+  each_at (R first) (front ++ x ∷ back) x chain.0 (Contains-append_right front (x ∷ back) x (Contains-first x back)),
+  front_before R front x back chain.1,
 )
 
 none_same : (histories : List (List ClassMove)) (begun : List ClassMove)
@@ -202,16 +196,11 @@ none_same (history ∷ histories) begun later =
     later.0)))
     ∙ none_same histories begun later.1
 
-chain_after : (done : List (List ClassMove)) (history : List ClassMove) (rest : List (List ClassMove))
-    → Chained IsEarlier (done ++ history ∷ rest) → AllByRecursion (IsEarlier history) rest
+pub back_after : {X : Type 0} (R : X → X → Type 0) (front : List X) (x : X) (back : List X)
+    → Chained R (front ++ x ∷ back) → AllByRecursion (R x) back
 unfolding Chained
-chain_after [] history rest chain = chain.0
-chain_after (first ∷ done) history rest chain = chain_after done history rest chain.1
-
-any_append : {X : Type 0} (test : X → Bool) (xs ys : List X) → list_any test ys ≡ false
-    → list_any test (xs ++ ys) ≡ list_any test xs
-any_append test [] ys none = none
-any_append test (x ∷ xs) ys none = ap (λ (b : Bool). test x || b) (any_append test xs ys none)
+back_after R [] x back chain = chain.0
+back_after R (first ∷ front) x back chain = back_after R front x back chain.1
 
 -- a beginning of a class history is found only before it
 pub any_before : (done : List (List ClassMove)) (history : List ClassMove) (rest : List (List ClassMove))
@@ -219,11 +208,12 @@ pub any_before : (done : List (List ClassMove)) (history : List ClassMove) (rest
     → list_any (λ other. same_class_history other begun) (done ++ history ∷ rest)
     ≡ list_any (λ other. same_class_history other begun) done
 any_before done history rest begun chain earlier =
-    any_append (λ other. same_class_history other begun) done (history ∷ rest)
+    any_append-none (λ other. same_class_history other begun) done (history ∷ rest)
     (none_same (history ∷ rest) begun (
       earlier,
       each_gives (IsEarlier history) (IsEarlier begun) rest
-          (λ other later. history-chain begun history other earlier later) (chain_after done history rest chain),
+          (λ other later. history-chain begun history other earlier later)
+          (back_after IsEarlier done history rest chain),
     ))
 
 -- ---- the plan
@@ -424,7 +414,7 @@ module _ (question : Question) (support : Support) (point : Point) (valid : IsVa
       let fits = fits_counts (class_moves (class_after question history) []) (mass history) (shares history)
       (shares_out history there chooses)
       (λ move named. supported_class_move question support [] history move
-      (subst (λ (l : List ClassMove). Contains l move) (shares_moves history) named))
+      (Contains-same move (shares_moves history) named))
       (subst (Chained (λ here there. stands_before here there ≡ true)) (sym (shares_moves history))
       (supported_rise question support [] history place.1)) in
       row_fits question (declarer point.one (rows_of (row_counts reading) done)) history (row_counts reading history)
@@ -442,7 +432,7 @@ module _ (question : Question) (support : Support) (point : Point) (valid : IsVa
             (each_map (λ (last : Row). plan_row_before last
             (record { history = history; counts = row_counts reading history }) ≡ true)
             (λ other. record { history = other; counts = row_counts reading other }) done
-            (chain_before done history rest
+            (front_before IsEarlier done history rest
             (subst (Chained IsEarlier) parts (kept_chained (has_row reading) question support))));
         legal = fits.legal;
         rising = fits.rising;

@@ -2,8 +2,7 @@
 -- moves of the best reply to it (`plan_keeps`).
 use Rattle.std.proofs.Common.{◌≡◌, ℕ, zero, suc, ◌-◌, ◌<◌, Bool, true, false, List, [], ◌∷◌, ◌++◌, length, map, refl}
 use Rattle.std.proofs.Common.{sym, ap, ◌∙◌, subst, inl, inr, cond, arith}
-use Rattle.std.specs.Prelude.{Contains, filter, if◌then◌else◌, ℤ, pos, ◌+ℤ◌, ◌-ℤ◌, ◌*ℤ◌, ◌≤ℤ◌}
-use Rattle.std.specs.Prelude.{int_le, int_lt}
+use Rattle.std.specs.Prelude.{Contains, filter, if◌then◌else◌, ℤ, pos, ◌+ℤ◌, ◌-ℤ◌, ◌*ℤ◌, ◌≤ℤ◌, int_le, int_lt}
 use Rattle.std.specs.Int.{int_min}
 use Rattle.std.specs.Ordering.{int_eq}
 use Rattle.std.proofs.lemmas.Bool.{cases_Bool, false≢true}
@@ -11,7 +10,7 @@ use Rattle.std.proofs.lemmas.Bool.Decides.{Decides-int_eq}
 use Rattle.std.proofs.lemmas.Int.{ints}
 use Rattle.std.proofs.lemmas.List.{length-append}
 use Rattle.std.proofs.Math.IntN.{*ℤ_comm}
-use Rattle.suit_lists.proofs.Elements.{Contains-cons_cases, Contains-first, Contains-later, Contains-nil}
+use Rattle.suit_lists.proofs.Elements.{Contains-cons_cases, Contains-first, Contains-later, Contains-nil, Contains-same}
 use Rattle.suit_lists.proofs.Filters.{Contains-filter, kept_parts}
 use Rattle.suit_lists.proofs.Firsts.{HasFirst}
 use Rattle.suit_lists.proofs.Maps.{Contains-map_from, map_same}
@@ -29,8 +28,7 @@ use Rattle.suit_classes.proofs.DecidedStaysDecided.{class_histories_are_short}
 use Rattle.suit_classes.proofs.SameMoves.{among-Contains, same_move-itself}
 use Rattle.suit_plans.specs.declared.plan.Plan.{Plan}
 use Rattle.suit_plans.specs.BestReplies.{Reply, best_of, first_of, follows, least, least_reply, reply_move}
-use Rattle.suit_plans.specs.BestReplies.{reply_to_plan}
-use Rattle.suit_plans.specs.BestReplies.{worth, worth_at as turn_worth}
+use Rattle.suit_plans.specs.BestReplies.{reply_to_plan, worth, worth_at as turn_worth}
 use Rattle.suit_plans.specs.Masses.{count_of, is_defences, mass_from, mass_of, plan_mass}
 use Rattle.suit_plans.specs.Properness.{IsProperPlan, sum_of}
 use Rattle.suit_plans.specs.ReplyLaws.{worths_with}
@@ -359,7 +357,7 @@ module _ (question : Question) (support : Support) (point full : Point) (k : ℤ
       → defence_chooses question west history ≡ false → NextBelow more history → IsBelow (suc more) history
   forced_below more history move fits alone only not_own not_theirs below =
       let found : Contains (supported_moves question support west history) move =
-      subst (λ (l : List ClassMove). Contains l move) (sym only) (Contains-first move []) in
+      Contains-same move (sym only) (Contains-first move []) in
       let room = short history move fits found in
       let some : HasFirst (reply.moves history) = record { first = move; more = []; parts = alone } in
       let live : Live (history ++ move ∷ []) = record {
@@ -442,7 +440,7 @@ module _ (question : Question) (support : Support) (point full : Point) (k : ℤ
       λ move found. times_low (later move) (worth_low (history ++ move ∷ [])
       ((allowed_moves question west history move).1 (
         allowed history fits,
-        subst (λ (l : List ClassMove). Contains l move) (sym legal) found,
+        Contains-same move (sym legal) found,
       ))) in
       subst (λ (z : ℤ). z ≤ℤ (k *ℤ worth reply history))
       (sym (going question support full west more history (supported_moves question support [] history) not_theirs same
@@ -454,7 +452,7 @@ module _ (question : Question) (support : Support) (point full : Point) (k : ℤ
       ≤ℤ sum_of (map (λ move. k *ℤ later move) (choice.first ∷ choice.more))) (sym choice.supported)
       (first_filter_le (names question support [] history) choice.first choice.more (next more history)
       (λ move. k *ℤ later move)
-      (λ move found. each move (subst (λ (l : List ClassMove). Contains l move)
+      (λ move found. each move (Contains-same move
       (sym (same ∙ choice.supported)) found)) low)))
 
   -- the move of the reply is worth as much as the turn

@@ -11,6 +11,7 @@ use Rattle.suit_lists.proofs.Chains.{Chained, chained_filter, chained_map}
 use Rattle.suit_lists.proofs.Elements.{each_gives, each_in}
 use Rattle.suit_lists.proofs.Filters.{each_filter}
 use Rattle.suit_lists.proofs.Maps.{each_map}
+use Rattle.suit_lists.proofs.Tests.{list_all_true}
 use Rattle.suit_game.specs.declared.question.Question.{Question}
 use Rattle.suit_classes.specs.declared.class_moves.ClassMove.{ClassMove}
 use Rattle.suit_classes.specs.declared.class_view.ClassView.{ClassView}
@@ -22,19 +23,12 @@ use Rattle.suit_plans.specs.declared.faults.PlanKind.{PlanKind}
 use Rattle.suit_plans.specs.declared.faults.PlanKind.TheVariants.{History, Order, Illegal, Negative, Sum}
 use Rattle.suit_plans.specs.Masses.{Shares, Side, mass_of}
 use Rattle.suit_plans.specs.Properness.{are_rising, at_row, first_fault, goes_undecided, last_passes, moves_of}
-use Rattle.suit_plans.specs.Properness.{row_fault}
-use Rattle.suit_plans.specs.Properness.{sum_of}
+use Rattle.suit_plans.specs.Properness.{row_fault, sum_of}
 use Rattle.suit_plans.proofs.FirstFaults.{FitsTurn, IsFaultless}
 use Rattle.suit_program.specs.Readings.{sum_counts}
 use Rattle.suit_program.proofs.lemmas.Readings.MassSharedOut.{ShareOut}
 
 -- ---- tests that pass
-
--- what holds of each is told of all
-pub list_all_true : {X : Type 0} (test : X → Bool) (xs : List X) → AllByRecursion (λ x. test x ≡ true) xs
-    → list_all test xs ≡ true
-list_all_true test [] each = refl
-list_all_true test (x ∷ xs) each = ap (λ (b : Bool). b && list_all test xs) each.0 ∙ list_all_true test xs each.1
 
 -- moves of which each stands before those after it rise
 pub chained_rising : (moves : List ClassMove) → Chained (λ here there. stands_before here there ≡ true) moves

@@ -1,14 +1,16 @@
 -- Where a support has all moves of the best reply to a plan, each choice that is reached against it has the move of the
 -- reply (`reply_supported`).
-use Rattle.std.proofs.Common.{◌≡◌, ℕ, zero, suc, ◌<◌, ◌≤◌, Bool, true, false, List, [], ◌∷◌, ◌++◌, length, get_or, refl}
-use Rattle.std.proofs.Common.{sym, ap, ◌∙◌, subst, inl, inr, append_assoc, append-nil, arith}
-use Rattle.std.specs.Prelude.{Contains, ◌&&◌, ◌||◌, not, if◌then◌else◌, pos, int_lt}
-use Rattle.std.specs.List.{flat_map, list_any, range_with_len}
-use Rattle.std.proofs.lemmas.Bool.{and_parts, false≢true}
-use Rattle.suit_lists.proofs.Elements.{Contains-cons_cases, Contains-first, Contains-later, Contains-nil}
+use Rattle.std.proofs.Common.{◌≡◌, ℕ, zero, suc, ◌≤◌, Bool, true, false, List, [], ◌∷◌, ◌++◌, length, get_or, refl}
+use Rattle.std.proofs.Common.{sym, ap, ◌∙◌, subst, append_assoc, append-nil, arith}
+use Rattle.std.specs.Prelude.{Contains, ◌&&◌, if◌then◌else◌, pos, int_lt}
+use Rattle.std.specs.List.{flat_map, range_with_len}
+use Rattle.std.proofs.lemmas.Bool.{and_parts}
+use Rattle.suit_lists.proofs.Elements.{Contains-first, Contains-later}
 use Rattle.suit_lists.proofs.Filters.{Contains-filter}
 use Rattle.suit_lists.proofs.FlatMaps.{Contains-flat_map}
+use Rattle.suit_lists.proofs.Indices.{index_of}
 use Rattle.suit_lists.proofs.Maps.{Contains-map}
+use Rattle.suit_lists.proofs.Tests.{none_fails}
 use Rattle.suit_lists.proofs.Walks.{Contains-range}
 use Rattle.suit_cards.specs.Cards.{ClassLayout}
 use Rattle.suit_game.specs.declared.question.Question.{Question}
@@ -107,34 +109,6 @@ goes_within question support west reply held (suc more) history (move ∷ moves)
     (subst (Contains (next move)) (append_assoc history (move ∷ []) moves)
     (goes_within question support west reply held more (history ++ move ∷ []) moves (omega (arith, within))
     (reached_next question support west history move reached found) parts.1)))
-
--- an element stands at an index
-pub index_of : {X : Type 0} (xs : List X) (x d : X) → Contains xs x → (index : ℕ) × (index < length xs)
-    × (get_or xs index d ≡ x)
-index_of [] x d found = absurd (Contains-nil x found)
-index_of (first ∷ xs) x d found = elim (Contains-cons_cases first xs x found) [
-  | inl here ↦ (0, omega arith, here)
-  | inr there ↦ let later = index_of xs x d there in
-      let below = later.1 in
-      (suc later.0, omega (arith, below), later.2)
-]
-
--- what fails of none passes of each
-pub none_fails : {X : Type 0} (test : X → Bool) (xs : List X) (x : X) → list_any (λ y. not (test y)) xs ≡ false
-    → Contains xs x → test x ≡ true
-none_fails test [] x none found = absurd (Contains-nil x found)
-none_fails test (first ∷ xs) x none found = elim (Contains-cons_cases first xs x found) [
-  | inl here ↦ ap test (sym here) ∙ passed (test first) (list_any (λ y. not (test y)) xs) none
-  | inr there ↦ none_fails test xs x (later (test first) (list_any (λ y. not (test y)) xs) none) there
-]
-  where
-    passed : (b rest : Bool) → (not b || rest) ≡ false → b ≡ true
-    passed true rest none = refl
-    passed false rest none = absurd (false≢true (sym none))
-
-    later : (b rest : Bool) → (not b || rest) ≡ false → rest ≡ false
-    later true rest none = none
-    later false rest none = absurd (false≢true (sym none))
 
 module _ (question : Question) (support : Support) (plan : Plan) (valid : IsValid question)
     (all : are_new question support [] (least_reply question plan) ≡ false) where

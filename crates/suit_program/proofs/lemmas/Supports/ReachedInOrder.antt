@@ -1,9 +1,10 @@
 -- The class histories that are reached stand in order (`reached_chained`).
-use Rattle.std.proofs.Common.{◌≡◌, ℕ, zero, suc, Bool, true, false, List, [], ◌∷◌, ◌++◌, refl, ap, ◌∙◌, subst}
+use Rattle.std.proofs.Common.{◌≡◌, ℕ, zero, suc, Bool, true, false, List, [], ◌∷◌, ◌++◌, refl, ap, subst}
 use Rattle.std.specs.Prelude.{filter, pos}
 use Rattle.std.specs.Int.{int_max}
 use Rattle.std.specs.List.{flat_map}
 use Rattle.suit_lists.proofs.Chains.{Chained, chained_filter, pairs_chained}
+use Rattle.suit_lists.proofs.FlatMaps.{flat_map_alike}
 use Rattle.suit_cards.specs.Cards.{ClassLayout}
 use Rattle.suit_game.specs.declared.question.Question.{Question}
 use Rattle.suit_classes.specs.declared.class_moves.ClassMove.{ClassMove}
@@ -26,11 +27,6 @@ walk question support = record {
   live = λ history. true;
 }
 
-flat_map_same : {X Y : Type 0} (f g : X → List Y) (xs : List X) → ((x : X) → f x ≡ g x) → flat_map f xs ≡ flat_map g xs
-flat_map_same f g [] same = refl
-flat_map_same {X} {Y} f g (x ∷ xs) same =
-    ap (λ (l : List Y). l ++ flat_map f xs) (same x) ∙ ap (λ (l : List Y). g x ++ l) (flat_map_same f g xs same)
-
 module _ (question : Question) (support : Support) where
   same_histories : (more : ℕ) (history : List ClassMove)
       → histories_within more (walk question support) history ≡ histories_from question support more history
@@ -38,7 +34,7 @@ module _ (question : Question) (support : Support) where
   same_histories zero history = refl
   same_histories (suc more) history =
       ap (λ (l : List (List ClassMove)). history ∷ l)
-      (flat_map_same (λ move. histories_within more (walk question support) (history ++ move ∷ []))
+      (flat_map_alike (λ move. histories_within more (walk question support) (history ++ move ∷ []))
       (λ move. histories_from question support more (history ++ move ∷ [])) (next_moves question support history)
       (λ move. same_histories more (history ++ move ∷ [])))
 
@@ -47,8 +43,9 @@ module _ (question : Question) (support : Support) where
   unfolding next_moves
   moves_rise history =
       let IsBefore : ClassMove → ClassMove → Type 0 = λ here there. stands_before here there ≡ true in
-      chained_filter IsBefore (is_among (flat_map (λ (layout : ClassLayout × ℕ). supported_moves question support layout.0
-      history) (reached_layouts question support history))) every_move
+      chained_filter IsBefore
+      (is_among (flat_map (λ (layout : ClassLayout × ℕ). supported_moves question support layout.0 history)
+      (reached_layouts question support history))) every_move
       (pairs_chained IsBefore every_move every_move_rises)
 
   pub reached_chained : Chained (λ here there. history_before here there ≡ true) (reached_histories question support)

@@ -1,12 +1,12 @@
 -- The class histories at which best replies have a choice go past no decided position (`choices_past`), so that their
 -- moves stand in the tree.
-use Rattle.std.proofs.Common.{◌≡◌, ℕ, zero, suc, Bool, false, List, [], ◌∷◌, ◌++◌, sym, ap, ◌∙◌, subst}
+use Rattle.std.proofs.Common.{◌≡◌, ℕ, zero, suc, Bool, false, [], ◌∷◌, ◌++◌, sym, ap, ◌∙◌, subst}
 use Rattle.std.specs.Prelude.{◌&&◌, Contains, length, filter, if◌then◌else◌}
 use Rattle.std.specs.List.{AllByRecursion, range_with_len}
 use Rattle.std.proofs.lemmas.List.{append-nil, append_assoc}
-use Rattle.suit_lists.proofs.Elements.{each_at, each_gives}
+use Rattle.suit_lists.proofs.Elements.{Contains-same, each_at, each_gives}
 use Rattle.suit_lists.proofs.Filters.{kept_parts}
-use Rattle.suit_lists.proofs.FlatMaps.{each_flat_map}
+use Rattle.suit_lists.proofs.FlatMaps.{each_flat_map, flat_map_from}
 use Rattle.suit_lists.proofs.Maps.{Contains-map_from}
 use Rattle.suit_game.specs.declared.question.Question.{Question}
 use Rattle.suit_game.specs.Validity.{IsValid}
@@ -29,7 +29,6 @@ use Rattle.suit_tree.proofs.MovesOn.{unless_parts}
 use Rattle.suit_program.specs.Supports.Marks.{GoesPastNone, IsOwnMove, IsTheirMove}
 use Rattle.suit_program.specs.Supports.{layouts_of}
 use Rattle.suit_program.proofs.lemmas.Walks.NodesBelow.{layout_at, layout_listed}
-use Rattle.suit_program.proofs.lemmas.Supports.WhatIsReached.{flat_map_from}
 
 -- the moves of a reply go on from no decided position
 abbrev pub GoesOnly : Question → Reply → Type 0
@@ -116,7 +115,7 @@ module _ (question : Question) (valid : IsValid question) where
             (filter (λ other. some_allows question (history ++ other ∷ [])) every_move) move there).0) entry.history
             (subst (Contains (choices reply)) (ap (λ (other : DeclarerMove). other.history) from.2) from.1);
         turn = choice.turn;
-        legal = subst (λ (l : List ClassMove). Contains l entry.mv)
+        legal = Contains-same entry.mv
             (own_moves_on question valid entry.history choice.going layout.0 layout.1 choice.turn
             ∙ declarers_moves view layout.0.0 [] choice.turn
             ∙ sym (ap (λ (b : Bool). if b then [] else class_moves view []) choice.going)) choice.legal;
@@ -145,7 +144,7 @@ module _ (question : Question) (valid : IsValid question) where
             (class_moves (class_after question history) (layout_at question from.0).0) move on).0) entry.history
             (subst (Contains (choices (reply from.0))) (ap (λ (other : DefenceMove). other.history) there.2) there.1);
         turn = choice.1.turn;
-        legal = subst (λ (l : List ClassMove). Contains l entry.mv)
+        legal = Contains-same entry.mv
             (sym (ap (λ (b : Bool). if b then [] else class_moves view (counts_at question entry.layout))
             choice.1.going)) choice.1.legal;
       }

@@ -19,7 +19,7 @@ use Rattle.suit_classes.specs.ClassMoves.{same_class_move}
 use Rattle.suit_classes.specs.ClassPlaces.{class_after, class_decided, class_moves}
 use Rattle.suit_classes.proofs.DistinctMoves.{once_class_moves}
 use Rattle.suit_classes.proofs.EveryMove.{class_moves_listed, kept_by_among}
-use Rattle.suit_classes.proofs.SameMoves.{among-Contains, among_contained, same_move-itself, same_move_is}
+use Rattle.suit_classes.proofs.SameMoves.{among-Contains, among_contained, both_second, same_move-itself, same_move_is}
 use Rattle.suit_plans.specs.Properness.{sum_of}
 use Rattle.suit_plans.proofs.NumberSums.{sum_both, sum_kept, sums_exchanged}
 use Rattle.suit_program.specs.Supports.{Support, first_and, histories_from, is_reached, layouts_of, legal_moves, names}
@@ -74,11 +74,6 @@ among_filter : (moves : List ClassMove) (test : ClassMove → Bool) → moves �
 among_filter moves test is =
     is ∙ kept_by_among test every_move
     ∙ ap (λ (l : List ClassMove). filter (is_among l) every_move) (sym is)
-
-pub both_second : (b c : Bool) → (c ≡ true → b ≡ true) → (b && c) ≡ c
-both_second true c gives = refl
-both_second false true gives = gives refl
-both_second false false gives = refl
 
 module _ (question : Question) (support : Support) where
   legal_filter : (west : ClassLayout) (history : List ClassMove) (decided : Bool)

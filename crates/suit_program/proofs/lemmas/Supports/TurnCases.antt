@@ -1,13 +1,13 @@
 -- What a class history is for a support: without moves, with one, or a choice of one of the sides (`turn_at`).
 use Rattle.std.proofs.Common.{◌≡◌, ℕ, suc, Bool, true, false, List, [], ◌∷◌, ◌++◌, length, Option, Some, None, map}
-use Rattle.std.proofs.Common.{refl, sym}
-use Rattle.std.proofs.Common.{ap, ◌∙◌, subst, inl, inr, arith}
+use Rattle.std.proofs.Common.{refl, sym, ap, ◌∙◌, subst, inl, inr, arith}
 use Rattle.std.specs.Prelude.{Contains, ◌&&◌, filter, nat_lt, if◌then◌else◌, ℤ}
 use Rattle.std.proofs.lemmas.Bool.{and_parts, false≢true, lt-ltb}
 use Rattle.suit_lists.proofs.Elements.{Contains-cons_cases, Contains-first, Contains-later, Contains-nil}
 use Rattle.suit_lists.proofs.Filters.{each_filter, kept_parts}
 use Rattle.suit_lists.proofs.Firsts.{HasFirst}
 use Rattle.suit_lists.proofs.Once.{IsOnce, once_filter, once_unless}
+use Rattle.suit_tree.proofs.MovesOn.{unless_parts}
 use Rattle.suit_cards.specs.Cards.{ClassLayout}
 use Rattle.suit_game.specs.declared.question.Question.{Question}
 use Rattle.suit_classes.specs.declared.class_moves.ClassMove.{ClassMove}
@@ -73,16 +73,12 @@ module _ (question : Question) (support : Support) where
   supported_legal west history move found =
       first_and-within (names question support west history) (legal_moves question west history) move found
 
-  legal_case : (b : Bool) (moves : List ClassMove) (move : ClassMove) → Contains (if b then [] else moves) move
-      → (b ≡ false) × Contains moves move
-  legal_case true moves move found = absurd (Contains-nil move found)
-  legal_case false moves move found = (refl, found)
-
   pub supported_class_move : (west : ClassLayout) (history : List ClassMove) (move : ClassMove)
       → Contains (supported_moves question support west history) move
       → Contains (class_moves (class_after question history) west) move
   supported_class_move west history move found =
-      (legal_case (class_decided (class_after question history)) (class_moves (class_after question history) west) move
+      (unless_parts (class_decided (class_after question history))
+      (class_moves (class_after question history) west) move
       (supported_legal west history move found)).1
 
   -- at a class history that is not decided
@@ -90,7 +86,8 @@ module _ (question : Question) (support : Support) where
       → Contains (supported_moves question support west history) move
       → class_decided (class_after question history) ≡ false
   supported_going west history move found =
-      (legal_case (class_decided (class_after question history)) (class_moves (class_after question history) west) move
+      (unless_parts (class_decided (class_after question history))
+      (class_moves (class_after question history) west) move
       (supported_legal west history move found)).0
 
   -- each once

@@ -5,9 +5,9 @@ use Rattle.std.specs.Prelude.{Contains, ◌&&◌, if◌then◌else◌}
 use Rattle.std.specs.List.{AllByRecursion, flat_map}
 use Rattle.std.proofs.lemmas.Bool.{and_parts}
 use Rattle.suit_lists.proofs.Elements.{Contains-cons_cases, Contains-first, Contains-later, Contains-nil, each_at}
-use Rattle.suit_lists.proofs.Elements.{each_in}
+use Rattle.suit_lists.proofs.Elements.{Contains-same}
 use Rattle.suit_lists.proofs.Filters.{Contains-filter, kept_parts}
-use Rattle.suit_lists.proofs.FlatMaps.{Contains-flat_map, each_flat_map}
+use Rattle.suit_lists.proofs.FlatMaps.{Contains-flat_map, each_flat_map, flat_map_from}
 use Rattle.suit_lists.proofs.Maps.{Contains-map, Contains-map_from}
 use Rattle.suit_cards.specs.Cards.{ClassLayout}
 use Rattle.suit_game.specs.declared.question.Question.{Question}
@@ -28,14 +28,6 @@ use Rattle.suit_program.specs.Supports.{Support, declarer_chooses, defence_choos
 use Rattle.suit_program.specs.Supports.{is_reached, layouts_of, next_moves, reached_histories, reached_layouts}
 use Rattle.suit_program.specs.Supports.{supported_moves}
 use Rattle.suit_program.proofs.lemmas.Supports.TurnCases.{supported_class_move}
-
--- what stands in pieces joined stands in one of them
-pub flat_map_from : {X Y : Type 0} (f : X → List Y) (xs : List X) (y : Y) → Contains (flat_map f xs) y → (x : X)
-    × Contains xs x × Contains (f x) y
-flat_map_from {X} {Y} f xs y found =
-    each_at (λ z. (x : X) × Contains xs x × Contains (f x) z) (flat_map f xs) y
-    (each_flat_map (λ z. (x : X) × Contains xs x × Contains (f x) z) f xs
-    (λ x here. each_in (λ z. (w : X) × Contains xs w × Contains (f w) z) (f x) (λ z there. (x, here, there)))) found
 
 both_true : (a b : Bool) → a ≡ true → b ≡ true → (a && b) ≡ true
 both_true true b one other = other
@@ -135,7 +127,7 @@ module _ (question : Question) (support : Support) where
     supported_listed history move found =
         let moves : List ClassMove = class_moves (class_after question history) layout.0 in
         (kept_parts (is_among moves) every_move move
-        (subst (λ (l : List ClassMove). Contains l move) (class_moves_listed (class_after question history) layout.0)
+        (Contains-same move (class_moves_listed (class_after question history) layout.0)
         (supported_class_move question support layout.0 history move found))).0
 
     pub reached_layout : (history : List ClassMove) → is_reached question support layout.0 history ≡ true

@@ -7,6 +7,7 @@ use Rattle.std.proofs.Common.{length, drop, get_or, ◌-◌, take, ◌≤◌, re
 use Rattle.std.specs.Prelude.{◌&&◌, ◌||◌, slice_set, if◌then◌else◌}
 use Rattle.std.specs.List.{AllZip}
 use Rattle.std.proofs.lemmas.Bool.{false≢true, false_from_ne_true}
+use Rattle.suit_lists.proofs.Tests.{or_apart}
 use Rattle.suit_classes.specs.declared.class_moves.ClassMove.{ClassMove}
 use Rattle.suit_classes.specs.WhatIsAllowed.{is_among}
 use Rattle.suit_classes.specs.ClassMoves.{ClassHistory, same_class_move}
@@ -174,11 +175,7 @@ unfolding is_among
 among-push [] move other = or_false (same_class_move other move) ∙ same_turned other move
 among-push (first ∷ moves) move other =
     ap (λ (b : Bool). same_class_move other first || b) (among-push moves move other)
-    ∙ or_apart (same_class_move other first) (is_among moves other) (same_class_move move other)
-  where
-    or_apart : (a b c : Bool) → (a || (b || c)) ≡ ((a || b) || c)
-    or_apart true b c = refl
-    or_apart false b c = refl
+    ∙ sym (or_apart (same_class_move other first) (is_among moves other) (same_class_move move other))
 
 nothing_more : (b c : Bool) → b ≡ (b || (false && c))
 nothing_more true c = refl

@@ -6,15 +6,14 @@ use Rattle.std.proofs.Common.{length, map, refl, sym, ap, ◌∙◌, subst, arit
 use Rattle.std.specs.Prelude.{◌==◌, ◌&&◌, ◌||◌, Contains, bytes_eq, filter, nat_lt, not, slice_get, slice_set}
 use Rattle.std.specs.Prelude.{if◌then◌else◌}
 use Rattle.std.specs.List.{list_any}
-use Rattle.std.proofs.Math.Seq.{take-suc}
 use Rattle.std.proofs.lemmas.Bool.{and_from, and_parts, cases_Bool, eq-eqb, eqb-true, false≢true, false_from_ne_true}
 use Rattle.std.proofs.lemmas.Bool.{ltb-true}
 use Rattle.std.proofs.lemmas.List.{append-nil, append_assoc, at_drop_all, at_drop_more, length-map}
 use Rattle.std.proofs.lemmas.List.Elements.{All-contains, Contains-get_or}
-use Rattle.suit_lists.proofs.Elements.{Contains-cons_cases, Contains-first, Contains-later, Contains-nil}
-use Rattle.suit_lists.proofs.Filters.{Contains-filter, filter_of_map}
-use Rattle.suit_lists.proofs.Tests.{passing_some, some_passing}
-use Rattle.suit_lists.proofs.Walks.{Contains-range}
+use Rattle.suit_lists.proofs.Elements.{Contains-cons_cases, Contains-first, Contains-later, Contains-nil, Contains-same}
+use Rattle.suit_lists.proofs.Filters.{Contains-filter, any_kept, filter_of_map}
+use Rattle.suit_lists.proofs.Tests.{any_none, any_or, any_same, or_apart, passing_some, some_passing}
+use Rattle.suit_lists.proofs.Walks.{Contains-range, any_one_more, by_indices}
 use Rattle.suit_cards.specs.Cards.{ClassLayout, Indices}
 use Rattle.suit_game.specs.declared.question.Question.{Question}
 use Rattle.suit_game.specs.Validity.{IsValid}
@@ -45,9 +44,8 @@ use Rattle.suit_program.specs.Supports.Marks.{IsOwnMove, IsTheirMove, NamesMore,
 use Rattle.suit_program.specs.Supports.Marks.{support_seen}
 use Rattle.suit_program.specs.Supports.{Support, are_new, has_declarers, has_defences, layouts_of, legal_moves, names}
 use Rattle.suit_program.specs.Supports.{supported_moves, whole_support, with_moves}
-use Rattle.suit_program.proofs.lemmas.Walks.ReachTells.{among_kept, any_kept, any_same}
-use Rattle.suit_program.proofs.lemmas.Walks.NodesBelow.{by_indices, child_below, held_below, layout_at, moves_below}
-use Rattle.suit_program.proofs.lemmas.Walks.NodesBelow.{own_below}
+use Rattle.suit_program.proofs.lemmas.Walks.ReachTells.{among_kept}
+use Rattle.suit_program.proofs.lemmas.Walks.NodesBelow.{child_below, held_below, layout_at, moves_below, own_below}
 use Rattle.suit_program.proofs.lemmas.Walks.ReachAtTheStart.{defence_seen_is, own_seen_is}
 use Rattle.suit_program.proofs.lemmas.Supports.FirstAndWhole.{same_support, whole_seen}
 use Rattle.suit_program.proofs.lemmas.Supports.TurnCases.{legal_going}
@@ -135,32 +133,6 @@ set_at marks at d new moves mv below more k history move = elim (cases_Bool (at 
 ]
 
 -- ---- one move more of some
-
-any_append_one : {X : Type 0} (p : X → Bool) (xs : List X) (x : X) → list_any p (xs ++ x ∷ []) ≡ (list_any p xs || p x)
-any_append_one p [] x = or_false (p x)
-  where
-    or_false : (b : Bool) → (b || false) ≡ b
-    or_false true = refl
-    or_false false = refl
-any_append_one p (y ∷ xs) x =
-    ap (λ (b : Bool). p y || b) (any_append_one p xs x) ∙ apart (p y) (list_any p xs) (p x)
-  where
-    apart : (a b c : Bool) → (a || (b || c)) ≡ ((a || b) || c)
-    apart true b c = refl
-    apart false b c = refl
-
-any_one_more : {X : Type 0} (p : X → Bool) (xs : List X) (i : ℕ) (x : X) → i < length xs → x ≡ get_or xs i x
-    → list_any p (take (i + 1) xs) ≡ (list_any p (take i xs) || p x)
-any_one_more {X} p xs i x below is =
-    let one : i + 1 ≡ suc i = omega arith in
-    ap (λ (n : ℕ). list_any p (take n xs)) one
-    ∙ ap (list_any p) (take-suc xs i x below)
-    ∙ any_append_one p (take i xs) (get_or xs i x)
-    ∙ ap (λ (y : X). list_any p (take i xs) || p y) (sym is)
-
-or_apart : (a b c : Bool) → ((a || b) || c) ≡ (a || (b || c))
-or_apart true b c = refl
-or_apart false b c = refl
 
 pub none_more_yet : (b : Bool) (history : ClassHistory) (move : ClassMove) → b ≡ (b || has_declarers [] history move)
 unfolding has_declarers
@@ -264,7 +236,7 @@ node_found question valid history (move ∷ path) node tree past some =
     let on = Contains-moves_on question history move going
     (allowing_start question (history ++ move ∷ []) path later) in
     let child = child_found (children_of node) move
-    (subst (λ (l : List ClassMove). Contains l move) (sym (moves_below question valid history node tree)) on) in
+    (Contains-same move (sym (moves_below question valid history node tree)) on) in
     let below = (child_below question valid history node tree child.0 child.1).1 in
     let there = node_found question valid (history ++ move ∷ []) path child.0
     (subst (λ (m : ClassMove). IsTreeAt (52 - length (history ++ m ∷ [])) question (history ++ m ∷ []) child.0) child.2
@@ -367,28 +339,6 @@ module _ (question : Question) (valid : IsValid question) (tree : Tree) (grown :
       (λ entry found. ap not (theirs_told entry (All-contains (IsTheirMove question) theirs entry their_legal found))))
 
 -- ---- what a support with more moves names
-
-any_or : {X : Type 0} (e a b : X → Bool) (xs : List X)
-    → list_any (λ x. e x && (a x || b x)) xs ≡ (list_any (λ x. e x && a x) xs || list_any (λ x. e x && b x) xs)
-any_or e a b [] = refl
-any_or e a b (x ∷ xs) =
-    ap (λ (c : Bool). (e x && (a x || b x)) || c) (any_or e a b xs)
-    ∙ shared (e x) (a x) (b x) (list_any (λ y. e y && a y) xs) (list_any (λ y. e y && b y) xs)
-  where
-    shared : (e a b m n : Bool) → ((e && (a || b)) || (m || n)) ≡ (((e && a) || m) || ((e && b) || n))
-    shared true true b m n = refl
-    shared true false true true n = refl
-    shared true false true false n = refl
-    shared true false false m n = refl
-    shared false a b m n = refl
-
-any_none : {X : Type 0} (e : X → Bool) (xs : List X) → list_any (λ x. e x && false) xs ≡ false
-any_none e [] = refl
-any_none e (x ∷ xs) = neither (e x) (list_any (λ y. e y && false) xs) ∙ any_none e xs
-  where
-    neither : (b c : Bool) → ((b && false) || c) ≡ c
-    neither true c = refl
-    neither false c = refl
 
 -- what only one index has
 any_point : (e : ℕ → Bool) (at : ℕ) (b : Bool) (indices : Indices) → Contains indices at

@@ -1,10 +1,10 @@
 -- The accounts at the start are of the class layouts in which the empty class history is reached (`start_accounts`).
-use Rattle.std.proofs.Common.{◌≡◌, ℕ, ◌≤◌, true, List, [], ◌∷◌, length, get_or, map, refl, sym, ap, ◌∙◌, subst}
-use Rattle.std.proofs.Common.{arith}
+use Rattle.std.proofs.Common.{ℕ, ◌≤◌, true, List, [], length, get_or, sym, ◌∙◌, subst, arith}
 use Rattle.std.specs.List.{range_with_len}
 use Rattle.std.proofs.lemmas.Int.{ints}
 use Rattle.std.proofs.lemmas.List.Elements.{filter_agree}
-use Rattle.suit_lists.proofs.Maps.{Contains-map_from}
+use Rattle.suit_lists.proofs.Filters.{filter_true}
+use Rattle.suit_lists.proofs.Maps.{Contains-map_from, map_itself, map_twice}
 use Rattle.suit_game.specs.declared.question.Question.{Question}
 use Rattle.suit_game.specs.declared.limits.TheConstants.{MOST_TOTAL}
 use Rattle.suit_plans.specs.ReplyLaws.{counts_at}
@@ -13,14 +13,8 @@ use Rattle.suit_program.specs.Walks.Ledgers.{IsFit}
 use Rattle.suit_program.specs.Walks.Reaches.{reached_indices}
 use Rattle.suit_program.specs.Supports.{Support, is_reached, layouts_of}
 use Rattle.suit_program.specs.Walks.Writing.{AreAccounts}
-use Rattle.suit_program.proofs.lemmas.Walks.WrittenAtATurn.{filter_all}
-use Rattle.suit_program.proofs.lemmas.Walks.AccountsByLayout.{map_twice}
 use Rattle.suit_program.proofs.lemmas.Supports.WhatIsReached.{reached_none}
 use Rattle.suit_program.proofs.lemmas.Walks.ObjectiveIsOwed.{whole_account, whole_accounts}
-
-map_itself : {X : Type 0} (xs : List X) → map (λ x. x) xs ≡ xs
-map_itself [] = refl
-map_itself {X} (x ∷ xs) = ap (λ (l : List X). x ∷ l) (map_itself xs)
 
 -- with weights that are no larger than the number of deals
 pub start_accounts : (question : Question) (support : Support)
@@ -31,7 +25,7 @@ start_accounts question support weights =
     let all : List ℕ = range_with_len 0 (length (layouts_of question)) in
     record {
       indices = map_twice (λ (account : Account). account.index) (whole_account question) all
-          ∙ map_itself all ∙ sym (filter_all all)
+          ∙ map_itself all ∙ sym (filter_true all)
           ∙ filter_agree (λ index. true) (λ index. is_reached question support (counts_at question index) [])
           (λ index. sym (reached_none question support (counts_at question index))) all;
       fit = λ account found.

@@ -1,14 +1,13 @@
 -- The accounts of the class layouts in which a class history is reached (`accounts_layouts`, `account_there`).
-use Rattle.std.proofs.Common.{◌≡◌, ℕ, Bool, true, false, cond, List, [], ◌∷◌, ◌++◌, length, get_or, map, refl, sym}
-use Rattle.std.proofs.Common.{ap}
-use Rattle.std.proofs.Common.{◌∙◌, subst}
+use Rattle.std.proofs.Common.{◌≡◌, ℕ, Bool, true, List, [], ◌∷◌, ◌++◌, length, get_or, map, sym, ap, ◌∙◌, subst}
 use Rattle.std.specs.Prelude.{Contains, ◌&&◌, filter}
 use Rattle.std.specs.List.{flat_map, range_with_len}
 use Rattle.std.proofs.lemmas.List.Elements.{filter_agree}
-use Rattle.std.proofs.lemmas.List.FromFn.{fill_by_all}
 use Rattle.suit_cards.specs.Cards.{ClassLayout}
 use Rattle.suit_lists.proofs.Filters.{filter-filter, kept_parts}
-use Rattle.suit_lists.proofs.Maps.{Contains-map}
+use Rattle.suit_lists.proofs.FlatMaps.{flat_map_map}
+use Rattle.suit_lists.proofs.Maps.{Contains-map, map_twice}
+use Rattle.suit_lists.proofs.Walks.{indexed}
 use Rattle.suit_game.specs.declared.question.Question.{Question}
 use Rattle.suit_classes.specs.declared.class_moves.ClassMove.{ClassMove}
 use Rattle.suit_classes.specs.WhatIsAllowed.{is_among}
@@ -19,36 +18,6 @@ use Rattle.suit_program.specs.Walks.Reaches.{reached_indices}
 use Rattle.suit_program.specs.Supports.{Support, is_reached, layouts_of, reached_layouts, supported_moves}
 use Rattle.suit_program.specs.Walks.Writing.{AreAccounts, answered_rows, held_columns, layout_of}
 use Rattle.suit_program.proofs.lemmas.Supports.WhatIsReached.{reached-push}
-
--- ---- lists
-
-pub flat_map_map : {X Y Z : Type 0} (f : Y → List Z) (g : X → Y) (xs : List X)
-    → flat_map f (map g xs) ≡ flat_map (λ x. f (g x)) xs
-flat_map_map f g [] = refl
-flat_map_map {Z = Z} f g (x ∷ xs) = ap (λ (l : List Z). f (g x) ++ l) (flat_map_map f g xs)
-
-pub map_twice : {X Y Z : Type 0} (f : Y → Z) (g : X → Y) (xs : List X) → map f (map g xs) ≡ map (λ x. f (g x)) xs
-map_twice f g [] = refl
-map_twice {Z = Z} f g (x ∷ xs) = ap (λ (l : List Z). f (g x) ∷ l) (map_twice f g xs)
-
-map_case : {X Y : Type 0} (f : X → Y) (x : X) (xs : List X) (b : Bool)
-    → map f (cond b (x ∷ xs) xs) ≡ cond b (f x ∷ map f xs) (map f xs)
-map_case f x xs true = refl
-map_case f x xs false = refl
-
-pub map_filter : {X Y : Type 0} (test : Y → Bool) (f : X → Y) (xs : List X)
-    → map f (filter (λ x. test (f x)) xs) ≡ filter test (map f xs)
-map_filter test f [] = refl
-map_filter {Y = Y} test f (x ∷ xs) =
-    map_case f x (filter (λ z. test (f z)) xs) (test (f x))
-    ∙ ap (λ (l : List Y). cond (test (f x)) (f x ∷ l) l) (map_filter test f xs)
-
-indexed : {X : Type 0} (test : X → Bool) (xs : List X) (x : X)
-    → map (λ index. get_or xs index x) (filter (λ index. test (get_or xs index x)) (range_with_len 0 (length xs)))
-    ≡ filter test xs
-indexed test xs x =
-    map_filter test (λ index. get_or xs index x) (range_with_len 0 (length xs))
-    ∙ ap (filter test) (sym (fill_by_all (λ index. get_or xs index x) xs (length xs) x refl (λ index below. refl)))
 
 -- ---- indices
 

@@ -1,7 +1,6 @@
 -- The accounts that a turn of the defence hands on: those of the class layouts in which its moves are reached
 -- (`answered_are`), which share out what is handed on (`answered_owed`).
-use Rattle.std.proofs.Common.{◌≡◌, ℕ, suc, ◌+◌, ◌<◌, ◌≤◌, Bool, true, false, cond, List, [], ◌∷◌, ◌++◌, length}
-use Rattle.std.proofs.Common.{map}
+use Rattle.std.proofs.Common.{◌≡◌, ℕ, suc, ◌+◌, ◌<◌, ◌≤◌, Bool, true, false, cond, List, [], ◌∷◌, ◌++◌, length, map}
 use Rattle.std.proofs.Common.{refl, sym, ap, ◌∙◌, subst, inl, inr, arith}
 use Rattle.std.specs.Prelude.{Contains, filter, if◌then◌else◌, nat_lt, ℤ, negsuc}
 use Rattle.std.specs.List.{AllByRecursion}
@@ -10,7 +9,7 @@ use Rattle.std.proofs.lemmas.Int.{ints}
 use Rattle.std.proofs.lemmas.List.{length-append, length-map}
 use Rattle.suit_lists.proofs.Elements.{Contains-cons_cases, Contains-first, Contains-later, Contains-nil, each_at}
 use Rattle.suit_lists.proofs.Filters.{kept_parts}
-use Rattle.suit_lists.proofs.Maps.{Contains-map_from, map_same}
+use Rattle.suit_lists.proofs.Maps.{Contains-map_from, map_same, map_twice}
 use Rattle.suit_cards.specs.Cards.{ClassLayout}
 use Rattle.suit_game.specs.declared.question.Question.{Question}
 use Rattle.suit_game.specs.Validity.{IsValid}
@@ -29,11 +28,10 @@ use Rattle.suit_program.specs.Programs.{Answered, answered_limits}
 use Rattle.suit_program.specs.Supports.{Support, declarer_chooses, defence_chooses, legal_moves, next_moves}
 use Rattle.suit_program.specs.Supports.{supported_moves}
 use Rattle.suit_program.specs.Walks.Writing.{AnswerView, AreAccounts, advanced, answered_by, answered_rows, layout_of}
-use Rattle.suit_program.specs.Walks.Writing.{opened}
-use Rattle.suit_program.specs.Walks.Writing.{owed, place_in}
+use Rattle.suit_program.specs.Walks.Writing.{opened, owed, place_in}
 use Rattle.suit_program.specs.Programs.Worths.{worth_at}
 use Rattle.suit_program.proofs.lemmas.Walks.OwedAtTheDefence.{handed, some_legal}
-use Rattle.suit_program.proofs.lemmas.Walks.AccountsByLayout.{account_there, indices_next, map_twice}
+use Rattle.suit_program.proofs.lemmas.Walks.AccountsByLayout.{account_there, indices_next}
 use Rattle.suit_program.proofs.lemmas.Supports.TurnCases.{Ended, Forced, Own, Theirs, TurnAt, turn_at}
 use Rattle.suit_program.proofs.lemmas.Supports.SumsByPlay.{next_held}
 use Rattle.suit_program.proofs.lemmas.Walks.OwedIsSharedOut.{shared_out}

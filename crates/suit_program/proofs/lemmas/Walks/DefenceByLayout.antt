@@ -4,8 +4,8 @@ use Rattle.std.proofs.Common.{◌≡◌, ℕ, ◌+◌, ◌<◌, ◌≤◌, List,
 use Rattle.std.proofs.Common.{sym, ap, ◌∙◌, subst, arith, length-append}
 use Rattle.std.specs.Prelude.{Option, ℤ, set}
 use Rattle.std.proofs.lemmas.Bool.{cases_eq}
-use Rattle.std.proofs.lemmas.List.{get_or_append_left, get_or_at, get_or_default, get_or-set_other, get_or-set_same}
-use Rattle.std.proofs.lemmas.List.{length-set}
+use Rattle.std.proofs.lemmas.List.{get_or_default, get_or-set_other, get_or-set_same, length-set}
+use Rattle.suit_lists.proofs.Indices.{each_more}
 use Rattle.suit_cards.specs.Cards.{ClassLayout}
 use Rattle.suit_classes.specs.declared.class_moves.ClassMove.{ClassMove}
 use Rattle.suit_classes.specs.ClassMoves.{ClassHistory}
@@ -13,25 +13,9 @@ use Rattle.suit_plans.specs.Masses.{Shares}
 use Rattle.suit_program.specs.declared.walks.defence_reader.DefenceReader.{DefenceReader}
 use Rattle.suit_program.specs.declared.walks.defence_walk.DefenceWalk.{DefenceWalk}
 use Rattle.suit_program.specs.declared.walks.reach.Reach.{Reach}
-use Rattle.suit_program.specs.Walks.DefenceLists.{AreAdded, AreEmptyLists, AreReaders, AreShared, IsReaderAt}
-use Rattle.suit_program.specs.Walks.DefenceLists.{RowList}
+use Rattle.suit_program.specs.Walks.DefenceLists.{AreAdded, AreEmptyLists, AreReaders, AreShared, IsReaderAt, RowList}
 use Rattle.suit_program.specs.Walks.DefenceWalks.{IsDefenceTurn, their_row_of, turn_shares}
 use Rattle.suit_program.specs.Readings.Sharing.{AreThrough, through}
-
--- what is true of each of some elements and of one more
-pub each_more : {X : Type 0} (P : ℕ → X → Type 0) (xs now : List X) (x : X) (n : ℕ) → length xs ≡ n
-    → now ≡ xs ++ x ∷ []
-    → ((i : ℕ) (d : X) → i < n → P i (get_or xs i d)) → P n x → (i : ℕ) (d : X) → i < n + 1 → P i (get_or now i d)
-each_more {X} P xs now x n long is before here i d below = elim (cases_eq i n) [
-  | inl same ↦
-      subst (λ (l : List X). P i (get_or l i d)) (sym is)
-      (subst (λ (k : ℕ). P k (get_or (xs ++ x ∷ []) k d)) (sym same)
-      (subst (P n) (sym (get_or_at xs x [] d n long)) here))
-  | inr other ↦
-      let under : i < n = omega (arith, below, other) in
-      subst (λ (l : List X). P i (get_or l i d)) (sym is)
-      (subst (P i) (sym (get_or_append_left xs (x ∷ []) d i (omega (arith, under, long)))) (before i d under))
-]
 
 -- shares in one more class layout
 pub shared_more : (walk : DefenceWalk) (reach : Reach) (row : ℕ) (masses : List ℤ)

@@ -1,12 +1,14 @@
 -- How a defence's readers begin (`root_stop`, `root_stops`), and that the rows of all class layouts are those of the
 -- defence (`all_rows`).
-use Rattle.std.proofs.Common.{◌≡◌, ℕ, suc, ◌<◌, ◌≤◌, List, [], ◌∷◌, ◌++◌, length, map}
-use Rattle.std.proofs.Common.{get_or, refl, sym, ap, ◌∙◌, subst, arith, append-nil}
+use Rattle.std.proofs.Common.{◌≡◌, ℕ, ◌<◌, ◌≤◌, List, [], ◌++◌, length, map}
+use Rattle.std.proofs.Common.{get_or, sym, ap, ◌∙◌, subst, arith, append-nil}
 use Rattle.std.specs.Prelude.{All, ◌&&◌, ℤ, pos, ◌*ℤ◌, ◌≤ℤ◌}
 use Rattle.std.specs.List.{flat_map}
 use Rattle.std.proofs.lemmas.Int.{ints}
 use Rattle.std.proofs.lemmas.List.{get_or-map, get_or_default, length-map}
 use Rattle.std.proofs.lemmas.List.Elements.{Contains-get_or}
+use Rattle.suit_lists.proofs.Basics.{first_element}
+use Rattle.suit_lists.proofs.FlatMaps.{same_pieces}
 use Rattle.suit_cards.specs.Cards.{ClassLayout}
 use Rattle.suit_num.proofs.IntegerLaws.{mul_not_negative}
 use Rattle.suit_game.specs.declared.question.Question.{Question}
@@ -37,23 +39,6 @@ use Rattle.suit_program.proofs.lemmas.Walks.DefenceAtATurn.{rows_kept}
 -- a list stands in itself
 whole_stands : {X : Type 0} (xs : List X) → StandsIn xs 0 xs
 whole_stands xs = record { rest = []; from = sym (append-nil xs); within = omega arith }
-
-some_of : {X : Type 0} (xs : List X) → 0 < length xs → X
-some_of [] some = absurd (omega (arith, some))
-some_of (x ∷ xs) some = x
-
--- two lists of which the pieces are the same, one by one
-same_pieces : {X Y Z : Type 0} (f : X → List Z) (g : Y → List Z) (xs : List X) (ys : List Y)
-    → length xs ≡ length ys
-    → ((i : ℕ) (d : X) (e : Y) → i < length ys → f (get_or xs i d) ≡ g (get_or ys i e))
-    → flat_map f xs ≡ flat_map g ys
-same_pieces f g [] [] long same = refl
-same_pieces f g [] (y ∷ ys) long same = absurd (omega (arith, long))
-same_pieces f g (x ∷ xs) [] long same = absurd (omega (arith, long))
-same_pieces {X} {Y} {Z} f g (x ∷ xs) (y ∷ ys) long same =
-    ap (λ (l : List Z). l ++ flat_map f xs) (same 0 x y (omega arith))
-    ∙ ap (λ (l : List Z). g y ++ l) (same_pieces f g xs ys (omega (arith, long))
-    (λ i d e below. same (suc i) d e (omega (arith, below))))
 
 -- the same prices, of which the scale is told otherwise
 abbrev pub with_scale : {tree : Tree} {support : MarkedSupport} {prices : List ℤ} {scale : ℤ}
@@ -174,7 +159,7 @@ module _ (tree : Tree) (support : MarkedSupport) (prices : List ℤ) (scale : �
       (same ∙ empty.long ∙ long)
       (λ i d e below.
       let under : i < length walk.readers.now = omega (arith, below, readers.long, long) in
-      let reader : DefenceReader = some_of walk.readers.now (omega (arith, under)) in
+      let reader : DefenceReader = first_element walk.readers.now (omega (arith, under)) in
       let at = readers.each i reader (omega (arith, below, long)) in
       let west : (get_or walk.readers.now i reader).west.now ≡ counts_at q i =
       at.west ∙ ap (λ (l : List (ClassLayout × ℕ)). (get_or l i ([], 0)).0) case.grown.layouts in

@@ -6,8 +6,9 @@ use Rattle.std.proofs.Common.{get_or, refl, sym, ap, ◌∙◌, subst, arith, So
 use Rattle.std.specs.Prelude.{Contains, if◌then◌else◌, ℤ}
 use Rattle.std.specs.List.{flat_map}
 use Rattle.std.proofs.lemmas.Bool.{cases_Bool}
-use Rattle.std.proofs.lemmas.List.{get_or-map, length-drop, length-map, length-take}
+use Rattle.std.proofs.lemmas.List.{get_or-map, length-map}
 use Rattle.std.proofs.lemmas.List.Elements.{Contains-get_or}
+use Rattle.suit_lists.proofs.Elements.{Contains-same}
 use Rattle.suit_lists.proofs.Filters.{Contains-filter}
 use Rattle.suit_lists.proofs.Walks.{Contains-range}
 use Rattle.suit_cards.specs.Cards.{ClassLayout}
@@ -39,14 +40,6 @@ use Rattle.suit_program.proofs.lemmas.Programs.WithinTheRows.{their_only}
 use Rattle.suit_program.proofs.lemmas.Walks.NodesBelow.{index_parts}
 use Rattle.suit_program.proofs.lemmas.Walks.WhatAWalkGathers.{stands_here}
 
--- so many of a list from an index on
-pub cut_length : {X : Type 0} (xs : List X) (start count : ℕ) → start + count ≤ length xs
-    → length (take count (drop start xs)) ≡ count
-cut_length xs start count within =
-    let taken = length-take count (drop start xs) in
-    let dropped = length-drop start xs in
-    omega (arith, taken, dropped, within)
-
 module _ (reader : DefenceReader) (reach : Reach) (row : ℕ) (mass : ℤ)
     (turn : IsDefenceTurn reader reach row mass) where
   abbrev q : Question
@@ -73,7 +66,7 @@ module _ (reader : DefenceReader) (reach : Reach) (row : ℕ) (mass : ℤ)
       → None ≡ turn_shares turn
   unfolding reached_indices
   none_reached none = elim (cases_Bool (is_reached q s reader.west.now h)) [
-    | inl there ↦ absurd (none (subst (λ (l : List ℕ). Contains l reader.index) (sym turn.reached.layouts)
+    | inl there ↦ absurd (none (Contains-same reader.index (sym turn.reached.layouts)
         (Contains-filter (λ index. is_reached q s (counts_at q index) h) (layout_indices (layouts_of q)) reader.index
         (Contains-range 0 (length (layouts_of q)) reader.index (omega arith) (omega (arith, turn.listed)))
         (ap (λ (w : ClassLayout). is_reached q s w h) (sym turn.west) ∙ there))))
@@ -86,7 +79,7 @@ module _ (reader : DefenceReader) (reach : Reach) (row : ℕ) (mass : ℤ)
     pub place_listed : Contains (reached_indices q s h) reader.index
     place_listed =
         let index : ReachedLayout → ℕ = λ layout. layout.index in
-        subst (λ (l : List ℕ). Contains l reader.index) turn.reached.layouts
+        Contains-same reader.index turn.reached.layouts
         (subst (Contains (map index reach.layouts.items)) stands.is
         (Contains-get_or (map index reach.layouts.items) place 0
         (subst (λ (n : ℕ). place < n) (sym (length-map reach.layouts.items index)) stands.below)))

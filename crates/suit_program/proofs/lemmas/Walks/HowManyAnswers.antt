@@ -2,12 +2,13 @@
 -- `answers_all`), and where they stand among the rows (`answers_stand`).
 use Rattle.std.proofs.Common.{◌≡◌, ℕ, ◌+◌, ◌<◌, ◌≤◌, Bool, true, false, List, [], ◌∷◌, ◌++◌, length, map, take}
 use Rattle.std.proofs.Common.{drop, get_or, sym, ap, ◌∙◌, subst, arith, append-nil, length-append, inl, inr}
-use Rattle.std.specs.Prelude.{Contains, cond, filter, if◌then◌else◌}
+use Rattle.std.specs.Prelude.{Contains, if◌then◌else◌}
 use Rattle.std.specs.List.{flat_map}
 use Rattle.std.proofs.lemmas.Grind.{flat_map-append}
 use Rattle.std.proofs.lemmas.List.{drop_all, drop_more, length-map, map-append, take-append-drop, take-map, take_all}
 use Rattle.std.proofs.lemmas.List.{take_more}
-use Rattle.suit_lists.proofs.Elements.{Contains-cons_cases, Contains-nil}
+use Rattle.suit_lists.proofs.Elements.{Contains-cons_cases, Contains-nil, Contains-same}
+use Rattle.suit_lists.proofs.Filters.{length_filter-most}
 use Rattle.suit_lists.proofs.Maps.{Contains-map}
 use Rattle.suit_cards.specs.Cards.{ClassLayout}
 use Rattle.suit_game.specs.declared.question.Question.{Question}
@@ -30,15 +31,6 @@ use Rattle.suit_program.proofs.lemmas.Walks.WhatAWalkGathers.{stands_first, stan
 abbrev index_of : ReachedLayout → ℕ
 index_of layout = layout.index
 
-kept_few : {X : Type 0} (p : X → Bool) (xs : List X) → length (filter p xs) ≤ length xs
-kept_few p [] = omega arith
-kept_few {X} p (x ∷ xs) = one (p x) (kept_few p xs)
-  where
-    one : (b : Bool) → length (filter p xs) ≤ length xs
-        → length (cond b (x ∷ filter p xs) (filter p xs)) ≤ length (x ∷ xs)
-    one true fewer = omega (arith, fewer)
-    one false fewer = omega (arith, fewer)
-
 -- ---- the place of a number
 
 -- one place more at which it does not stand
@@ -46,7 +38,7 @@ pub place_past : (all : List ℕ) (i index : ℕ) → i < length all → (get_or
     → (Contains all index → Contains (drop i all) index) → Contains all index → Contains (drop (i + 1) all) index
 place_past all i index below other so_far found =
     elim (Contains-cons_cases (get_or all i 0) (drop (i + 1) all) index
-    (subst (λ (l : List ℕ). Contains l index) (drop_more all i 0 below) (so_far found))) [
+    (Contains-same index (drop_more all i 0 below) (so_far found))) [
       | inl here ↦ absurd (other here)
       | inr there ↦ there
     ]
@@ -55,7 +47,7 @@ place_past all i index below other so_far found =
 pub place_none : (all : List ℕ) (i index : ℕ) → length all ≤ i
     → (Contains all index → Contains (drop i all) index) → Contains all index → ⊥
 place_none all i index past so_far found =
-    Contains-nil index (subst (λ (l : List ℕ). Contains l index) (drop_all i all past) (so_far found))
+    Contains-nil index (Contains-same index (drop_all i all past) (so_far found))
 
 -- ---- the rows of the class layouts
 
@@ -102,7 +94,7 @@ module _ (question : Question) (support : Support) (history : ClassHistory) wher
     unfolding reached_layouts
     reached_few =
         let most = layouts_few question in
-        let fewer = kept_few (λ (layout : ClassLayout × ℕ). is_reached question support layout.0 history)
+        let fewer = length_filter-most (λ (layout : ClassLayout × ℕ). is_reached question support layout.0 history)
         (layouts_of question) in
         let same = ap (λ (l : List (ClassLayout × ℕ)). length l) all_layouts in
         let one = length-map (map index_of reach.layouts.items) (layout_at question) in
@@ -211,4 +203,4 @@ pub index_listed : (question : Question) (support : Support) (history : ClassHis
     → IsReach question support history reach → (layout : ReachedLayout) → Contains reach.layouts.items layout
     → Contains (reached_indices question support history) layout.index
 index_listed question support history reach is layout found =
-    subst (λ (l : List ℕ). Contains l layout.index) is.layouts (Contains-map index_of reach.layouts.items layout found)
+    Contains-same layout.index is.layouts (Contains-map index_of reach.layouts.items layout found)

@@ -1,13 +1,13 @@
 -- The columns of a support's program, as a walk counts them (`held_more`, `held_all`, `own_count`, `held_count`,
 -- `passed_more`, `passed_all`).
 use Rattle.std.proofs.Common.{◌≡◌, ℕ, zero, suc, ◌+◌, ◌<◌, ◌≤◌, Bool, true, false, cond, List, [], ◌∷◌, ◌++◌, length}
-use Rattle.std.proofs.Common.{map, take, get_or}
-use Rattle.std.proofs.Common.{refl, sym, ap, ◌∙◌, subst, append_assoc, length-append}
+use Rattle.std.proofs.Common.{map, take, get_or, refl, sym, ap, ◌∙◌, subst, append_assoc, length-append}
 use Rattle.std.specs.Prelude.{Contains, if◌then◌else◌}
 use Rattle.std.specs.List.{AllByRecursion, flat_map}
 use Rattle.std.proofs.lemmas.Grind.{flat_map-append}
 use Rattle.std.proofs.lemmas.List.{get_or-map, length-map, map-append, take_all, take_more}
 use Rattle.std.proofs.lemmas.List.Elements.{Contains-get_or}
+use Rattle.suit_lists.proofs.Elements.{Contains-same, each_append}
 use Rattle.suit_cards.specs.Cards.{ClassLayout}
 use Rattle.suit_game.specs.declared.question.Question.{Question}
 use Rattle.suit_classes.specs.declared.class_moves.ClassMove.{ClassMove}
@@ -31,7 +31,7 @@ pub index_reached : (question : Question) (support : Support) (history : ClassHi
     → Contains (reached_indices question support history) (get_or layouts i d).index
 index_reached question support history reach is layouts same i d below =
     let index : ReachedLayout → ℕ = λ layout. layout.index in
-    subst (λ (l : List ℕ). Contains l (get_or layouts i d).index) (ap (map index) same ∙ is.layouts)
+    Contains-same (get_or layouts i d).index (ap (map index) same ∙ is.layouts)
     (subst (Contains (map index layouts)) (get_or-map index layouts i d (index d) below)
     (Contains-get_or (map index layouts) i (index d)
     (subst (λ (n : ℕ). i < n) (sym (length-map layouts index)) below)))
@@ -110,11 +110,6 @@ all_passed : (history : ClassHistory) (moves : List ClassMove)
 all_passed history [] = tt
 all_passed history (move ∷ moves) = (refl, all_passed history moves)
 
-each_more : {X : Type 0} (P : X → Type 0) (xs ys : List X) → AllByRecursion P xs → AllByRecursion P ys
-    → AllByRecursion P (xs ++ ys)
-each_more P [] ys each later = later
-each_more P (x ∷ xs) ys each later = (each.0, each_more P xs ys each.1 later)
-
 none_passed : (question : Question) (history : ClassHistory) (layouts : List (ClassLayout × ℕ))
     → AllByRecursion (λ b. b ≡ false) (map is_passed (flat_map (held_column question history) layouts))
 unfolding held_column
@@ -123,7 +118,7 @@ none_passed question history (layout ∷ layouts) =
     subst (AllByRecursion (λ b. b ≡ false))
     (sym (map-append is_passed (held_column question history layout)
     (flat_map (held_column question history) layouts)))
-    (each_more (λ b. b ≡ false) (map is_passed (held_column question history layout))
+    (each_append (λ b. b ≡ false) (map is_passed (held_column question history layout))
     (map is_passed (flat_map (held_column question history) layouts))
     (one (defence_chooses question layout.0 history)) (none_passed question history layouts))
   where

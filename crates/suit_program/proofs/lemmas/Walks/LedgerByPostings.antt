@@ -1,11 +1,10 @@
--- What is posted to a ledger, step by step (`posted_extends`, `posted_adds`, `paid_more`, `passed_more`, `held_more`).
+-- What is posted to a ledger, step by step (`posted_extends`, `posted_adds`, `paid_more`, `passed_next`, `held_next`).
 use Rattle.std.proofs.Common.{◌≡◌, ℕ, zero, suc, ◌+◌, ◌<◌, ◌≤◌, Bool, true, false, List, [], ◌∷◌, ◌++◌, length, get_or}
-use Rattle.std.proofs.Common.{map}
-use Rattle.std.proofs.Common.{take, refl, sym, ap, ◌∙◌, subst, inl, inr, arith}
+use Rattle.std.proofs.Common.{map, take, refl, sym, ap, ◌∙◌, subst, arith}
 use Rattle.std.specs.Prelude.{Contains, ◌==◌, if◌then◌else◌, ℤ, pos, negsuc, ◌+ℤ◌, ◌-ℤ◌, ◌*ℤ◌}
 use Rattle.std.proofs.lemmas.Int.{ints}
 use Rattle.std.proofs.lemmas.List.{take_all, take_more}
-use Rattle.suit_lists.proofs.Elements.{Contains-cons_cases, Contains-first, Contains-later, Contains-nil}
+use Rattle.suit_lists.proofs.Elements.{Contains-same, append_cases}
 use Rattle.suit_num.proofs.IntegerLaws.{mul_assoc}
 use Rattle.suit_plans.specs.Properness.{sum_of}
 use Rattle.suit_program.specs.declared.walks.ledger.Account.{Account}
@@ -16,18 +15,6 @@ use Rattle.suit_program.proofs.lemmas.Supports.SumsByPlay.{sum_append}
 
 last : (x : ℤ) → x +ℤ pos 0 ≡ x
 last x = omega (arith, ints)
-
--- what stands in a list with one more stands in the list or is that one
-append_cases : {X : Type 0} (xs : List X) (x y : X) → Contains (xs ++ x ∷ []) y → (P : X → Type 0)
-    → ((z : X) → Contains xs z → P z) → P x → P y
-append_cases {X} [] x y found P each here = elim (Contains-cons_cases x [] y found) [
-  | inl is ↦ subst P is here
-  | inr none ↦ absurd (Contains-nil y none)
-]
-append_cases {X} (first ∷ xs) x y found P each here = elim (Contains-cons_cases first (xs ++ x ∷ []) y found) [
-  | inl is ↦ subst P is (each first (Contains-first first xs))
-  | inr there ↦ append_cases xs x y there P (λ z held. each z (Contains-later first xs z held)) here
-]
 
 module _ (old new : Ledger) (row column : ℕ) (number written : ℤ) (is_number : written ≡ number)
     (items : new.postings.items ≡ old.postings.items ++ record {
@@ -42,7 +29,7 @@ module _ (old new : Ledger) (row column : ℕ) (number written : ℤ) (is_number
         let here : row < new.rows = omega (arith, rows, below) in
         append_cases old.postings.items
         (record { row = row; entry = record { column = column; number = written } }) posting
-        (subst (λ (l : List Posting). Contains l posting) items found) (λ other. other.row < new.rows)
+        (Contains-same posting items found) (λ other. other.row < new.rows)
         (λ other held. let is = has other held in omega (arith, is, rows)) here;
   }
 

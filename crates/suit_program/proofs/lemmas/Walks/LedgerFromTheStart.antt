@@ -4,7 +4,7 @@ use Rattle.std.proofs.Common.{◌-◌, ◌^◌, subst, arith, pos}
 use Rattle.std.specs.Prelude.{Contains}
 use Rattle.std.specs.List.{range_with_len}
 use Rattle.std.proofs.lemmas.List.Elements.{Contains-get_or}
-use Rattle.suit_lists.proofs.Elements.{Contains-first, Contains-later, Contains-nil}
+use Rattle.suit_lists.proofs.Elements.{Contains-first, Contains-later, Contains-nil, Contains-same}
 use Rattle.suit_cards.specs.Cards.{ClassLayout}
 use Rattle.suit_game.specs.declared.question.Question.{Question}
 use Rattle.suit_game.specs.Validity.{IsValid}
@@ -103,7 +103,7 @@ module _ (question : Question) (support : Support) (old new : Ledger) (no_column
 
   old_rows : HasRows old
   old_rows posting found =
-      absurd (Contains-nil posting (subst (λ (l : List Posting). Contains l posting) nothing found))
+      absurd (Contains-nil posting (Contains-same posting nothing found))
 
   pub ledger_all : IsWritten question support [] (2 ^ 32 - 1) (whole_accounts question) old new
       → IsLedgerOf question support new

@@ -6,6 +6,8 @@ use Rattle.std.specs.List.{remove}
 use Rattle.std.proofs.lemmas.Bool.{cond-false, cond-true, eq-eqb, ne_eqb}
 use Rattle.std.proofs.lemmas.Int.{ints}
 use Rattle.std.proofs.lemmas.List.{length-map}
+use Rattle.suit_lists.proofs.Indices.{maps_same}
+use Rattle.suit_lists.proofs.Maps.{map_twice}
 use Rattle.suit_game.specs.declared.question.Question.{Question}
 use Rattle.suit_linear.specs.declared.program.ProgramRow.{ProgramRow}
 use Rattle.suit_linear.specs.declared.sparse.Entry.{Entry}
@@ -20,21 +22,8 @@ use Rattle.suit_program.specs.Programs.{Limit, columns, excess, limits, program_
 use Rattle.suit_program.specs.Supports.{Support}
 use Rattle.suit_program.specs.Walks.Writing.{told}
 use Rattle.suit_program.specs.Programs.Worths.{objective_at}
-use Rattle.suit_program.proofs.lemmas.Walks.AccountsByLayout.{map_twice}
 use Rattle.suit_program.proofs.lemmas.Programs.ToldByPoints.{Tells, costs_told, row_told, row_value, told_at}
 use Rattle.suit_program.proofs.lemmas.Programs.ToldByPoints.{told_before}
-
--- lists of one length that give the same by places
-maps_same : {X Y Z : Type 0} (f : X → Z) (g : Y → Z) (xs : List X) (ys : List Y) → length xs ≡ length ys
-    → ((index : ℕ) (x : X) (y : Y) → index < length xs → f (get_or xs index x) ≡ g (get_or ys index y))
-    → map f xs ≡ map g ys
-maps_same f g [] [] even same = refl
-maps_same f g [] (y ∷ ys) even same = absurd (omega (arith, even))
-maps_same f g (x ∷ xs) [] even same = absurd (omega (arith, even))
-maps_same {Z = Z} f g (x ∷ xs) (y ∷ ys) even same =
-    ap (λ (z : Z). z ∷ map f xs) (same 0 x y (omega arith))
-    ∙ ap (λ (l : List Z). g y ∷ l)
-    (maps_same f g xs ys (omega (arith, even)) (λ index a b below. same (suc index) a b (omega (arith, below))))
 
 nothing_before : (x : ℤ) → pos 0 +ℤ x ≡ x
 nothing_before x = omega (arith, ints)

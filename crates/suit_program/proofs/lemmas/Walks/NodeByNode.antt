@@ -1,6 +1,5 @@
 -- A walk goes on node by node (`done_more`, `done_past`, `next_parts`, `done_all`).
-use Rattle.std.proofs.Common.{◌≡◌, ℕ, zero, suc, ◌+◌, ◌<◌, ◌≤◌, Bool, true, false, cond, List, [], ◌∷◌, ◌++◌, length}
-use Rattle.std.proofs.Common.{get_or}
+use Rattle.std.proofs.Common.{◌≡◌, ℕ, ◌+◌, ◌<◌, ◌≤◌, Bool, true, false, cond, List, [], ◌∷◌, ◌++◌, length, get_or}
 use Rattle.std.proofs.Common.{map, take, drop, refl, sym, ap, ◌∙◌, append-nil, append_assoc, arith}
 use Rattle.std.specs.Prelude.{Contains, filter}
 use Rattle.std.specs.List.{flat_map}
@@ -23,12 +22,6 @@ use Rattle.suit_program.specs.Supports.{Support, next_moves, reached_layouts, su
 use Rattle.suit_program.specs.Walks.Writing.{IsAsked}
 use Rattle.suit_program.proofs.lemmas.Walks.ReachTells.{next_below}
 use Rattle.suit_program.specs.declared.walks.reach.TheConstants.{MOST_NEXT}
-
--- what is read with an element past the end is it
-pub at_itself : {X : Type 0} (xs : List X) (index : ℕ) (d : X) → get_or xs index (get_or xs index d) ≡ get_or xs index d
-at_itself [] index d = refl
-at_itself (x ∷ xs) zero d = refl
-at_itself (x ∷ xs) (suc index) d = at_itself xs index d
 
 few_moves : length every_move ≡ MOST_NEXT
 unfolding every_move class_numbers

@@ -4,14 +4,14 @@ use Rattle.std.proofs.Common.{◌≡◌, ℕ, zero, suc, ◌+◌, ◌-◌, ◌<�
 use Rattle.std.proofs.Common.{Bool, true, false, List, [], ◌∷◌, ◌++◌, length, map}
 use Rattle.std.proofs.Common.{refl, sym, ap, ◌∙◌, subst, arith, get_or}
 use Rattle.std.specs.Prelude.{Contains, Some, filter, nat_lt}
-use Rattle.std.specs.List.{range_with_len}
 use Rattle.std.specs.Option.{unwrap_or}
 use Rattle.std.proofs.lemmas.Bool.{ltb-true}
 use Rattle.std.proofs.lemmas.Bool.Decides.{same_from_decides}
 use Rattle.std.proofs.lemmas.List.{length-append, map-id}
 use Rattle.std.proofs.lemmas.List.Elements.{Contains-get_or, filter_agree}
-use Rattle.suit_lists.proofs.Elements.{Contains-first}
+use Rattle.suit_lists.proofs.Elements.{Contains-same, nil_from_none}
 use Rattle.suit_lists.proofs.Filters.{filter_of_map, kept_parts}
+use Rattle.suit_lists.proofs.Walks.{by_indices}
 use Rattle.suit_cards.specs.Cards.{ClassLayout, Indices}
 use Rattle.suit_game.specs.declared.question.Question.{Question}
 use Rattle.suit_game.specs.Validity.{IsValid}
@@ -36,30 +36,10 @@ use Rattle.suit_tree.proofs.NodesFitMoves.{fitted_node, map_fitted, map_fitted_k
 use Rattle.suit_tree.proofs.ClassMovesLeadToNodes.{going_on, held_moves, index_goes_on, some_held}
 use Rattle.suit_tree.proofs.MovesOn.{moves_on-parts}
 use Rattle.suit_tree.proofs.NodePaths.{tree_stands}
+use Rattle.suit_tree.proofs.GrownIsCounted.{all_fit_gives}
 use Rattle.suit_program.specs.Walks.Reaches.{reached_indices}
 use Rattle.suit_program.specs.Supports.{Support, is_reached, layouts_of, reached_layouts}
 use Rattle.suit_program.proofs.lemmas.Supports.WhatIsReached.{reached_allows}
-
--- ---- lists
-
--- a list is what stands at its indices
-pub by_indices : {X : Type 0} (xs : List X) (d : X)
-    → map (λ index. get_or xs index d) (range_with_len 0 (length xs)) ≡ xs
-by_indices [] d = refl
-by_indices {X} (x ∷ xs) d =
-    ap (λ (l : List X). x ∷ l) (shifted (λ index. get_or (x ∷ xs) index d) 0 (length xs) ∙ by_indices xs d)
-  where
-    shifted : (g : ℕ → X) (a n : ℕ) → map g (range_with_len (a + 1) n) ≡ map (λ k. g (suc k)) (range_with_len a n)
-    shifted g a zero = refl
-    shifted g a (suc n) =
-        let next : a + 1 ≡ suc a = omega arith in
-        ap (λ (l : List X). g (a + 1) ∷ l) (shifted g (a + 1) n)
-        ∙ ap (λ (k : ℕ). g k ∷ map (λ j. g (suc j)) (range_with_len (a + 1) n)) next
-
--- a list with no element is empty
-pub nil_from_none : {X : Type 0} (xs : List X) → ((x : X) → Contains xs x → ⊥) → xs ≡ []
-nil_from_none [] none = refl
-nil_from_none (x ∷ xs) none = absurd (none x (Contains-first x xs))
 
 -- ---- class layouts by their indices
 
@@ -103,17 +83,6 @@ module _ (question : Question) (support : Support) (history : ClassHistory) wher
 
 -- ---- the nodes below
 
--- what fits in one way fits in another
-fit_weaker : (Fits Suits : ClassMove → Node → Type 0)
-    → ((move : ClassMove) (node : Node) → Fits move node → Suits move node)
-    → (moves : List ClassMove) (nodes : List Node) → AllFit Fits moves nodes → AllFit Suits moves nodes
-unfolding AllFit
-fit_weaker Fits Suits gives [] [] fit = fit
-fit_weaker Fits Suits gives [] (node ∷ nodes) fit = absurd fit
-fit_weaker Fits Suits gives (move ∷ moves) [] fit = absurd fit
-fit_weaker Fits Suits gives (move ∷ moves) (node ∷ nodes) fit =
-    (gives move node fit.0, fit_weaker Fits Suits gives moves nodes fit.1)
-
 module _ (question : Question) (valid : IsValid question) (history : ClassHistory) where
   abbrev view : ClassView
   view = class_after question history
@@ -146,7 +115,7 @@ module _ (question : Question) (valid : IsValid question) (history : ClassHistor
         omega (arith, long, short))))
         (subst (AllFit IsBelow []) (sym tree.1) tt)
     fitted_in (suc more) long tree =
-        fit_weaker (λ move child. (move_to child ≡ Some move) × IsTreeAt more question (history ++ move ∷ []) child)
+        all_fit_gives (λ move child. (move_to child ≡ Some move) × IsTreeAt more question (history ++ move ∷ []) child)
         IsBelow
         (λ move child fits. (
           fits.0,
@@ -213,7 +182,7 @@ module _ (question : Question) (valid : IsValid question) (history : ClassHistor
                   let first : ℕ = get_or kept 0 0 in
                   let parts = (kept_layouts question (history ++ move ∷ []) first valid).0
                   (Contains-get_or kept 0 0 (ltb-true 0 (length kept) told)) in
-                  subst (λ (l : List ClassMove). Contains l move)
+                  Contains-same move
                   (declarers_moves view (counts_at question first) (counts_at question index) own)
                   ((allowed_moves question (counts_at question first) history move).0 parts.1).1,
               λ found. some_held kept index ((index_goes_on question history move index valid held).1 found),

@@ -1,11 +1,12 @@
 -- The walk from the start: what its accounts owe is the objective, and what is written is the program
 -- (`start_written`).
-use Rattle.std.proofs.Common.{◌≡◌, ℕ, Bool, true, false, List, [], length, get_or, map}
-use Rattle.std.proofs.Common.{refl}
+use Rattle.std.proofs.Common.{◌≡◌, ℕ, Bool, true, false, List, [], length, get_or, map, refl}
 use Rattle.std.proofs.Common.{sym, ap, ◌∙◌, subst, arith}
 use Rattle.std.specs.Prelude.{◌==◌, if◌then◌else◌, ℤ, pos, ◌+ℤ◌, ◌*ℤ◌}
 use Rattle.std.specs.List.{range_with_len}
 use Rattle.std.proofs.lemmas.Int.{ints}
+use Rattle.suit_lists.proofs.Maps.{map_twice}
+use Rattle.suit_lists.proofs.Walks.{range_map}
 use Rattle.suit_cards.specs.Cards.{ClassLayout}
 use Rattle.suit_game.specs.declared.question.Question.{Question}
 use Rattle.suit_plans.specs.Properness.{sum_of}
@@ -20,8 +21,6 @@ use Rattle.suit_program.specs.Supports.{Support, layouts_of, reached_histories}
 use Rattle.suit_plans.specs.Masses.{mass_from, mass_of}
 use Rattle.suit_program.specs.Walks.Writing.{AreGiven, IsWritten, columns_from, limits_from, owed, told}
 use Rattle.suit_program.specs.Programs.Worths.{objective_at, worth_at}
-use Rattle.suit_program.proofs.lemmas.Walks.AccountsByLayout.{map_twice}
-use Rattle.suit_program.proofs.lemmas.Programs.ToldByPoints.{range_map}
 
 -- the account of a class layout at the start: its weight goes to the first row
 abbrev pub whole_account : Question → ℕ → Account

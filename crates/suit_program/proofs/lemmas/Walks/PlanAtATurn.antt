@@ -1,14 +1,11 @@
 -- What stands in the columns of a class history where declarer chooses, as a plan's reader takes it (`turn_told`).
 use Rattle.std.proofs.Common.{◌≡◌, ℕ, zero, suc, ◌+◌, ◌<◌, ◌≤◌, Bool, true, false, List, [], ◌∷◌, ◌++◌, length}
-use Rattle.std.proofs.Common.{get_or, drop}
-use Rattle.std.proofs.Common.{take, map, refl, sym, ap, ◌∙◌, subst, arith, SFits}
-use Rattle.std.specs.Prelude.{All, Some, None, if◌then◌else◌, ℤ, pos, negsuc, ◌+ℤ◌, ◌≤ℤ◌, ◌^◌}
-use Rattle.std.specs.Prelude.{unsigned_abs}
+use Rattle.std.proofs.Common.{get_or, drop, take, map, refl, sym, ap, ◌∙◌, subst, arith, SFits}
+use Rattle.std.specs.Prelude.{All, Some, None, if◌then◌else◌, ℤ, pos, negsuc, ◌+ℤ◌, ◌≤ℤ◌, ◌^◌, unsigned_abs}
 use Rattle.std.specs.Int.{w128, ◌∣◌}
 use Rattle.std.specs.List.{AllByRecursion, flat_map}
 use Rattle.std.proofs.lemmas.Int.{ints}
-use Rattle.std.proofs.lemmas.List.{at_drop_more, drop_more, get_or-map, length-drop, length-map}
-use Rattle.std.proofs.lemmas.List.{length-take}
+use Rattle.std.proofs.lemmas.List.{at_drop_more, drop_more, get_or-map, length-map}
 use Rattle.std.proofs.lemmas.List.Elements.{All-from_recursion, Contains-get_or}
 use Rattle.std.proofs.lemmas.Nat.Gcd.{dvd_trans}
 use Rattle.suit_num.specs.declared.fraction.Frac.{Frac}
@@ -71,12 +68,6 @@ part_divides (column ∷ all) (part ∷ fracs) zero c d below within passes =
 part_divides (column ∷ all) (part ∷ fracs) (suc i) c d below within passes =
     later_divides (is_passed column) part (unsigned_abs (get_or fracs i d).den) (common_den all (parts_of fracs))
     (part_divides all fracs i c d (omega (arith, below)) (omega (arith, within)) passes)
-
--- a slice is as long as it is said to be
-pub slice_length : (parts : List Frac) (column n : ℕ) → column + n ≤ length parts
-    → length (take n (drop column parts)) ≡ n
-slice_length parts column n within =
-    omega (arith, within, length-take n (drop column parts), length-drop column parts)
 
 -- ---- numbers of moves
 

@@ -1,7 +1,7 @@
 -- What a walk over reached class histories holds at the empty one (`start_reach`).
-use Rattle.std.proofs.Common.{◌≡◌, ℕ, ◌<◌, ◌≤◌, Bool, true, false, cond, List, [], ◌∷◌, Option, Some, length, map, refl}
+use Rattle.std.proofs.Common.{◌≡◌, ℕ, ◌<◌, ◌≤◌, Bool, true, false, List, [], Option, Some, length, map, refl}
 use Rattle.std.proofs.Common.{sym, ap, ◌∙◌, subst, arith, inl, inr}
-use Rattle.std.specs.Prelude.{◌&&◌, ◌||◌, Contains, bytes_eq, filter, nat_lt, if◌then◌else◌}
+use Rattle.std.specs.Prelude.{◌&&◌, ◌||◌, Contains, bytes_eq, nat_lt, if◌then◌else◌}
 use Rattle.std.specs.List.{list_any}
 use Rattle.std.specs.Option.{option_copied}
 use Rattle.std.proofs.lemmas.Bool.{and_from, and_parts, cases_Bool, false≢true, false_from_ne_true, ltb-false, ltb-true}
@@ -9,7 +9,7 @@ use Rattle.std.proofs.lemmas.List.{length-map, map-id}
 use Rattle.std.proofs.lemmas.List.FromFn.{length-range_with_len}
 use Rattle.std.proofs.lemmas.Simd.{map-map}
 use Rattle.std.proofs.lemmas.Slice.Eq.{bytes_eq-Decides}
-use Rattle.suit_lists.proofs.Filters.{length_filter-most}
+use Rattle.suit_lists.proofs.Filters.{filter_all, length_filter-most}
 use Rattle.suit_lists.proofs.Maps.{Contains-map, Contains-map_from}
 use Rattle.suit_lists.proofs.Tests.{passing_some, some_passing}
 use Rattle.suit_lists.proofs.Walks.{Contains-range}
@@ -136,12 +136,6 @@ module _ (question : Question) (support : MarkedSupport) where
 
 -- ---- the empty class history
 
-kept_whole : {X : Type 0} (p : X → Bool) (xs : List X) → ((x : X) → p x ≡ true) → filter p xs ≡ xs
-kept_whole p [] all = refl
-kept_whole {X} p (x ∷ xs) all =
-    ap (λ (b : Bool). cond b (x ∷ filter p xs) (filter p xs)) (all x)
-    ∙ ap (λ (l : List X). x ∷ l) (kept_whole p xs all)
-
 -- the class layout at an index, with what a support names in it
 abbrev pub layout_named : MarkedSupport → ℕ → ℕ × Option Mark
 layout_named support index = (index, defence_mark support index)
@@ -162,7 +156,7 @@ module _ (question : Question) (valid : IsValid question) (tree : Tree) (grown :
   all_reached : reached_indices question (support_seen question support) []
       ≡ layout_indices (layouts_of question)
   unfolding reached_indices
-  all_reached = kept_whole (λ index. is_reached question (support_seen question support)
+  all_reached = filter_all (λ index. is_reached question (support_seen question support)
       (counts_at question index) []) (layout_indices (layouts_of question))
       (λ index. reached_none question (support_seen question support) (counts_at question index))
 

@@ -7,16 +7,17 @@ use Rattle.std.proofs.Common.{map, refl, sym, ap, ◌∙◌, subst, arith, get_o
 use Rattle.std.specs.Prelude.{◌&&◌, ◌||◌, Contains, filter, nat_lt, if◌then◌else◌}
 use Rattle.std.specs.List.{flat_map, list_any}
 use Rattle.std.specs.Option.{option_copied}
-use Rattle.std.proofs.lemmas.Bool.{cases_Bool, false≢true, false_from_ne_true, lt-ltb, ltb-true}
+use Rattle.std.proofs.lemmas.Bool.{cases_Bool, false≢true, false_from_ne_true, ltb-true}
 use Rattle.std.proofs.lemmas.List.{append-nil, append_assoc, length-append, length-map}
 use Rattle.std.proofs.lemmas.List.Elements.{Contains-get_or, filter_agree}
 use Rattle.std.proofs.lemmas.Simd.{map-map}
 use Rattle.suit_cards.specs.Cards.{ClassLayout, Indices}
-use Rattle.suit_lists.proofs.Elements.{Contains-first, Contains-later, each_at}
-use Rattle.suit_lists.proofs.Filters.{filter-filter, filter_of_map, kept_parts}
+use Rattle.suit_lists.proofs.Elements.{Contains-same, each_at, nil_from_none}
+use Rattle.suit_lists.proofs.Filters.{any_kept, filter-filter, filter_of_map, filter_same, kept_parts}
+use Rattle.suit_lists.proofs.FlatMaps.{any_flat_map, flat_map_alike, flat_map_kept, flat_map_map}
 use Rattle.suit_lists.proofs.Maps.{Contains-map, Contains-map_from}
 use Rattle.suit_lists.proofs.Once.{IsOnce}
-use Rattle.suit_lists.proofs.Tests.{some_passing}
+use Rattle.suit_lists.proofs.Tests.{any_of_map, any_same, some_passing}
 use Rattle.suit_game.specs.declared.question.Question.{Question}
 use Rattle.suit_classes.specs.declared.class_moves.ClassMove.{ClassMove}
 use Rattle.suit_classes.specs.declared.class_view.ClassView.{ClassView}
@@ -47,73 +48,10 @@ use Rattle.suit_program.specs.Supports.{is_reached, layouts_of, legal_moves, nam
 use Rattle.suit_program.specs.Supports.{supported_moves}
 use Rattle.suit_program.proofs.lemmas.Supports.WhatMarksName.{same_turned}
 use Rattle.suit_program.proofs.lemmas.Walks.NodesBelow.{child_below, held_below, index_allows, layout_at}
-use Rattle.suit_program.proofs.lemmas.Walks.NodesBelow.{moves_below, moves_short, nil_from_none, own_below, reached_at}
+use Rattle.suit_program.proofs.lemmas.Walks.NodesBelow.{moves_below, moves_short, own_below, reached_at}
 use Rattle.suit_program.proofs.lemmas.Supports.WhatIsReached.{reached-push}
 use Rattle.suit_program.proofs.lemmas.Supports.TurnCases.{legal_going, own_supported, supported_class_move}
 use Rattle.suit_program.proofs.lemmas.Supports.TurnCases.{supported_going}
-
--- ---- lists
-
-pub filter_same : {X : Type 0} (p q : X → Bool) (xs : List X) → ((x : X) → Contains xs x → p x ≡ q x)
-    → filter p xs ≡ filter q xs
-filter_same p q [] same = refl
-filter_same {X} p q (x ∷ xs) same =
-    ap (λ (b : Bool). cond b (x ∷ filter p xs) (filter p xs)) (same x (Contains-first x xs))
-    ∙ ap (λ (l : List X). cond (q x) (x ∷ l) l)
-    (filter_same p q xs (λ y found. same y (Contains-later x xs y found)))
-
-pub any_same : {X : Type 0} (p q : X → Bool) (xs : List X) → ((x : X) → Contains xs x → p x ≡ q x)
-    → list_any p xs ≡ list_any q xs
-any_same p q [] same = refl
-any_same {X} p q (x ∷ xs) same =
-    ap (λ (b : Bool). b || list_any p xs) (same x (Contains-first x xs))
-    ∙ ap (λ (b : Bool). q x || b) (any_same p q xs (λ y found. same y (Contains-later x xs y found)))
-
-pub any_of_map : {X Y : Type 0} (p : Y → Bool) (f : X → Y) (xs : List X)
-    → list_any p (map f xs) ≡ list_any (λ x. p (f x)) xs
-any_of_map p f [] = refl
-any_of_map p f (x ∷ xs) = ap (λ (b : Bool). p (f x) || b) (any_of_map p f xs)
-
-or_apart : (a b c : Bool) → ((a || b) || c) ≡ (a || (b || c))
-or_apart true b c = refl
-or_apart false b c = refl
-
-any_append : {X : Type 0} (p : X → Bool) (xs ys : List X) → list_any p (xs ++ ys) ≡ (list_any p xs || list_any p ys)
-any_append p [] ys = refl
-any_append p (x ∷ xs) ys =
-    ap (λ (b : Bool). p x || b) (any_append p xs ys) ∙ sym (or_apart (p x) (list_any p xs) (list_any p ys))
-
-any_flat_map : {X Y : Type 0} (p : Y → Bool) (f : X → List Y) (xs : List X)
-    → list_any p (flat_map f xs) ≡ list_any (λ x. list_any p (f x)) xs
-any_flat_map p f [] = refl
-any_flat_map p f (x ∷ xs) =
-    any_append p (f x) (flat_map f xs) ∙ ap (λ (b : Bool). list_any p (f x) || b) (any_flat_map p f xs)
-
-pub any_kept : {X : Type 0} (p : X → Bool) (xs : List X) → list_any p xs ≡ nat_lt 0 (length (filter p xs))
-any_kept p [] = refl
-any_kept {X} p (x ∷ xs) = ap (λ (b : Bool). p x || b) (any_kept p xs) ∙ either (p x)
-  where
-    either : (b : Bool) → (b || nat_lt 0 (length (filter p xs))) ≡ nat_lt 0
-        (length (cond b (x ∷ filter p xs) (filter p xs)))
-    either true = sym (lt-ltb 0 (suc (length (filter p xs))) (omega arith))
-    either false = refl
-
--- what is made of some elements, and of those that pass a test
-pub flat_map_kept : {X Y : Type 0} (f : X → List Y) (p : X → Bool) (xs : List X)
-    → flat_map f (filter p xs) ≡ flat_map (λ x. if p x then f x else []) xs
-flat_map_kept f p [] = refl
-flat_map_kept {X} {Y} f p (x ∷ xs) = either (p x) (flat_map_kept f p xs)
-  where
-    either : (b : Bool) → flat_map f (filter p xs) ≡ flat_map (λ y. if p y then f y else []) xs
-        → flat_map f (cond b (x ∷ filter p xs) (filter p xs))
-        ≡ (if b then f x else []) ++ flat_map (λ y. if p y then f y else []) xs
-    either true rest = ap (λ (l : List Y). f x ++ l) rest
-    either false rest = rest
-
-pub flat_map_of_map : {X Y Z : Type 0} (f : Y → List Z) (g : X → Y) (xs : List X)
-    → flat_map f (map g xs) ≡ flat_map (λ x. f (g x)) xs
-flat_map_of_map f g [] = refl
-flat_map_of_map {X} {Y} {Z} f g (x ∷ xs) = ap (λ (l : List Z). f (g x) ++ l) (flat_map_of_map f g xs)
 
 -- ---- the first of some moves, and those that are named
 
@@ -229,7 +167,7 @@ module _ (question : Question) (support : Support) (history : ClassHistory) (rea
   -- its class layouts
   pub layout_held : (layout : ReachedLayout) → Contains reach.layouts.items layout → Contains indices layout.index
   layout_held layout found =
-      subst (λ (l : Indices). Contains l layout.index) is.layouts
+      Contains-same layout.index is.layouts
       (Contains-map (λ (other : ReachedLayout). other.index) reach.layouts.items layout found)
 
   index_allowed : (index : ℕ) → Contains indices index → Contains (allowing question history) index
@@ -456,7 +394,8 @@ module _ (question : Question) (support : Support) (history : ClassHistory) (rea
   unfolding is_among
   all_among move =
       let has : ClassLayout × ℕ → Bool = λ layout. is_among (supported_moves question support layout.0 history) move in
-      any_flat_map (same_class_move move) (λ (layout : ClassLayout × ℕ). supported_moves question support layout.0 history)
+      any_flat_map (same_class_move move)
+      (λ (layout : ClassLayout × ℕ). supported_moves question support layout.0 history)
       (reached_layouts question support history)
       ∙ ap (list_any has) (reached_at question support history)
       ∙ any_of_map has (layout_at question) indices
@@ -480,7 +419,7 @@ module _ (question : Question) (support : Support) (history : ClassHistory) (rea
       let moves : List ClassMove = class_moves view (counts_of some.0) in
       among_contained every_move move
       (kept_parts (is_among moves) every_move move
-      (subst (λ (l : List ClassMove). Contains l move) (class_moves_listed view (counts_of some.0))
+      (Contains-same move (class_moves_listed view (counts_of some.0))
       (supported_class_move question support (counts_of some.0) history move some.2))).0
 
   pub next_among : (move : ClassMove) → is_among (next_moves question support history) move ≡ is_among all move
@@ -659,7 +598,7 @@ module _ (question : Question) (support : Support) (history : ClassHistory) (rea
       ≡ flat_map (λ child. if goes_on question support history child then f (move_of child) else []) children
   made_below f =
       ap (flat_map f) next_below
-      ∙ flat_map_of_map f move_of (filter (goes_on question support history) children)
+      ∙ flat_map_map f move_of (filter (goes_on question support history) children)
       ∙ flat_map_kept (λ child. f (move_of child)) (goes_on question support history) children
 
   none_below : 52 ≤ length history → children ≡ []
@@ -683,7 +622,7 @@ module _ (question : Question) (support : Support) (history : ClassHistory) (rea
   histories_in (suc more) long =
       ap (λ (l : List ClassHistory). history ∷ l)
       (made_below (λ move. histories_from question support more (history ++ move ∷ []))
-      ∙ flat_map_agree (λ child. if goes_on question support history child
+      ∙ flat_map_alike (λ child. if goes_on question support history child
       then histories_from question support more (history ++ move_of child ∷ []) else [])
       (λ child. if goes_on question support history child
       then histories_from question support (52 - length (history ++ move_of child ∷ []))
@@ -695,13 +634,6 @@ module _ (question : Question) (support : Support) (history : ClassHistory) (rea
     where
       less : (more long longer : ℕ) → suc more ≡ 52 - long → longer ≡ long + 1 → more ≡ 52 - longer
       less more long longer same next = omega (arith, same, next)
-
-      flat_map_agree : {X Y : Type 0} (f g : X → List Y) (xs : List X) → ((x : X) → f x ≡ g x)
-          → flat_map f xs ≡ flat_map g xs
-      flat_map_agree f g [] agree = refl
-      flat_map_agree {X} {Y} f g (x ∷ xs) agree =
-          ap (λ (l : List Y). l ++ flat_map f xs) (agree x)
-          ∙ ap (λ (l : List Y). g x ++ l) (flat_map_agree f g xs agree)
 
   -- the class histories that are reached from here on: this one, and those from each node below to which play goes on
   pub histories_below : histories_from question support (52 - length history) history

@@ -1,14 +1,13 @@
 -- How many rows and columns stand at a reached class history (`own_size`, `their_size`), and from it on (`size_below`).
-use Rattle.std.proofs.Common.{◌≡◌, ℕ, suc, ◌+◌, ◌-◌, ◌<◌, Bool, true, false, List, [], ◌∷◌, ◌++◌, length, map, get_or}
-use Rattle.std.proofs.Common.{take, refl, sym, ap, ◌∙◌, arith}
+use Rattle.std.proofs.Common.{◌≡◌, ℕ, ◌+◌, ◌-◌, ◌<◌, Bool, true, false, List, [], ◌∷◌, ◌++◌, length, map}
+use Rattle.std.proofs.Common.{refl, sym, ap, ◌∙◌, arith}
 use Rattle.std.specs.Prelude.{Contains, if◌then◌else◌, min, nat_lt, sum_by}
 use Rattle.std.specs.List.{flat_map}
-use Rattle.std.proofs.Math.Seq.{take-suc}
 use Rattle.std.proofs.lemmas.Bool.{and_parts}
 use Rattle.std.proofs.lemmas.List.{length-map}
 use Rattle.std.proofs.lemmas.List.Concat.{length-flat_map}
-use Rattle.std.proofs.lemmas.List.Sums.{sum_by-append, sum_by-cons}
-use Rattle.suit_lists.proofs.Sums.{sum_by_flat_map, sum_by_map, sum_by_same}
+use Rattle.std.proofs.lemmas.List.Sums.{sum_by-cons}
+use Rattle.suit_lists.proofs.Sums.{sum_by_flat_map, sum_by_map, sum_by_same, sums_together}
 use Rattle.suit_cards.specs.Cards.{ClassLayout}
 use Rattle.suit_game.specs.declared.question.Question.{Question}
 use Rattle.suit_classes.specs.ClassMoves.{ClassHistory}
@@ -27,26 +26,6 @@ use Rattle.suit_program.specs.Supports.{Support, declarer_chooses, defence_choos
 use Rattle.suit_program.specs.Supports.{reached_histories, reached_layouts, supported_moves}
 use Rattle.suit_program.proofs.lemmas.Walks.ReachTells.{histories_below}
 use Rattle.suit_program.proofs.lemmas.Walks.NodesBelow.{child_below, layout_at, moves_short, reached_at}
-
-sum_by_both : {X : Type 0} (f g : X → ℕ) (xs : List X) → sum_by f xs + sum_by g xs ≡ sum_by (λ x. f x + g x) xs
-sum_by_both f g [] = refl
-sum_by_both {X} f g (x ∷ xs) =
-    let both : X → ℕ = λ y. f y + g y in
-    omega (arith, sum_by-cons f x xs, sum_by-cons g x xs, sum_by-cons both x xs, sum_by_both f g xs)
-
--- one term more
-pub sum_one_more : {X : Type 0} (f : X → ℕ) (xs : List X) (i : ℕ) (d : X) → i < length xs
-    → sum_by f (take (i + 1) xs) ≡ sum_by f (take i xs) + f (get_or xs i d)
-sum_one_more {X} f xs i d below =
-    let one : i + 1 ≡ suc i = omega arith in
-    ap (λ (n : ℕ). sum_by f (take n xs)) one
-    ∙ ap (sum_by f) (take-suc xs i d below)
-    ∙ sum_by-append f (take i xs) (get_or xs i d ∷ [])
-    ∙ ap (λ (n : ℕ). sum_by f (take i xs) + n) (sum_by-cons f (get_or xs i d) [])
-    ∙ ap (λ (n : ℕ). sum_by f (take i xs) + n) (nothing (f (get_or xs i d)))
-  where
-    nothing : (n : ℕ) → n + 0 ≡ n
-    nothing n = omega arith
 
 -- numbers that stay at a greatest one
 pub saturated : (before more most : ℕ) → min (min before most + more) most ≡ min (before + more) most
@@ -83,7 +62,7 @@ module _ (question : Question) (support : Support) where
       (length-flat_map (limits_at question support) histories)
       ∙ ap (λ (n : ℕ). sum_by (λ history. length (limits_at question support history)) histories + n)
       (length-flat_map (columns_at question support) histories)
-      ∙ sum_by_both (λ history. length (limits_at question support history))
+      ∙ sums_together (λ history. length (limits_at question support history))
       (λ history. length (columns_at question support history)) histories
 
 module _ (question : Question) (support : Support) (history : ClassHistory) where
@@ -143,7 +122,7 @@ module _ (question : Question) (support : Support) (history : ClassHistory) wher
         (length-flat_map (answered_limits question support history) layouts)
         ∙ ap (λ (n : ℕ). sum_by (λ layout. length (answered_limits question support history layout)) layouts + n)
         (length-flat_map (held_column question history) layouts)
-        ∙ sum_by_both (λ layout. length (answered_limits question support history layout))
+        ∙ sums_together (λ layout. length (answered_limits question support history layout))
         (λ layout. length (held_column question history layout)) layouts
         ∙ ap (sum_by (layout_size question support history)) (reached_at question support history)
         ∙ sum_by_map (layout_size question support history) (layout_at question)

@@ -1,17 +1,17 @@
 -- What a walk over the reached class histories gathers, node by node (`gathered_first`, `gathered_more`,
 -- `gathered_all`), and that it stands in the list of all from an index on (`stands_here`, `stands_below`).
-use Rattle.std.proofs.Common.{◌≡◌, ℕ, zero, suc, ◌+◌, ◌-◌, ◌<◌, ◌≤◌, Bool, true, false, cond, List, [], ◌∷◌, ◌++◌}
-use Rattle.std.proofs.Common.{length}
-use Rattle.std.proofs.Common.{get_or, drop, take, map, refl, sym, ap, ◌∙◌, subst, arith, append_assoc, append-nil}
+use Rattle.std.proofs.Common.{◌≡◌, ℕ, zero, suc, ◌+◌, ◌-◌, ◌<◌, ◌≤◌, Bool, true, cond, List, [], ◌∷◌, ◌++◌, length}
+use Rattle.std.proofs.Common.{get_or, drop, take, refl, sym, ap, ◌∙◌, subst, arith, append_assoc, append-nil}
 use Rattle.std.proofs.Common.{length-append}
 use mathlib.Core.Path.{fun_ext}
 use Rattle.std.specs.Prelude.{filter}
 use Rattle.std.specs.List.{flat_map}
 use Rattle.std.proofs.lemmas.Grind.{flat_map-append}
-use Rattle.std.proofs.lemmas.List.{drop-drop, drop_more, map-append, take-append-drop, take_all, take_at}
+use Rattle.std.proofs.lemmas.List.{drop_more, take-append-drop, take_all}
 use Rattle.std.proofs.lemmas.List.Elements.{filter-append, filter_more}
 use Rattle.std.proofs.lemmas.List.Folds.{flat_map-map}
-use Rattle.std.proofs.lemmas.List.Prefix.{front_rest}
+use Rattle.suit_lists.proofs.FlatMaps.{flat_choice, flat_map_flat_map}
+use Rattle.suit_lists.proofs.Walks.{drop_parts}
 use Rattle.suit_game.specs.declared.question.Question.{Question}
 use Rattle.suit_game.specs.declared.limits.TheConstants.{MOST_MOVES}
 use Rattle.suit_classes.specs.declared.class_moves.ClassMove.{ClassMove}
@@ -26,27 +26,6 @@ use Rattle.suit_program.specs.Walks.{StandsIn, walked}
 use Rattle.suit_program.proofs.lemmas.Walks.NextByNodes.{next_told}
 
 -- ---- lists
-
-flat_flat : {X Y Z : Type 0} (f : Y → List Z) (g : X → List Y) (xs : List X)
-    → flat_map f (flat_map g xs) ≡ flat_map (λ x. flat_map f (g x)) xs
-flat_flat f g [] = refl
-flat_flat {X} {Y} {Z} f g (x ∷ xs) =
-    flat_map-append f (g x) (flat_map g xs) ∙ ap (λ (l : List Z). flat_map f (g x) ++ l) (flat_flat f g xs)
-
--- what is made of joined pieces is joined
-pub map_flat : {X Y Z : Type 0} (f : Y → Z) (g : X → List Y) (xs : List X)
-    → map f (flat_map g xs) ≡ flat_map (λ x. map f (g x)) xs
-map_flat f g [] = refl
-map_flat {X} {Y} {Z} f g (x ∷ xs) =
-    map-append f (g x) (flat_map g xs) ∙ ap (λ (l : List Z). map f (g x) ++ l) (map_flat f g xs)
-
-flat_choice : {X Y : Type 0} (f : X → List Y) (b : Bool) (x : X)
-    → flat_map f (cond b (x ∷ []) []) ≡ cond b (f x) []
-flat_choice f true x = append-nil (f x)
-flat_choice f false x = refl
-
-drop_parts : {X : Type 0} (xs done rest : List X) (i : ℕ) → drop i xs ≡ done ++ rest → drop (i + length done) xs ≡ rest
-drop_parts xs done rest i is = sym (drop-drop (length done) i xs) ∙ front_rest (drop i xs) done rest is
 
 -- what stands in a list from an index on does so in its parts
 pub stands_first : {X : Type 0} (all : List X) (i : ℕ) (some more : List X) → StandsIn all i (some ++ more)
@@ -64,20 +43,6 @@ stands_later all i some more is = record {
   from = drop_parts all some (more ++ is.rest) i (is.from ∙ append_assoc some more is.rest);
   within = omega (arith, is.within, length-append some more);
 }
-
--- what was pushed last is gone after it is popped
-pub one_off : {X : Type 0} (before all after : List X) (x : X) (n : ℕ) → all ≡ before ++ x ∷ [] → n ≡ length all
-    → after ≡ take (n - 1) all → after ≡ before
-one_off {X} before all after x n is long off =
-    let less : n - 1 ≡ length before =
-    one_less n (length before) (long ∙ ap (λ (l : List X). length l) is ∙ length-append before (x ∷ [])) in
-    off
-    ∙ ap (λ (l : List X). take (n - 1) l) is
-    ∙ ap (λ (m : ℕ). take m (before ++ x ∷ [])) less
-    ∙ take_at before (x ∷ []) (length before) refl
-  where
-    one_less : (n m : ℕ) → n ≡ m + 1 → n - 1 ≡ m
-    one_less n m is = omega (arith, is)
 
 -- ---- walks
 
@@ -141,7 +106,7 @@ module _ {X : Type 0} (piece : ClassHistory → List X) (question : Question) (s
         ∙ ap (λ (f : ClassMove → List X). flat_map f (next_moves question support history))
         (fun_ext (λ move. ap (λ (n : ℕ). flat_map piece (histories_from question support n (history ++ move ∷ [])))
         (less more (length history) (length (history ++ move ∷ [])) is (length-append history (move ∷ [])))))
-        ∙ sym (flat_flat piece (λ move. histories_from question support more (history ++ move ∷ []))
+        ∙ sym (flat_map_flat_map piece (λ move. histories_from question support more (history ++ move ∷ []))
         (next_moves question support history)))
       where
         less : (more long longer : ℕ) → suc more ≡ 52 - long → longer ≡ long + 1 → 52 - longer ≡ more

@@ -1,12 +1,12 @@
 -- A walk, class history by class history (`passed_none`, `passed_more`, `all_written`).
-use Rattle.std.proofs.Common.{◌≡◌, ℕ, zero, suc, ◌-◌, ◌<◌, List, [], ◌∷◌, ◌++◌, length}
-use Rattle.std.proofs.Common.{get_or}
+use Rattle.std.proofs.Common.{◌≡◌, ℕ, zero, suc, ◌-◌, ◌<◌, List, [], ◌∷◌, ◌++◌, length, get_or}
 use Rattle.std.proofs.Common.{map, refl, sym, ap, ◌∙◌, subst, append-nil, arith}
 use Rattle.std.specs.Prelude.{ℤ, pos, ◌+ℤ◌}
 use Rattle.std.specs.List.{flat_map}
 use Rattle.std.proofs.lemmas.Int.{ints}
 use Rattle.std.proofs.lemmas.List.{get_or-append-add, length-append}
 use Rattle.std.proofs.lemmas.List.Concat.{flat_map-append}
+use Rattle.suit_lists.proofs.FlatMaps.{flat_map_flat_map}
 use Rattle.suit_game.specs.declared.question.Question.{Question}
 use Rattle.suit_classes.specs.declared.class_moves.ClassMove.{ClassMove}
 use Rattle.suit_classes.specs.declared.class_moves.ClassMove.TheVariants.{ShowOut}
@@ -19,18 +19,11 @@ use Rattle.suit_program.specs.Programs.Points.{Column, Point}
 use Rattle.suit_program.specs.Programs.{Limit, columns_at, excess, limits_at}
 use Rattle.suit_program.specs.Supports.{Support, histories_from, next_moves}
 use Rattle.suit_program.specs.Walks.Writing.{AreGiven, IsOpened, IsWritten, accounts_after, columns_from, limits_from}
-use Rattle.suit_program.specs.Walks.Writing.{mass_after}
-use Rattle.suit_program.specs.Walks.Writing.{owed, told}
+use Rattle.suit_program.specs.Walks.Writing.{mass_after, owed, told}
 use Rattle.suit_program.specs.Programs.Worths.{mass_at}
 use Rattle.suit_program.proofs.lemmas.Supports.SumsByPlay.{sum_append}
 use Rattle.suit_program.proofs.lemmas.Walks.OwedIsSharedOut.{given_append, told_append}
 use Rattle.suit_program.proofs.lemmas.Walks.WritingByLayout.{extends_both}
-
-flat_map_flat : {X Y Z : Type 0} (f : Y → List Z) (g : X → List Y) (xs : List X)
-    → flat_map f (flat_map g xs) ≡ flat_map (λ x. flat_map f (g x)) xs
-flat_map_flat f g [] = refl
-flat_map_flat {Y = Y} {Z = Z} f g (x ∷ xs) =
-    flat_map-append f (g x) (flat_map g xs) ∙ ap (λ (l : List Z). flat_map f (g x) ++ l) (flat_map_flat f g xs)
 
 module _ (question : Question) (support : Support) (history : List ClassMove) where
   -- the columns and rows with a move more
@@ -52,7 +45,7 @@ module _ (question : Question) (support : Support) (history : List ClassMove) wh
   columns_split go =
       ap (flat_map (columns_at question support)) go
       ∙ ap (λ (l : List Column). columns_at question support history ++ l)
-      (flat_map_flat (columns_at question support)
+      (flat_map_flat_map (columns_at question support)
       (λ move. histories_from question support (52 - length (history ++ move ∷ [])) (history ++ move ∷ []))
       (next_moves question support history))
 
@@ -62,7 +55,7 @@ module _ (question : Question) (support : Support) (history : List ClassMove) wh
   limits_split go =
       ap (flat_map (limits_at question support)) go
       ∙ ap (λ (l : List Limit). limits_at question support history ++ l)
-      (flat_map_flat (limits_at question support)
+      (flat_map_flat_map (limits_at question support)
       (λ move. histories_from question support (52 - length (history ++ move ∷ [])) (history ++ move ∷ []))
       (next_moves question support history))
 

@@ -1,10 +1,10 @@
 -- What is written at a turn of the defence for a class layout in the reach's list (`layout_writes`, `layout_keeps`).
 use Rattle.std.proofs.Common.{◌≡◌, ℕ, zero, suc, ◌+◌, ◌<◌, ◌≤◌, Bool, true, false, List, [], ◌∷◌, ◌++◌, length, get_or}
-use Rattle.std.proofs.Common.{map}
-use Rattle.std.proofs.Common.{refl, sym, ap, ◌∙◌, subst, append-nil, arith}
+use Rattle.std.proofs.Common.{map, refl, sym, ap, ◌∙◌, subst, append-nil, arith}
 use Rattle.std.specs.Prelude.{Contains, if◌then◌else◌, negsuc, ◌+ℤ◌}
 use Rattle.std.proofs.lemmas.List.{length-map}
 use Rattle.std.proofs.lemmas.List.Elements.{Contains-get_or}
+use Rattle.suit_lists.proofs.Elements.{Contains-same}
 use Rattle.suit_lists.proofs.Maps.{Contains-map}
 use Rattle.suit_cards.specs.Cards.{ClassLayout}
 use Rattle.suit_game.specs.declared.limits.TheConstants.{MOST_SUPPORT}
@@ -64,7 +64,7 @@ module _ (ledger : Ledger) (reach : Reach) (place : ℕ) (account : Account) (la
 
     index_found : Contains (reached_indices case.question case.support case.history) layout.index
     index_found =
-        subst (λ (l : List ℕ). Contains l layout.index) case.reached.layouts
+        Contains-same layout.index case.reached.layouts
         (Contains-map (λ (other : ReachedLayout). other.index) reach.layouts.items layout layout_found)
 
     moves_there : (moves : List ClassMove) → TellsMoves reach layout moves

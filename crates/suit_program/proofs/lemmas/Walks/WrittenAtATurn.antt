@@ -1,16 +1,17 @@
 -- The turns of a walk: what is written at each and handed on (`over_opened`, `kept_opened`, `passed_opened`,
 -- `answered_opened`).
 use Rattle.std.proofs.Common.{◌≡◌, ℕ, zero, suc, ◌+◌, ◌<◌, ◌≤◌, Bool, true, false, List, [], ◌∷◌, ◌++◌, length, get_or}
-use Rattle.std.proofs.Common.{map}
-use Rattle.std.proofs.Common.{refl, sym, ap, ◌∙◌, subst, inl, inr, arith}
-use Rattle.std.specs.Prelude.{Contains, ◌==◌, ◌^◌, filter, if◌then◌else◌, ℤ, pos, ◌+ℤ◌, ◌-ℤ◌, ◌*ℤ◌}
+use Rattle.std.proofs.Common.{map, refl, sym, ap, ◌∙◌, subst, inl, inr, arith}
+use Rattle.std.specs.Prelude.{Contains, ◌==◌, ◌^◌, if◌then◌else◌, ℤ, pos, ◌+ℤ◌, ◌-ℤ◌, ◌*ℤ◌}
 use Rattle.std.specs.List.{flat_map}
 use Rattle.std.proofs.lemmas.Bool.{false≢true}
 use Rattle.std.proofs.lemmas.Int.{ints}
 use Rattle.std.proofs.lemmas.List.{length-map}
 use Rattle.std.proofs.lemmas.List.Elements.{Contains-get_or, filter_agree}
-use Rattle.suit_lists.proofs.Elements.{Contains-cons_cases, Contains-nil}
+use Rattle.suit_lists.proofs.Elements.{Contains-cons_cases, Contains-nil, Contains-same}
+use Rattle.suit_lists.proofs.Filters.{filter_true}
 use Rattle.suit_lists.proofs.Firsts.{HasFirst}
+use Rattle.suit_lists.proofs.FlatMaps.{flat_map_none}
 use Rattle.suit_lists.proofs.Maps.{map_same}
 use Rattle.suit_cards.specs.Cards.{ClassLayout}
 use Rattle.suit_game.specs.declared.question.Question.{Question}
@@ -40,16 +41,14 @@ use Rattle.suit_program.specs.Supports.{Support, declarer_chooses, defence_choos
 use Rattle.suit_program.specs.Supports.{reached_layouts, supported_moves}
 use Rattle.suit_program.specs.Walks.Writing.{AnswerView, AreAccounts, AreAnswered, AreGiven, IsOpened, accounts_after}
 use Rattle.suit_program.specs.Walks.Writing.{answer_seen, answered_by, answered_rows, held_at, held_columns, held_in}
-use Rattle.suit_program.specs.Walks.Writing.{layout_of}
-use Rattle.suit_program.specs.Walks.Writing.{mass_after, opened, owed, told}
+use Rattle.suit_program.specs.Walks.Writing.{layout_of, mass_after, opened, owed, told}
 use Rattle.suit_program.specs.Programs.Worths.{mass_at, player, worth_at}
 use Rattle.suit_program.proofs.lemmas.Walks.OwedAtTheDefence.{handed, some_legal, theirs_told}
 use Rattle.suit_program.proofs.lemmas.Walks.AccountsHandedOn.{answered_are, answered_owed}
 use Rattle.suit_program.proofs.lemmas.Walks.AccountsByLayout.{account_there, columns_held, indices_next, rows_answered}
 use Rattle.suit_program.proofs.lemmas.Supports.TurnCases.{Ended, Forced, Own, Theirs, TurnAt, mass_passed}
 use Rattle.suit_program.proofs.lemmas.Supports.TurnCases.{own_supported, turn_at}
-use Rattle.suit_program.proofs.lemmas.Programs.WorthByMoves.{declarer_waits, defence_waits, flat_none, over_next}
-use Rattle.suit_program.proofs.lemmas.Programs.WorthByMoves.{over_supported}
+use Rattle.suit_program.proofs.lemmas.Programs.WorthByMoves.{declarer_waits, defence_waits, over_next, over_supported}
 use Rattle.suit_program.proofs.lemmas.Programs.WorthByMoves.{over_turn}
 use Rattle.suit_program.proofs.lemmas.Programs.WorthByMoves.{own_next, reached_short, worth_paid, worth_summed}
 
@@ -63,10 +62,6 @@ credit_sum {X} row account f xs = at (account.row == row)
         ≡ sum_of (map (λ (x : X). if b then account.factor *ℤ f x else pos 0) xs)
     at true = sum_times account.factor f xs
     at false = sym (sum_nothing (λ (x : X). pos 0) xs (λ x found. refl))
-
-pub filter_all : {X : Type 0} (xs : List X) → filter (λ x. true) xs ≡ xs
-filter_all [] = refl
-filter_all {X} (x ∷ xs) = ap (λ (l : List X). x ∷ l) (filter_all xs)
 
 -- what columns are given by their places
 given_at : (given : Given) (point : Point) (f : ClassMove → Column) (moves : List ClassMove) (first index : ℕ)
@@ -100,12 +95,12 @@ module _ (question : Question) (support : Support) (history : List ClassMove) wh
       record {
         columns = ap (λ (b : Bool). if b then map (Passed history) (supported_moves question support [] history)
             else flat_map (held_column question history) layouts) not_own
-            ∙ flat_none (held_column question history) layouts
-            (λ layout. ap (λ (b : Bool). if b then Held layout.0 history ∷ [] else []) (none layout.0));
+            ∙ flat_map_none (held_column question history) layouts
+            (λ layout found. ap (λ (b : Bool). if b then Held layout.0 history ∷ [] else []) (none layout.0));
         limits = ap (λ (b : Bool). if b then Shared history ∷ []
             else flat_map (answered_limits question support history) layouts) not_own
-            ∙ flat_none (answered_limits question support history) layouts
-            (λ layout. quiet_rows layout.0 (none layout.0));
+            ∙ flat_map_none (answered_limits question support history) layouts
+            (λ layout found. quiet_rows layout.0 (none layout.0));
       }
     where
       quiet_rows : (west : ClassLayout) → defence_chooses question west history ≡ false
@@ -173,7 +168,7 @@ module _ (question : Question) (support : Support) (history : List ClassMove) wh
           masses = λ point given are same index below. absurd (no_next over index below);
           few = λ index below. absurd (no_next over index below);
           after = λ move found. absurd (Contains-nil move
-              (subst (λ (l : List ClassMove). Contains l move) all found));
+              (Contains-same move all found));
           values = λ point given are same row.
               over_sum (value_of new given row) (value_of old given row) (owed_after turns.Kept point row)
               (owed question support point history accounts row)
@@ -247,12 +242,12 @@ module _ (question : Question) (support : Support) (history : List ClassMove) wh
           → AreAccounts question support (history ++ move ∷ []) all accounts
       own_after all more move found = record {
         indices = are.indices
-            ∙ sym (filter_all (reached_indices question support history))
+            ∙ sym (filter_true (reached_indices question support history))
             ∙ filter_agree (λ index. true)
             (λ index. is_among (supported_moves question support (counts_at question index) history) move)
             (λ index. sym (ap (λ (l : List ClassMove). is_among l move)
             (own_supported question support (counts_at question index) history not_over own)
-            ∙ among_contained mine move (subst (λ (l : List ClassMove). Contains l move) mine_next found)))
+            ∙ among_contained mine move (Contains-same move mine_next found)))
             (reached_indices question support history)
             ∙ indices_next question support history move;
         fit = λ account held.
@@ -267,9 +262,9 @@ module _ (question : Question) (support : Support) (history : List ClassMove) wh
           (move : ClassMove) → Contains mine move
           → mass_at question support point (history ++ move ∷ []) ≡ mass_at question support point history
       alone_mass waits (Ended none nothing not) point move found =
-          absurd (Contains-nil move (subst (λ (l : List ClassMove). Contains l move) nothing found))
+          absurd (Contains-nil move (Contains-same move nothing found))
       alone_mass waits (Forced only alone is not same) point move found =
-          elim (Contains-cons_cases only [] move (subst (λ (l : List ClassMove). Contains l move) is found)) [
+          elim (Contains-cons_cases only [] move (Contains-same move is found)) [
             | inl here ↦ subst (λ (m : ClassMove). mass_at question support point (history ++ m ∷ [])
                 ≡ mass_at question support point history) here (same point)
             | inr there ↦ absurd (Contains-nil move there)
@@ -281,7 +276,7 @@ module _ (question : Question) (support : Support) (history : List ClassMove) wh
       next_found : (index : ℕ) → index < length (next_moves question support history)
           → Contains mine (get_or (next_moves question support history) index ShowOut)
       next_found index below =
-          subst (λ (l : List ClassMove). Contains l (get_or (next_moves question support history) index ShowOut))
+          Contains-same (get_or (next_moves question support history) index ShowOut)
           mine_next (Contains-get_or (next_moves question support history) index ShowOut below)
 
       pub kept_opened : declarer_chooses question history ≡ false → (old : Ledger) → rows ≡ old.rows → mass < 2 ^ 32

@@ -1,5 +1,4 @@
-use Rattle.std.proofs.Common.{◌≡◌, ◌<◌, ℕ, List, get_or, ap, subst, ◌∙◌, Vec, Global}
-use Rattle.std.specs.Prelude.{Contains}
+use Rattle.std.proofs.Common.{◌≡◌, ◌<◌, ℕ, List, get_or, ap, ◌∙◌, Vec, Global}
 use Rattle.suit_linear.specs.declared.sparse.Entry.{Entry}
 use Rattle.suit_linear.specs.Sparse.{dense_entries}
 use Rattle.suit_program.specs.declared.walks.ledger.Ledger.{Ledger}
@@ -8,6 +7,7 @@ use Rattle.suit_program.specs.Walks.LedgerOf.{sparse_row}
 use Rattle.suit_program.specs.Walks.Ledgers.{entries_of}
 use Rattle.suit_program.specs.Supports.Marks.{support_seen}
 use Rattle.std.proofs.Common.{map}
+use Rattle.suit_lists.proofs.Elements.{Contains-same}
 use Rattle.suit_program.proofs.lemmas.Walks.LedgerIsTheProgram.{ledger_tells, few_columns}
 use Rattle.suit_program.proofs.programs.sparse_program.Goals as goal
 
@@ -15,7 +15,7 @@ pub entries_by_row-requires : goal.entries_by_row-requires
 entries_by_row-requires c = record {
   rows = λ posting there.
       (c.in_ok-ledger.ensures c.requires).within posting
-      (subst (λ (l : List Posting). Contains l posting) c.deref.ensures.value there);
+      (Contains-same posting c.deref.ensures.value there);
 }
 
 pub returns : goal.returns

@@ -1,14 +1,15 @@
 use Rattle.std.proofs.Common.{◌≡◌, ◌<◌, ◌≤◌, ◌+◌, ◌-◌, ◌^◌, ◌++◌, ◌∷◌, ℕ}
-use Rattle.std.proofs.Common.{Bool, List, [], ap, arith, get_or, length, sym, take}
-use Rattle.std.proofs.Common.{subst, ◌∙◌}
+use Rattle.std.proofs.Common.{Bool, List, [], ap, arith, get_or, length, sym, take, ◌∙◌}
 use Rattle.std.specs.Prelude.{Contains, if◌then◌else◌, min, sum_by}
 use Rattle.std.proofs.lemmas.List.{length-append, take_all}
 use Rattle.std.proofs.lemmas.List.Elements.{Contains-get_or}
+use Rattle.suit_lists.proofs.Elements.{Contains-same}
+use Rattle.suit_lists.proofs.Sums.{sum_one_more}
 use Rattle.suit_tree.specs.declared.node.Node.{Node}
 use Rattle.suit_tree.specs.Nodes.{children_of, move_of}
 use Rattle.suit_program.specs.Walks.SupportSizes.{size_at, size_from}
 use Rattle.suit_program.proofs.lemmas.Walks.NoNode.{no_node}
-use Rattle.suit_program.proofs.lemmas.Walks.SizeFromHere.{child_short, child_size, one_below, size_below, sum_one_more}
+use Rattle.suit_program.proofs.lemmas.Walks.SizeFromHere.{child_short, child_size, one_below, size_below}
 use Rattle.suit_program.proofs.programs.sizes.+size_from.Goals as goal
 use Rattle.suit_program.proofs.programs.sizes.+size_from.Goals.{in-Some, in-None}
 
@@ -18,7 +19,7 @@ overflow_sub-more t c =
     let child : Node = get_or c.children-child-items.result.now c.loop-child.child-index no_node in
     let same : c.children-child-items.result.now ≡ nodes =
     c.children-child-items.ensures ∙ ap children_of c.node.ensures in
-    let below : Contains nodes child = subst (λ (l : List Node). Contains l child) same
+    let below : Contains nodes child = Contains-same child same
     (Contains-get_or c.children-child-items.result.now c.loop-child.child-index no_node c.loop-child-test.true) in
     let short = child_short c.requires.question c.requires.support c.requires.history c.args.reach.now
     c.requires.reached child below in
@@ -30,7 +31,7 @@ size_from-size-requires t c =
     let child : Node = get_or c.children-child-items.result.now c.loop-child.child-index no_node in
     let same : c.children-child-items.result.now ≡ nodes =
     c.children-child-items.ensures ∙ ap children_of c.node.ensures in
-    let below : Contains nodes child = subst (λ (l : List Node). Contains l child) same
+    let below : Contains nodes child = Contains-same child same
     (Contains-get_or c.children-child-items.result.now c.loop-child.child-index no_node c.loop-child-test.true) in
     let short = child_short c.requires.question c.requires.support c.requires.history c.args.reach.now
     c.requires.reached child below in (

@@ -3,6 +3,7 @@ use Rattle.std.proofs.Common.{subst, ◌∙◌}
 use Rattle.std.specs.Prelude.{Contains, sum_by}
 use Rattle.std.proofs.lemmas.List.{take_all}
 use Rattle.std.proofs.lemmas.List.Elements.{Contains-get_or}
+use Rattle.suit_lists.proofs.Sums.{sum_one_more}
 use Rattle.suit_classes.specs.declared.class_moves.ClassMove.{ClassMove}
 use Rattle.suit_plans.specs.ReplyLaws.{counts_at}
 use Rattle.suit_program.specs.declared.walks.reach.ReachedLayout.{ReachedLayout}
@@ -10,8 +11,7 @@ use Rattle.suit_program.specs.Supports.{declarer_chooses, defence_chooses}
 use Rattle.suit_program.proofs.lemmas.Walks.ReachTells.{layout_held}
 use Rattle.suit_program.proofs.lemmas.Walks.NodesBelow.{layout_at}
 use Rattle.suit_program.proofs.lemmas.Walks.SizeFromHere.{choice_size, chooses_own, chooses_theirs}
-use Rattle.suit_program.proofs.lemmas.Walks.SizeFromHere.{no_choice_size, own_size, size_in}
-use Rattle.suit_program.proofs.lemmas.Walks.SizeFromHere.{sum_one_more, their_size}
+use Rattle.suit_program.proofs.lemmas.Walks.SizeFromHere.{no_choice_size, own_size, size_in, their_size}
 use Rattle.suit_program.proofs.lemmas.Walks.ReachAtTheStart.{reach_few}
 use Rattle.suit_program.proofs.programs.sizes.size_at.Goals as goal
 use Rattle.suit_program.proofs.programs.sizes.size_at.Goals.{then-chooses, else-chooses}

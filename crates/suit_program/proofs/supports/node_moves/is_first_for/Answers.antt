@@ -1,9 +1,9 @@
 use Rattle.std.proofs.Common.{◌∙◌, sym, ap, List, map}
+use Rattle.suit_lists.proofs.Walks.{kept_end, kept_on, kept_past}
 use Rattle.suit_classes.specs.ClassMoves.{same_class_move}
 use Rattle.suit_plans.specs.Masses.{is_first}
 use Rattle.suit_tree.specs.Nodes.{holds_index, move_of}
 use Rattle.suit_tree.specs.declared.node.Node.{Node}
-use Rattle.suit_program.proofs.lemmas.Walks.KeptSoFar.{kept_end, kept_on, kept_past}
 use Rattle.suit_program.proofs.lemmas.Walks.NoNode.{no_node}
 use Rattle.suit_program.proofs.supports.node_moves.is_first_for.Goals as goal
 

@@ -1,10 +1,10 @@
 use Rattle.std.proofs.Common.{◌∙◌, sym, ap, List, [], ◌++◌, Bool, map, refl}
 use Rattle.std.specs.List.{flat_map}
+use Rattle.suit_lists.proofs.FlatMaps.{map_flat}
 use Rattle.suit_program.specs.Programs.{columns, columns_at}
 use Rattle.suit_program.specs.Readings.{is_passed}
 use Rattle.suit_program.specs.Supports.Marks.{support_seen}
 use Rattle.suit_program.specs.Supports.{reached_histories}
-use Rattle.suit_program.proofs.lemmas.Walks.WhatAWalkGathers.{map_flat}
 use Rattle.suit_program.proofs.walks.columns.passed_columns.Goals as goal
 
 pub returns : goal.returns

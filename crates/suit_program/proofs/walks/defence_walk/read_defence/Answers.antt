@@ -76,6 +76,7 @@ returns c = λ case.
     ∙ ap (map (λ (layout : ClassLayout × ℕ). pos layout.1 *ℤ scale)) c.layouts-layouts.ensures)
     (c.start-start.ensures case.question case.valid case.grown) c.new-history.ensures.items c.in_ok-lists.lists.items
     c.below.new.lists.items c.in_ok-below.ensures.lists
-    (subst (λ (l : List (ClassLayout × ℕ)). AreEmptyLists (length l) c.in_ok-lists.lists.items) c.layouts-layouts.ensures
+    (subst (λ (l : List (ClassLayout × ℕ)). AreEmptyLists (length l) c.in_ok-lists.lists.items)
+    c.layouts-layouts.ensures
     c.in_ok-lists.ensures) c.in_ok-below.ensures.rows)
     ∙ ap (defence_of case.question (support_seen case.question c.args.support.now) c.args.prices.now) same

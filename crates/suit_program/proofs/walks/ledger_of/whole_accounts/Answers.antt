@@ -2,9 +2,9 @@ use Rattle.std.proofs.Common.{◌∙◌, ℕ, ℤ, [], ap, arith, get_or, pos, s
 use Rattle.std.specs.Int.{w64}
 use Rattle.std.proofs.lemmas.Int.{to_z_pos}
 use Rattle.std.proofs.lemmas.List.{get_or_read}
+use Rattle.suit_lists.proofs.Walks.{one_numbered}
 use Rattle.suit_cards.specs.Cards.{ClassLayout}
 use Rattle.suit_program.specs.declared.walks.ledger.Account.{Account}
-use Rattle.suit_program.proofs.lemmas.Walks.KeptSoFar.{one_numbered}
 use Rattle.suit_program.proofs.walks.ledger_of.whole_accounts.Goals as goal
 
 pub loop-index-preserved : goal.loop-index-preserved

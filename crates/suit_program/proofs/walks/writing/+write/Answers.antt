@@ -1,9 +1,10 @@
 use Rattle.std.proofs.Common.{◌≡◌, ◌∙◌, ◌+◌, ◌<◌, ◌≤◌, ◌^◌, ◌++◌, ◌∷◌, [], List, ℕ, ap, arith, drop, false, get_or}
-use Rattle.std.proofs.Common.{length, refl}
-use Rattle.std.proofs.Common.{rules, subst, sym, take, true}
+use Rattle.std.proofs.Common.{length, refl, rules, subst, sym, take, true}
 use Rattle.std.specs.Prelude.{Contains}
 use Rattle.std.proofs.lemmas.List.{length-append}
 use Rattle.std.proofs.lemmas.List.Elements.{Contains-get_or}
+use Rattle.suit_lists.proofs.Elements.{Contains-same}
+use Rattle.suit_lists.proofs.Indices.{at_itself}
 use Rattle.suit_classes.specs.declared.class_moves.ClassMove.{ClassMove}
 use Rattle.suit_tree.specs.declared.node.Node.{Node}
 use Rattle.suit_tree.specs.Nodes.{children_of, move_of}
@@ -13,8 +14,7 @@ use Rattle.suit_program.specs.Walks.Writing.{IsWritten, accounts_after, mass_aft
 use Rattle.suit_program.proofs.lemmas.Walks.RoomToWrite.{child_asked, go_on, room_rows}
 use Rattle.suit_program.proofs.lemmas.Walks.NoNode.{no_node}
 use Rattle.suit_program.proofs.lemmas.Walks.SizeFromHere.{child_short}
-use Rattle.suit_program.proofs.lemmas.Walks.NodeByNode.{at_itself, done, done_all, done_more, done_past, next_contained}
-use Rattle.suit_program.proofs.lemmas.Walks.NodeByNode.{next_few}
+use Rattle.suit_program.proofs.lemmas.Walks.NodeByNode.{done, done_all, done_more, done_past, next_contained, next_few}
 use Rattle.suit_program.proofs.lemmas.Walks.NodeByNode.{next_parts}
 use Rattle.suit_program.proofs.lemmas.Walks.WritingGoesOn.{ArePassed, all_written, passed_more, passed_none}
 use Rattle.suit_program.proofs.walks.writing.+write.Goals as goal
@@ -33,7 +33,7 @@ loop-child-init t c = λ case. (
 pub child-requires-clause-below : goal.child-requires-clause-below
 child-requires-clause-below t c =
     let child : Node = get_or c.children-child-items.result.now c.loop-child.child-index no_node in
-    subst (λ (l : List Node). Contains l child) (c.children-child-items.ensures ∙ ap children_of c.node.ensures)
+    Contains-same child (c.children-child-items.ensures ∙ ap children_of c.node.ensures)
     (Contains-get_or c.children-child-items.result.now c.loop-child.child-index no_node c.loop-child-test.true)
 
 pub accounts-requires : goal.accounts-requires
@@ -123,7 +123,7 @@ overflow_sub-more t c =
     let asked = c.loop-child.invariant case in
     let below = c.requires.left in
     let short = child_short below.question below.support below.history reach below.reached child
-    (subst (λ (l : List Node). Contains l child) same (Contains-get_or items i no_node c.loop-child-test.true)) in
+    (Contains-same child same (Contains-get_or items i no_node c.loop-child-test.true)) in
     let left = below.left in
     omega (arith, short, left)
 
@@ -144,7 +144,7 @@ write-requires t c =
     let asked = c.loop-child.invariant case in
     let below = c.requires.left in
     let short = child_short below.question below.support below.history reach below.reached child
-    (subst (λ (l : List Node). Contains l child) same (Contains-get_or items i no_node c.loop-child-test.true)) in
+    (Contains-same child same (Contains-get_or items i no_node c.loop-child-test.true)) in
     let left = below.left in (
       omega (arith, c.decreases, short, left),
       (

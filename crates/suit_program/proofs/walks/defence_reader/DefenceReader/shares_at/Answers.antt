@@ -4,14 +4,13 @@ use Rattle.std.specs.Prelude.{All, ◌≤ℤ◌}
 use Rattle.std.specs.Int.{w128}
 use Rattle.std.proofs.lemmas.Int.{to_z-of_z}
 use Rattle.std.proofs.lemmas.List.Elements.{All-drop, All-take}
+use Rattle.suit_lists.proofs.Walks.{cut_length}
 use Rattle.suit_classes.specs.declared.class_moves.ClassMove.{ClassMove}
 use Rattle.suit_program.specs.declared.walks.reach.ReachedLayout.{ReachedLayout}
 use Rattle.suit_program.specs.Readings.{filled}
 use Rattle.suit_program.specs.Readings.Sharing.{counted}
-use Rattle.suit_program.proofs.lemmas.Walks.DefenceInALayout.{answers_told, cut_length, first_within, moves_within}
-use Rattle.suit_program.proofs.lemmas.Walks.DefenceInALayout.{place_listed}
-use Rattle.suit_program.proofs.lemmas.Walks.DefenceInALayout.{shares_told}
-use Rattle.suit_program.proofs.lemmas.Walks.DefenceInALayout.{waits_told}
+use Rattle.suit_program.proofs.lemmas.Walks.DefenceInALayout.{answers_told, first_within, moves_within, place_listed}
+use Rattle.suit_program.proofs.lemmas.Walks.DefenceInALayout.{shares_told, waits_told}
 use Rattle.suit_program.proofs.walks.defence_reader.DefenceReader.shares_at.Goals as goal
 
 pub past-first-requires : goal.past-first-requires

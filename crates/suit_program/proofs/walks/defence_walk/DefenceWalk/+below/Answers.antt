@@ -1,6 +1,7 @@
 use Rattle.std.proofs.Common.{◌≡◌, ◌∙◌, ℕ, ◌<◌, true, false, sym, ap, subst, arith, List, Option, None}
 use Rattle.std.proofs.Common.{[], ◌∷◌, ◌++◌, append-nil, get_or, length, length-append, refl}
 use Rattle.std.specs.Prelude.{ℤ}
+use Rattle.suit_lists.proofs.Walks.{one_off}
 use Rattle.suit_classes.specs.ClassMoves.{ClassHistory}
 use Rattle.suit_plans.specs.Masses.{Shares}
 use Rattle.suit_tree.specs.Nodes.{children_of, move_of}
@@ -8,10 +9,9 @@ use Rattle.suit_program.specs.Walks.DefenceLists.{AreShared}
 use Rattle.suit_program.specs.Walks.DefenceWalks.{their_row_of}
 use Rattle.suit_program.specs.Readings.Sharing.{AreThrough}
 use Rattle.suit_program.proofs.lemmas.Walks.DefenceGoesOn.{first_after, first_rows, last_after, last_rows, more_after}
-use Rattle.suit_program.proofs.lemmas.Walks.DefenceGoesOn.{more_rows}
-use Rattle.suit_program.proofs.lemmas.Walks.DefenceGoesOn.{next_stop, next_stops, rows_within}
+use Rattle.suit_program.proofs.lemmas.Walks.DefenceGoesOn.{more_rows, next_stop, next_stops, rows_within}
 use Rattle.suit_program.proofs.lemmas.Walks.NoNode.{no_node}
-use Rattle.suit_program.proofs.lemmas.Walks.WhatAWalkGathers.{one_off, room_below}
+use Rattle.suit_program.proofs.lemmas.Walks.WhatAWalkGathers.{room_below}
 use Rattle.suit_program.proofs.walks.defence_walk.DefenceWalk.+below.Goals as goal
 use Rattle.suit_program.proofs.walks.defence_walk.DefenceWalk.+below.Goals.{
   in-Some+in_ok-passed+in_ok-push+in_ok-after,

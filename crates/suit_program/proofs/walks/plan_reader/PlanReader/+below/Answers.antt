@@ -1,10 +1,8 @@
-use Rattle.std.proofs.Common.{rules, ◌≡◌, ◌∙◌, ◌+◌, ◌≤◌, ℕ, true, false, sym, ap, subst}
-use Rattle.std.proofs.Common.{arith}
-use Rattle.std.proofs.Common.{[], ◌∷◌, ◌++◌, append-nil, length, length-append, refl, SFits}
-use Rattle.std.proofs.Common.{to_z}
-use Rattle.std.proofs.Common.{of_z, Option}
+use Rattle.std.proofs.Common.{rules, ◌≡◌, ◌∙◌, ◌+◌, ◌≤◌, ℕ, true, false, sym, ap, subst, arith}
+use Rattle.std.proofs.Common.{[], ◌∷◌, ◌++◌, append-nil, length, length-append, refl, SFits, to_z, of_z, Option}
 use Rattle.std.specs.Int.{w128}
 use Rattle.std.proofs.lemmas.Int.{to_z-of_z}
+use Rattle.suit_lists.proofs.Walks.{one_off}
 use Rattle.suit_classes.specs.ClassMoves.{ClassHistory}
 use Rattle.suit_plans.specs.Masses.{Shares}
 use Rattle.suit_tree.specs.Nodes.{children_of}
@@ -12,9 +10,8 @@ use Rattle.suit_program.specs.Walks.PlanWalks.{IsPlanStop}
 use Rattle.suit_program.specs.Readings.Sharing.{through}
 use Rattle.suit_program.proofs.lemmas.Walks.PlanAtATurn.{turn_within}
 use Rattle.suit_program.proofs.lemmas.Walks.PlanGoesOn.{first_after, first_rows, last_after, last_rows, more_after}
-use Rattle.suit_program.proofs.lemmas.Walks.PlanGoesOn.{more_rows}
-use Rattle.suit_program.proofs.lemmas.Walks.PlanGoesOn.{next_stop, with_mass}
-use Rattle.suit_program.proofs.lemmas.Walks.WhatAWalkGathers.{one_off, room_below}
+use Rattle.suit_program.proofs.lemmas.Walks.PlanGoesOn.{more_rows, next_stop, with_mass}
+use Rattle.suit_program.proofs.lemmas.Walks.WhatAWalkGathers.{room_below}
 use Rattle.suit_program.proofs.walks.plan_reader.PlanReader.+below.Goals as goal
 use Rattle.suit_program.proofs.walks.plan_reader.PlanReader.+below.Goals.{in-Some+in_ok-push+in_ok-after, in_default}
 

@@ -3,6 +3,7 @@ use Rattle.std.proofs.Common.{to_z, of_z, ℕ, pos}
 use Rattle.std.specs.Prelude.{All, ◌≤ℤ◌}
 use Rattle.std.specs.Int.{w128}
 use Rattle.std.proofs.lemmas.Int.{to_z-of_z}
+use Rattle.suit_lists.proofs.Walks.{cut_length}
 use Rattle.suit_num.specs.declared.fraction.Frac.{Frac}
 use Rattle.suit_classes.specs.declared.class_moves.ClassMove.{ClassMove}
 use Rattle.suit_plans.specs.Masses.{Shares}
@@ -10,7 +11,7 @@ use Rattle.suit_program.specs.Readings.{parts_of, plan_point, scaled, sum_counts
 use Rattle.suit_program.specs.Programs.Worths.{passed}
 use Rattle.suit_program.specs.Readings.Sharing.{IsPartOfDen, counted}
 use Rattle.suit_program.proofs.lemmas.Supports.AtAChoice.{own_place}
-use Rattle.suit_program.proofs.lemmas.Walks.PlanAtATurn.{moves_within, none_told, shares_told, slice_length, turn_held}
+use Rattle.suit_program.proofs.lemmas.Walks.PlanAtATurn.{moves_within, none_told, shares_told, turn_held}
 use Rattle.suit_program.proofs.walks.plan_reader.PlanReader.shares.Goals as goal
 
 pub part_of-parts-requires : goal.part_of-parts-requires
@@ -33,7 +34,7 @@ scaled_counts-requires-clause-many c =
     (moves_within c.args.self.now c.args.reach.now c.args.column c.args.mass turn chooses c.own_moves-moves.result.items
     is) in
     ap (λ (l : List ClassMove). length l) c.as_slice.ensures.value ∙ sym c.len.ensures.value
-    ∙ sym (slice_length c.args.self.now.parts.now c.args.column c.len.result within)
+    ∙ sym (cut_length c.args.self.now.parts.now c.args.column c.len.result within)
     ∙ ap (λ (l : List Frac). length l) (sym c.part_of-parts.ensures)
 
 pub scaled_counts-requires-clause-parts : goal.scaled_counts-requires-clause-parts

@@ -1,9 +1,9 @@
 use Rattle.std.proofs.Common.{◌≡◌, ◌<◌, ◌≤◌, Bool, List, ap, arith, get_or, length, sym, ◌∙◌}
 use Rattle.std.specs.List.{list_any}
 use Rattle.std.proofs.lemmas.List.{at_drop_all}
+use Rattle.suit_lists.proofs.Walks.{any_on, any_past}
 use Rattle.suit_program.specs.declared.walks.reach.ReachedLayout.{ReachedLayout}
 use Rattle.suit_program.specs.Walks.Reaches.{goes_in}
-use Rattle.suit_program.proofs.lemmas.Walks.KeptSoFar.{any_on, any_past}
 use Rattle.suit_program.proofs.walks.reach.Reach.goes_on.Goals as goal
 
 pub returns-then-goes_in : goal.returns-then-goes_in

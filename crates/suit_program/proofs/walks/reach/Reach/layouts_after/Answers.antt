@@ -1,13 +1,13 @@
 use Rattle.std.proofs.Common.{◌≡◌, ◌<◌, ◌∷◌, [], Bool, List, ap, arith, get_or, length, map, ◌∙◌, Option}
 use Rattle.std.specs.Option.{option_copied}
 use Rattle.std.proofs.lemmas.List.{length-append, map-append}
+use Rattle.suit_lists.proofs.Walks.{kept_one, kept_other}
 use Rattle.suit_layouts.specs.declared.class_list.TheConstants.{MOST_CLASS_LAYOUTS}
 use Rattle.suit_program.specs.declared.supports.mark.Mark.{Mark}
 use Rattle.suit_program.specs.declared.walks.reach.ReachedLayout.{ReachedLayout}
 use Rattle.suit_program.specs.Supports.Marks.{mark_after}
 use Rattle.suit_program.specs.Walks.Reaches.{goes_in, layout_after, layout_seen}
 use Rattle.suit_tree.specs.Nodes.{move_of}
-use Rattle.suit_program.proofs.lemmas.Walks.KeptSoFar.{kept_one, kept_other}
 use Rattle.suit_program.proofs.lemmas.Walks.ReachAtTheStart.{reach_few}
 use Rattle.suit_program.proofs.walks.reach.Reach.layouts_after.Goals as goal
 use Rattle.suit_program.proofs.walks.reach.Reach.layouts_after.Goals.{then-goes_in, else-goes_in}

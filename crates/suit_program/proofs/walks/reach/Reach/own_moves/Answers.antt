@@ -1,12 +1,12 @@
 use Rattle.std.proofs.Common.{◌<◌, ◌-◌, ◌∷◌, [], Bool, get_or, List, filter, length, map, ap, sym, ◌∙◌, arith}
 use Rattle.std.proofs.lemmas.List.{length-append, take_all}
 use Rattle.suit_lists.proofs.Filters.{filter_of_map}
+use Rattle.suit_lists.proofs.Walks.{kept_one, kept_other}
 use Rattle.suit_classes.specs.declared.class_moves.ClassMove.{ClassMove}
 use Rattle.suit_tree.specs.declared.node.Node.{Node}
 use Rattle.suit_tree.specs.Nodes.{children_of, move_of}
 use Rattle.suit_tree.proofs.NodesFitMoves.{few_children}
 use Rattle.suit_program.specs.Walks.Reaches.{own_has}
-use Rattle.suit_program.proofs.lemmas.Walks.KeptSoFar.{kept_one, kept_other}
 use Rattle.suit_program.proofs.lemmas.Walks.NoNode.{no_node}
 use Rattle.suit_program.proofs.lemmas.Walks.ReachTells.{own_kept}
 use Rattle.suit_program.proofs.walks.reach.Reach.own_moves.Goals as goal

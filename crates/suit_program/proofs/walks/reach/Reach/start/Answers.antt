@@ -1,11 +1,11 @@
 use Rattle.std.proofs.Common.{◌≡◌, ◌<◌, ◌≤◌, ◌∷◌, ◌^◌, [], List, length, map, ap, refl, ◌∙◌, arith, ℕ}
 use Rattle.std.specs.List.{range_with_len}
 use Rattle.std.proofs.lemmas.List.{length-append, map-append}
+use Rattle.suit_lists.proofs.Walks.{one_numbered}
 use Rattle.suit_cards.specs.Cards.{ClassLayout}
 use Rattle.suit_layouts.specs.declared.class_list.TheConstants.{MOST_CLASS_LAYOUTS}
 use Rattle.suit_program.specs.declared.walks.reach.ReachedLayout.{ReachedLayout}
 use Rattle.suit_program.specs.Walks.Reaches.{layout_seen}
-use Rattle.suit_program.proofs.lemmas.Walks.KeptSoFar.{one_numbered}
 use Rattle.suit_program.proofs.lemmas.Walks.ReachAtTheStart.{layout_named, layouts_few, start_reach}
 use Rattle.suit_program.proofs.walks.reach.Reach.start.Goals as goal
 
