@@ -1,13 +1,12 @@
 -- The moves that class layouts allow are of the classes that there are (`history_writable`).
-use Rattle.std.proofs.Common.{◌≡◌, ℕ, zero, suc, ◌<◌, ◌≤◌, Bool, true, false, List, [], ◌∷◌, length}
-use Rattle.std.proofs.Common.{get_or, map}
+use Rattle.std.proofs.Common.{◌≡◌, ℕ, zero, suc, ◌<◌, ◌≤◌, Bool, true, false, List, [], ◌∷◌, length, get_or, map}
 use Rattle.std.proofs.Common.{refl, sym, ap, ◌∙◌, subst, inl, inr, arith}
 use Rattle.std.specs.Prelude.{◌-◌, Contains, filter, fold, nat_lt, if◌then◌else◌}
 use Rattle.std.specs.List.{AllByRecursion}
 use Rattle.std.proofs.Math.ListN.{set}
 use Rattle.std.proofs.lemmas.Bool.{and_parts, cases_eq, cases_lt, ltb-true}
 use Rattle.std.proofs.lemmas.List.{get_or-set_same, get_or-set_other, get_or_past, set_past}
-use Rattle.suit_lists.proofs.Elements.{each_append, each_at, each_in}
+use Rattle.suit_lists.proofs.Elements.{each_append, each_at, each_in, each_unless}
 use Rattle.suit_lists.proofs.Filters.{kept_parts}
 use Rattle.suit_lists.proofs.Maps.{each_map}
 use Rattle.suit_cards.specs.Cards.{ClassLayout, Indices}
@@ -151,11 +150,6 @@ kept_each P move test classes fits =
     (each_in (λ (class : ℕ). P (move class)) (filter test classes)
     (λ class found. fits class (kept_parts test classes class found).1))
 
-unless_each : (P : ClassMove → Type 0) (b : Bool) (moves : List ClassMove) → AllByRecursion P moves
-    → AllByRecursion P (if b then moves else [])
-unless_each P true moves each = each
-unless_each P false moves each = tt
-
 shown_each : (P : ClassMove → Type 0) (moves : List ClassMove) → P ShowOut → AllByRecursion P moves
     → AllByRecursion P (or_show_out moves)
 shown_each P [] out each = (out, tt)
@@ -185,11 +179,11 @@ module _ (classes : ℕ) (view : ClassView) (is : IsWithin classes view) where
       each_append (IsWritableMove classes)
       (if may_lead view.lead view.entries_n N then map (Lead N) (counted_classes view.north) else [])
       (if may_lead view.lead view.entries_s S then map (Lead S) (counted_classes view.south) else [])
-      (unless_each (IsWritableMove classes) (may_lead view.lead view.entries_n N)
+      (each_unless (IsWritableMove classes) (may_lead view.lead view.entries_n N)
       (map (Lead N) (counted_classes view.north))
       (kept_each (IsWritableMove classes) (Lead N) (λ class. nat_lt 0 (get_or view.north class 0)) class_numbers
       (counted_below classes view.north is.north)))
-      (unless_each (IsWritableMove classes) (may_lead view.lead view.entries_s S)
+      (each_unless (IsWritableMove classes) (may_lead view.lead view.entries_s S)
       (map (Lead S) (counted_classes view.south))
       (kept_each (IsWritableMove classes) (Lead S) (λ class. nat_lt 0 (get_or view.south class 0)) class_numbers
       (counted_below classes view.south is.south)))

@@ -1,11 +1,9 @@
 -- A question on its way through the rounds (`first_round`, `next_legal`, `next_at`).
-use Rattle.std.proofs.Common.{◌≡◌, ℕ, zero, suc, ◌+◌, ◌*◌, ◌^◌, ◌<◌, ◌≤◌, Bool, true, false, List, [], ◌∷◌, length}
-use Rattle.std.proofs.Common.{refl}
+use Rattle.std.proofs.Common.{◌≡◌, ℕ, zero, suc, ◌+◌, ◌*◌, ◌^◌, ◌<◌, ◌≤◌, Bool, true, false, List, [], length, refl}
 use Rattle.std.proofs.Common.{sym, ap, ◌∙◌, subst, Some, None, Ok, Err, arith}
 use Rattle.std.specs.Prelude.{Contains, get_or, not, sum_by, if◌then◌else◌}
 use Rattle.std.proofs.lemmas.Bool.{le-ltb, lt-ltb}
-use Rattle.std.proofs.lemmas.List.Sums.{sum_by-cons}
-use Rattle.suit_lists.proofs.Elements.{each_in}
+use Rattle.suit_lists.proofs.Elements.{Contains-same, each_in}
 use Rattle.suit_lists.proofs.Filters.{length_filter-most}
 use Rattle.suit_lists.proofs.Maps.{Contains-map}
 use Rattle.suit_cards.specs.Cards.{ClassLayout}
@@ -32,6 +30,7 @@ use Rattle.suit_program.proofs.lemmas.Supports.TurnCases.{own_legal}
 use Rattle.suit_plans.proofs.ReplyChoices.{least_choices, most_choices}
 use Rattle.suit_solve.proofs.ReplyPlaces.{own_place, their_place}
 use Rattle.std.proofs.lemmas.List.Elements.{All-from_recursion}
+use Rattle.suit_lists.proofs.Sums.{sum_by-mul, sum_by_at_most, sum_by_constant}
 use Rattle.suit_program.specs.Supports.{Support, first_support, layouts_of, legal_moves, supported_moves, with_moves}
 use Rattle.suit_answer.specs.declared.answer.Answer.{Answer}
 use Rattle.suit_solve.specs.declared.ends.SolveEnd.{SolveEnd}
@@ -79,17 +78,12 @@ few_lacking question support west history =
     both p q = omega (arith, p, q)
 
 each_sum : {X : Type 0} (f : X → ℕ) (xs : List X) → ((x : X) → f x ≤ 40) → sum_by f xs ≤ length xs * 40
-each_sum f [] le = omega arith
-each_sum f (x ∷ xs) le =
-    more (sum_by f (x ∷ xs)) (f x) (sum_by f xs) (length xs) (sum_by-cons f x xs) (le x) (each_sum f xs le)
-  where
-    more : (whole one rest count : ℕ) → whole ≡ one + rest → one ≤ 40 → rest ≤ count * 40 → whole ≤ suc count * 40
-    more whole one rest count is p q = omega (arith, is, p, q)
+each_sum f xs few = omega (arith, sum_by_at_most f (λ x. 40) xs few, sum_by_constant 40 xs)
 
 scaled_sum : {X : Type 0} (f g : X → ℕ) (xs : List X) → ((x : X) → f x ≤ g x * 40)
     → sum_by f xs ≤ sum_by g xs * 40
-scaled_sum f g [] le = omega arith
-scaled_sum f g (x ∷ xs) le = omega (arith, sum_by-cons f x xs, sum_by-cons g x xs, le x, scaled_sum f g xs le)
+scaled_sum f g xs few =
+    omega (arith, sum_by_at_most f (λ x. 40 * g x) xs (λ x. let one = few x in omega (arith, one)), sum_by-mul 40 g xs)
 
 -- a support lacks no more than forty moves of each pair
 lacking_few : (question : Question) (support : Support) → lacking question support ≤ node_count question * 40
@@ -207,20 +201,20 @@ module _ (question : Question) (pivots : ℕ) (support : Support) (valid : IsVal
 
   pub own_move : (entry : DeclarerMove) → Contains own entry → IsOwnMove question entry
   own_move entry found =
-      let listed = subst (λ (moves : List DeclarerMove). Contains moves entry) (sym apart.own_is) found in
+      let listed = Contains-same entry (sym apart.own_is) found in
       let choice = most_choices question (defence_read question support apart.optimum) entry valid listed in
       let placed = own_place question valid (defence_read question support apart.optimum) entry listed in
       record {
         allowed = choice.allowed;
         past = past_none question valid placed.0 entry.history placed.1.listed placed.1.counted;
         turn = choice.turn;
-        legal = subst (λ (moves : List ClassMove). Contains moves entry.mv)
+        legal = Contains-same entry.mv
             (sym (own_legal question support placed.0.0 entry.history choice.going choice.turn)) placed.1.legal;
       }
 
   pub their_move : (entry : DefenceMove) → Contains theirs entry → IsTheirMove question entry
   their_move entry found =
-      let listed = subst (λ (moves : List DefenceMove). Contains moves entry) (sym apart.theirs_is) found in
+      let listed = Contains-same entry (sym apart.theirs_is) found in
       let chosen = least_choices question (plan_read question support apart.optimum) entry valid listed in
       let placed = their_place question valid (plan_read question support apart.optimum) entry listed in
       record {

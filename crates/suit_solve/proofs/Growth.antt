@@ -1,11 +1,11 @@
 -- Where a plan and a defence do not meet, the moves of the best replies add to the support (`apart_less`).
-use Rattle.std.proofs.Common.{◌≡◌, ◌≢◌, ◌<◌, Bool, true, false, List, [], get_or, refl, sym, ap, ◌∙◌, subst}
-use Rattle.std.proofs.Common.{inl, inr}
+use Rattle.std.proofs.Common.{◌≡◌, ◌≢◌, ◌<◌, Bool, true, false, List, [], get_or, refl, sym, ap, ◌∙◌, subst, inl, inr}
 use Rattle.std.specs.Prelude.{Contains, not, ◌&&◌, ◌||◌, bytes_eq, if◌then◌else◌, ◌*ℤ◌}
 use Rattle.std.specs.List.{list_any}
 use Rattle.std.proofs.lemmas.Bool.{and_from, or_cases}
 use Rattle.std.proofs.lemmas.Bool.Decides.{Decides-int_eq}
 use Rattle.std.proofs.lemmas.Slice.Eq.{bytes_eq-Decides}
+use Rattle.suit_lists.proofs.Elements.{Contains-same}
 use Rattle.suit_lists.proofs.Tests.{passing_some, some_passing}
 use Rattle.suit_cards.specs.Cards.{ClassLayout}
 use Rattle.suit_game.specs.declared.question.Question.{Question}
@@ -124,7 +124,7 @@ module _ (question : Question) (support : Support) (own : List DeclarerMove) (th
         → lacking question more < lacking question support
     by_own entry found old =
         let at = own_place question is.read.valid defence entry
-        (subst (λ (moves : List DeclarerMove). Contains moves entry) (sym is.own_is) found) in
+        (Contains-same entry (sym is.own_is) found) in
         let place = at.1 in
         lacks_less question support more names_more at.0 entry.history entry.mv place.listed place.counted place.legal
         (ap (λ (moves : List ClassMove). is_among moves entry.mv)
@@ -136,7 +136,7 @@ module _ (question : Question) (support : Support) (own : List DeclarerMove) (th
         → lacking question more < lacking question support
     by_theirs entry found old =
         let at = their_place question is.read.valid plan entry
-        (subst (λ (moves : List DefenceMove). Contains moves entry) (sym is.theirs_is) found) in
+        (Contains-same entry (sym is.theirs_is) found) in
         let place = at.0 in
         lacks_less question support more names_more (get_or (layouts_of question) entry.layout ([], 0)) entry.history
         entry.mv place.listed place.counted place.legal old

@@ -1,11 +1,9 @@
 -- A support lacks fewer moves of the tree than one from which it grew (`lacks_less`).
-use Rattle.std.proofs.Common.{◌≡◌, ℕ, ◌+◌, ◌<◌, ◌≤◌, Bool, true, false, List, [], ◌∷◌, length, refl, sym, ap, ◌∙◌}
-use Rattle.std.proofs.Common.{subst}
-use Rattle.std.proofs.Common.{inl, inr, arith}
-use Rattle.std.specs.Prelude.{Contains, cond, filter, not, sum_by, if◌then◌else◌}
-use Rattle.std.proofs.lemmas.List.Sums.{sum_by-cons}
+use Rattle.std.proofs.Common.{◌≡◌, ℕ, ◌<◌, ◌≤◌, Bool, true, false, List, [], ◌∷◌, refl, ap, subst, inl, inr}
+use Rattle.std.specs.Prelude.{Contains, filter, not, sum_by, if◌then◌else◌}
 use Rattle.suit_lists.proofs.Elements.{Contains-cons_cases, Contains-first, Contains-later, Contains-nil}
-use Rattle.suit_lists.proofs.Filters.{Contains-filter, kept_parts}
+use Rattle.suit_lists.proofs.Filters.{Contains-filter, fewer_kept, kept_parts, less_kept}
+use Rattle.suit_lists.proofs.Sums.{sum_by_at_most, sum_less}
 use Rattle.suit_cards.specs.Cards.{ClassLayout}
 use Rattle.suit_game.specs.declared.question.Question.{Question}
 use Rattle.suit_classes.specs.declared.class_moves.ClassMove.{ClassMove}
@@ -17,78 +15,6 @@ use Rattle.suit_plans.specs.Masses.{is_declarers}
 use Rattle.suit_tree.specs.WhatIsCounted.{counted_histories}
 use Rattle.suit_program.specs.Supports.{Support, first_and, layouts_of, legal_moves, names, supported_moves}
 use Rattle.suit_solve.specs.Fates.{lacking, lacking_at}
-
--- ---- counts and sums
-
-kept_more : (p q : Bool) (kept others : ℕ) → (p ≡ true → q ≡ true) → kept ≤ others
-    → (if p then kept + 1 else kept) ≤ (if q then others + 1 else others)
-kept_more true true kept others gives le = omega (arith, le)
-kept_more true false kept others gives le = absurd (cc (gives refl))
-kept_more false true kept others gives le = omega (arith, le)
-kept_more false false kept others gives le = le
-
-filter_length : {X : Type 0} (b : Bool) (x : X) (xs : List X)
-    → length (cond b (x ∷ xs) xs) ≡ (if b then length xs + 1 else length xs)
-filter_length true x xs = omega arith
-filter_length false x xs = refl
-
--- what a stricter test keeps is no more
-pub fewer_kept : {X : Type 0} (p q : X → Bool) (xs : List X) → ((x : X) → p x ≡ true → q x ≡ true)
-    → length (filter p xs) ≤ length (filter q xs)
-fewer_kept p q [] gives = omega arith
-fewer_kept p q (x ∷ xs) gives =
-    subst (λ (n : ℕ). n ≤ length (filter q (x ∷ xs))) (sym (filter_length (p x) x (filter p xs)))
-    (subst (λ (n : ℕ). (if p x then length (filter p xs) + 1 else length (filter p xs)) ≤ n)
-    (sym (filter_length (q x) x (filter q xs)))
-    (kept_more (p x) (q x) (length (filter p xs)) (length (filter q xs)) (gives x) (fewer_kept p q xs gives)))
-
-kept_less : (p q : Bool) (kept others : ℕ) → p ≡ false → q ≡ true → kept ≤ others
-    → (if p then kept + 1 else kept) < (if q then others + 1 else others)
-kept_less true q kept others fails passes le = absurd (cc)
-kept_less false false kept others fails passes le = absurd (cc)
-kept_less false true kept others fails passes le = omega (arith, le)
-
-kept_same : (p q : Bool) (kept others : ℕ) → (p ≡ true → q ≡ true) → kept < others
-    → (if p then kept + 1 else kept) < (if q then others + 1 else others)
-kept_same true true kept others gives le = omega (arith, le)
-kept_same true false kept others gives le = absurd (cc (gives refl))
-kept_same false true kept others gives le = omega (arith, le)
-kept_same false false kept others gives le = le
-
--- and it is less where one of those that the other keeps fails it
-less_kept : {X : Type 0} (p q : X → Bool) (xs : List X) (x : X) → ((y : X) → p y ≡ true → q y ≡ true)
-    → Contains xs x → p x ≡ false → q x ≡ true → length (filter p xs) < length (filter q xs)
-less_kept p q [] x gives found fails passes = absurd (Contains-nil x found)
-less_kept p q (first ∷ xs) x gives found fails passes =
-    subst (λ (n : ℕ). n < length (filter q (first ∷ xs))) (sym (filter_length (p first) first (filter p xs)))
-    (subst (λ (n : ℕ). (if p first then length (filter p xs) + 1 else length (filter p xs)) < n)
-    (sym (filter_length (q first) first (filter q xs)))
-    (elim (Contains-cons_cases first xs x found) [
-      | inl here ↦ kept_less (p first) (q first) (length (filter p xs)) (length (filter q xs)) (ap p here ∙ fails)
-          (ap q here ∙ passes) (fewer_kept p q xs gives)
-      | inr there ↦ kept_same (p first) (q first) (length (filter p xs)) (length (filter q xs)) (gives first)
-          (less_kept p q xs x gives there fails passes)
-    ]))
-
-pub sum_fewer : {X : Type 0} (f g : X → ℕ) (xs : List X) → ((x : X) → f x ≤ g x) → sum_by f xs ≤ sum_by g xs
-sum_fewer f g [] le = omega arith
-sum_fewer f g (x ∷ xs) le = omega (arith, sum_by-cons f x xs, sum_by-cons g x xs, le x, sum_fewer f g xs le)
-
-sum_less : {X : Type 0} (f g : X → ℕ) (xs : List X) (x : X) → ((y : X) → f y ≤ g y) → Contains xs x → f x < g x
-    → sum_by f xs < sum_by g xs
-sum_less f g [] x le found less = absurd (Contains-nil x found)
-sum_less {X} f g (first ∷ xs) x le found less = elim (Contains-cons_cases first xs x found) [
-  | inl here ↦
-      let now : f first < g first = subst (λ (y : X). f y < g y) (sym here) less in
-      omega (arith, sum_by-cons f first xs, sum_by-cons g first xs, now, sum_fewer f g xs le)
-  | inr there ↦ omega (
-    arith,
-    sum_by-cons f first xs,
-    sum_by-cons g first xs,
-    le first,
-    sum_less f g xs x le there less,
-  )
-]
 
 -- ---- supports with more names
 
@@ -122,7 +48,7 @@ pub record NamesMore (less more : Support) : Type 0 where
   pub defences : (west : ClassLayout) (history : ClassHistory) (move : ClassMove)
       → less.defences west history move ≡ true → more.defences west history move ≡ true
 
-either_more : (b : Bool) (one other more next : Bool) → (one ≡ true → more ≡ true) → (other ≡ true → next ≡ true)
+pub either_more : (b : Bool) (one other more next : Bool) → (one ≡ true → more ≡ true) → (other ≡ true → next ≡ true)
     → (if b then one else other) ≡ true → (if b then more else next) ≡ true
 either_more true one other more next gives too is = gives is
 either_more false one other more next gives too is = too is
@@ -175,7 +101,7 @@ module _ (question : Question) (less more : Support) (grown : NamesMore less mor
       (λ (other : ClassLayout × ℕ). sum_by (lacking_at question more other.0) (counted_histories question other.0))
       (λ (other : ClassLayout × ℕ). sum_by (lacking_at question less other.0) (counted_histories question other.0))
       (layouts_of question) layout
-      (λ (other : ClassLayout × ℕ). sum_fewer (lacking_at question more other.0) (lacking_at question less other.0)
+      (λ (other : ClassLayout × ℕ). sum_by_at_most (lacking_at question more other.0) (lacking_at question less other.0)
       (counted_histories question other.0) (fewer_at other.0))
       listed
       (sum_less (lacking_at question more layout.0) (lacking_at question less layout.0)

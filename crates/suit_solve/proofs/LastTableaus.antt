@@ -1,11 +1,12 @@
--- The optimum that the last tableau of a run holds (`holds_optimum`, `last_proves`).
-use Rattle.std.proofs.Common.{◌≡◌, ℕ, zero, suc, ◌+◌, ◌==◌, Bool, true, false, List, [], ◌∷◌, length, map, refl, sym}
-use Rattle.std.proofs.Common.{ap, ◌∙◌, subst, Some, None, Option, cond, arith, Ok}
+-- The optimum that the last tableau of a run holds (`holds_optimum`, `last_holds`).
+use Rattle.std.proofs.Common.{◌≡◌, ℕ, zero, suc, ◌+◌, ◌==◌, true, length, map, refl, sym}
+use Rattle.std.proofs.Common.{ap, ◌∙◌, subst, Some, None, Option, arith, Ok}
 use Rattle.std.specs.Prelude.{find, slice_get, ℤ, pos, ◌*ℤ◌, ◌<ℤ◌}
 use Rattle.std.specs.List.{AllByRecursion, range_with_len}
 use Rattle.std.proofs.lemmas.Bool.Decides.{nat_tests}
 use Rattle.std.proofs.lemmas.Int.{ints}
 use Rattle.std.proofs.lemmas.List.Elements.{recursion_from_All}
+use Rattle.suit_lists.proofs.Indices.{found_fits}
 use Rattle.suit_num.specs.declared.fraction.Frac.{Frac}
 use Rattle.suit_num.proofs.IntegerLaws.{mul-one}
 use Rattle.suit_linear.specs.declared.program.Program.{Program}
@@ -39,19 +40,6 @@ nothing =
 
 same_number : (a b : ℕ) → (a == b) ≡ true → a ≡ b
 same_number a b passed = grind (arith, nat_tests)
-
--- what holds of each element holds of the one that is found
-found_fits : {X : Type 0} (P : X → Type 0) (test : X → Bool) (xs : List X) (x : X) → AllByRecursion P xs
-    → find test xs ≡ Some x → P x × (test x ≡ true)
-found_fits P test [] x all is = absurd (cc)
-found_fits {X} P test (first ∷ xs) x all is =
-    by_test (λ found. found_fits P test xs x all.1 found) (test first) refl is
-  where
-    by_test : (find test xs ≡ Some x → P x × (test x ≡ true)) → (b : Bool) → test first ≡ b
-        → cond b (Some first) (find test xs) ≡ Some x → P x × (test x ≡ true)
-    by_test later true e found =
-        let same : first ≡ x = cc in subst (λ (y : X). P y × (test y ≡ true)) same (all.0, e)
-    by_test later false e found = later found
 
 basic_is : (tableau : Tableau) (column : ℕ) (row : Option TableauRow)
     → AllByRecursion (λ (other : TableauRow). pos 0 <ℤ entry other other.basic) tableau.rows

@@ -1,17 +1,17 @@
 -- The class layouts of a question are few, and their counts can be written (`layouts_few`, `layout_small`).
-use Rattle.std.proofs.Common.{◌≡◌, ℕ, suc, ◌+◌, ◌≤◌, ◌==◌, List, [], ◌∷◌, length, map, refl, ap, subst, arith}
+use Rattle.std.proofs.Common.{◌≡◌, ℕ, suc, ◌+◌, ◌≤◌, List, [], ◌∷◌, length, map, refl, ap, subst, arith}
 use Rattle.std.specs.Prelude.{Contains, nat_lt}
 use Rattle.std.specs.List.{AllByRecursion, range_with_len}
 use Rattle.std.proofs.lemmas.List.{length-map}
 use Rattle.suit_lists.proofs.Elements.{each_at, each_of}
-use Rattle.suit_lists.proofs.Filters.{kept_parts, length_filter-most}
+use Rattle.suit_lists.proofs.Filters.{kept_parts}
 use Rattle.suit_lists.proofs.FlatMaps.{each_flat_map}
 use Rattle.suit_lists.proofs.Maps.{Contains-map_from, each_map}
 use Rattle.suit_cards.specs.Cards.{ClassLayout, Sizes}
-use Rattle.suit_cards.specs.Holdings.{suit}
 use Rattle.suit_game.specs.declared.question.Question.{Question}
-use Rattle.suit_classes.specs.Classes.{Hands, class_of, class_size, defence_classes, hands_of, sizes_of}
+use Rattle.suit_classes.specs.Classes.{Hands, class_size, defence_classes, hands_of, sizes_of}
 use Rattle.suit_classes.proofs.DefenceSizes.{defence_sizes-some, length-defence_sizes, sum-defence_sizes}
+use Rattle.suit_classes.proofs.ClassNumbers.{class_size-most}
 use Rattle.suit_layouts.specs.ClassLayouts.{class_layouts, class_weight, counts_up_to, weighed}
 use Rattle.suit_layouts.proofs.FewCounts.{class_layouts_few}
 use Rattle.suit_program.specs.Supports.{layouts_of}
@@ -56,10 +56,6 @@ counts_small (size ∷ sizes) few =
       each_first count size within few all each.1,
     )
 
-size_small : (hands : Hands) (class : ℕ) → class_size hands class ≤ 13
-unfolding suit
-size_small hands class = length_filter-most (λ (rank : ℕ). class_of hands rank == class) suit
-
 -- the counts of a class layout are as many as the defenders have classes, and each is small
 pub layout_small : (question : Question) (layout : ClassLayout × ℕ) → Contains (layouts_of question) layout
     → AreSmall (length (defence_classes (hands_of question))) layout.0
@@ -74,7 +70,7 @@ layout_small question layout found =
     (counts_small sizes (each_map (λ (size : ℕ). size ≤ 13) (class_size (hands_of question))
     (defence_classes (hands_of question))
     (each_of (λ (class : ℕ). class_size (hands_of question) class ≤ 13) (defence_classes (hands_of question))
-    (size_small (hands_of question))))) from.1 in
+    (class_size-most (hands_of question))))) from.1 in
     subst (λ (other : ClassLayout × ℕ). AreSmall (length (defence_classes (hands_of question))) other.0) from.2
     (subst (λ (n : ℕ). AreSmall n from.0)
     (length-map (defence_classes (hands_of question)) (class_size (hands_of question))) small)

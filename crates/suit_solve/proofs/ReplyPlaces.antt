@@ -1,11 +1,9 @@
 -- The moves of best replies stand in the tree: each is legal at a counted class history (`own_place`, `their_place`).
-use Rattle.std.proofs.Common.{◌≡◌, ℕ, Bool, true, false, List, [], ◌∷◌, ◌++◌, get_or, refl, sym}
-use Rattle.std.proofs.Common.{◌∙◌}
-use Rattle.std.proofs.Common.{subst}
-use Rattle.std.specs.Prelude.{Contains, fold, if◌then◌else◌}
+use Rattle.std.proofs.Common.{◌≡◌, ℕ, true, false, List, [], ◌∷◌, ◌++◌, get_or, refl, sym, ◌∙◌}
+use Rattle.std.specs.Prelude.{Contains, fold}
 use Rattle.std.proofs.lemmas.Bool.{and_from}
 use Rattle.std.proofs.lemmas.List.Elements.{Contains-get_or}
-use Rattle.suit_lists.proofs.Elements.{Contains-nil}
+use Rattle.suit_lists.proofs.Elements.{Contains-same}
 use Rattle.suit_cards.specs.Cards.{ClassLayout}
 use Rattle.suit_game.specs.declared.question.Question.{Question}
 use Rattle.suit_game.specs.Validity.{IsValid}
@@ -20,8 +18,7 @@ use Rattle.suit_plans.specs.declared.moves.DeclarerMove.{DeclarerMove}
 use Rattle.suit_plans.specs.declared.moves.DefenceMove.{DefenceMove}
 use Rattle.suit_plans.specs.declared.plan.Plan.{Plan}
 use Rattle.suit_plans.specs.declared.defence.Defence.{Defence}
-use Rattle.suit_plans.specs.BestReplies.{least_reply, most_reply, reply_to_defence}
-use Rattle.suit_plans.specs.BestReplies.{reply_to_plan}
+use Rattle.suit_plans.specs.BestReplies.{least_reply, most_reply, reply_to_defence, reply_to_plan}
 use Rattle.suit_plans.specs.Masses.{is_declarers, is_defences}
 use Rattle.suit_plans.specs.Properness.{some_allows}
 use Rattle.suit_plans.proofs.RepliesAreBounded.{some_allow_none}
@@ -31,6 +28,7 @@ use Rattle.suit_plans.proofs.ReplyChoices.{choice_parts, least_choices, least_en
 use Rattle.suit_plans.proofs.RowLimits.{allowed_short}
 use Rattle.suit_tree.specs.WhatIsCounted.{counted_histories}
 use Rattle.suit_tree.proofs.EachHistoryIsCountedOnce.{Contains-continued, GoesOn}
+use Rattle.suit_tree.proofs.MovesOn.{unless_parts}
 use Rattle.suit_program.specs.Supports.{first_support, layouts_of, legal_moves}
 use Rattle.suit_program.proofs.lemmas.Supports.TurnCases.{legal_going}
 
@@ -54,12 +52,6 @@ goes-push view (first ∷ moves) move goes here = (goes.0, goes-push (class_step
 goes_none : (view : ClassView) → GoesOn view []
 unfolding GoesOn
 goes_none view = tt
-
--- the moves after a history are none where it is decided
-going_parts : (b : Bool) (moves : List ClassMove) (move : ClassMove) → Contains (if b then [] else moves) move
-    → (b ≡ false) × Contains moves move
-going_parts true moves move found = absurd (Contains-nil move found)
-going_parts false moves move found = (refl, found)
 
 module _ (question : Question) (valid : IsValid question) where
   -- a history that a class layout allows and that goes past no decided position is counted for it
@@ -87,7 +79,7 @@ module _ (question : Question) (valid : IsValid question) where
       → TheirFits counts (history ++ move ∷ [])
   their_next plan counts history move fits found =
       let view : ClassView = class_after question history in
-      let parts = going_parts (class_decided view) (class_moves view counts) move found in (
+      let parts = unless_parts (class_decided view) (class_moves view counts) move found in (
         allows-push question counts history move
             ∙ and_from (allows question counts history) (is_among (class_moves view counts) move) fits.0
             (among_contained (class_moves view counts) move parts.1),
@@ -113,7 +105,7 @@ module _ (question : Question) (valid : IsValid question) where
           allowed = fits.0;
           counted = counted_at layout listed entry.history fits.0 fits.1;
           going = choice.going;
-          legal = subst (λ (l : List ClassMove). Contains l entry.mv)
+          legal = Contains-same entry.mv
               (sym (legal_going question first_support layout.0 entry.history layout.0 choice.going)) choice.legal;
         },
         choice.turn,
@@ -128,13 +120,9 @@ module _ (question : Question) (valid : IsValid question) where
       → Contains ((reply_to_defence question defence).moves history) move → OwnFits (history ++ move ∷ [])
   own_next defence history move fits found = (
     public_allowed question valid history move found,
-    goes-push (class_start question) history move fits.1 (undecided (class_decided (class_after question history)) _
+    goes-push (class_start question) history move fits.1 (unless_parts (class_decided (class_after question history)) _
         move found).0,
   )
-    where
-      undecided : (b : Bool) (moves : List ClassMove) (next : ClassMove) → Contains (if b then [] else moves) next
-          → (b ≡ false) × Contains moves next
-      undecided b moves next there = going_parts b moves next there
 
   -- a move of the best reply to a defence stands in the tree, in some class layout
   pub own_place : (defence : Defence) (entry : DeclarerMove) → Contains (most_reply question defence) entry
@@ -156,7 +144,7 @@ module _ (question : Question) (valid : IsValid question) where
           allowed = allowed;
           counted = counted_at layout parts.0 entry.history allowed fits.1;
           going = choice.going;
-          legal = subst (λ (l : List ClassMove). Contains l entry.mv)
+          legal = Contains-same entry.mv
               (own_moves_on question valid entry.history choice.going layout held.1 choice.turn
               ∙ sym (legal_going question first_support layout.0 entry.history layout.0 choice.going)) choice.legal;
         },

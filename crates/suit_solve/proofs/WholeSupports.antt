@@ -1,14 +1,13 @@
 -- A support that names more has no smaller a program, so that none is larger than that of all moves
 -- (`size_more`, `whole_supports_fit`).
 use Rattle.std.proofs.Common.{◌≡◌, ℕ, zero, suc, ◌+◌, ◌<◌, ◌≤◌, Bool, true, false, List, [], ◌∷◌, ◌++◌, length, map}
-use Rattle.std.proofs.Common.{refl, sym}
-use Rattle.std.proofs.Common.{ap, ◌∙◌, subst, Err, arith}
-use Rattle.std.specs.Prelude.{cond, filter, nat_lt, if◌then◌else◌}
+use Rattle.std.proofs.Common.{refl, ap, ◌∙◌, Err, arith}
+use Rattle.std.specs.Prelude.{nat_lt, if◌then◌else◌}
 use Rattle.std.specs.List.{flat_map}
 use Rattle.std.proofs.lemmas.Bool.{and_from, and_parts, ltb-true}
 use Rattle.std.proofs.lemmas.List.{length-append, length-map}
-use Rattle.suit_lists.proofs.Filters.{Contains-filter, kept_parts}
-use Rattle.suit_lists.proofs.FlatMaps.{Contains-flat_map}
+use Rattle.suit_lists.proofs.Filters.{Contains-filter, fewer_kept, kept_parts}
+use Rattle.suit_lists.proofs.FlatMaps.{Contains-flat_map, flat_kept, flat_map_flat_map, flat_map_from}
 use Rattle.suit_cards.specs.Cards.{ClassLayout}
 use Rattle.suit_game.specs.declared.question.Question.{Question}
 use Rattle.suit_game.specs.Validity.{IsValid}
@@ -20,70 +19,19 @@ use Rattle.suit_classes.proofs.SameMoves.{among-Contains, among_contained}
 use Rattle.suit_plans.specs.Masses.{is_declarers}
 use Rattle.suit_tree.specs.WhatIsCounted.{node_count}
 use Rattle.suit_program.specs.Programs.Points.{Passed}
-use Rattle.suit_program.specs.Programs.{Answered, Shared, answered_limits, columns, columns_at, held_column}
-use Rattle.suit_program.specs.Programs.{limits}
+use Rattle.suit_program.specs.Programs.{Answered, Shared, answered_limits, columns, columns_at, held_column, limits}
 use Rattle.suit_program.specs.Programs.{limits_at, size_of}
 use Rattle.suit_program.specs.Supports.{Support, declarer_chooses, defence_chooses, first_and, first_support}
 use Rattle.suit_program.specs.Supports.{goes_supported, histories_from, is_reached, layouts_of, legal_moves, names}
 use Rattle.suit_program.specs.Supports.{next_moves, reached_histories, reached_layouts, supported_moves, whole_support}
 use Rattle.suit_program.specs.Supports.{with_moves}
-use Rattle.suit_program.proofs.lemmas.Supports.WhatIsReached.{flat_map_from}
 use Rattle.suit_solve.specs.declared.ends.SolveEnd.TheVariants as ends
 use Rattle.suit_solve.specs.FateLaws.{WholeSupportsFit}
 use Rattle.suit_solve.specs.Fates.{fate, fate_after, fate_from, fate_in_rounds, lacking}
 use Rattle.suit_solve.specs.Limits.{most_size}
 use Rattle.suit_solve.specs.Rounds.{RoundEnd, PastSize, PastPivots, PastWidth, Met, Apart, Limitless, round_end}
-use Rattle.suit_solve.proofs.Lacking.{NamesMore, fewer_kept, supported_more}
+use Rattle.suit_solve.proofs.Lacking.{NamesMore, either_more, supported_more}
 use Rattle.suit_solve.proofs.Rounds.{ReadsAt, reads}
-
--- ---- lists
-
-flat_cons : {X Y : Type 0} (made : X → List Y) (b : Bool) (x : X) (xs : List X)
-    → length (flat_map made (cond b (x ∷ xs) xs)) ≡ (if b then length (made x) else 0) + length (flat_map made xs)
-flat_cons made true x xs = length-append (made x) (flat_map made xs)
-flat_cons made false x xs = omega arith
-
-joined_less : (p q : Bool) (one other rest others : ℕ) → (p ≡ true → q ≡ true) → one ≤ other → rest ≤ others
-    → (if p then one else 0) + rest ≤ (if q then other else 0) + others
-joined_less true true one other rest others gives first later = omega (arith, first, later)
-joined_less true false one other rest others gives first later = absurd (cc (gives refl))
-joined_less false true one other rest others gives first later = omega (arith, first, later)
-joined_less false false one other rest others gives first later = omega (arith, later)
-
--- what is made of fewer elements, and no more of each, is no more
-flat_kept : {X Y Z : Type 0} (p q : X → Bool) (made : X → List Y) (others : X → List Z) (xs : List X)
-    → ((x : X) → p x ≡ true → q x ≡ true) → ((x : X) → length (made x) ≤ length (others x))
-    → length (flat_map made (filter p xs)) ≤ length (flat_map others (filter q xs))
-flat_kept p q made others [] gives less = omega arith
-flat_kept p q made others (x ∷ xs) gives less =
-    subst (λ (n : ℕ). n ≤ length (flat_map others (filter q (x ∷ xs)))) (sym (flat_cons made (p x) x (filter p xs)))
-    (subst (λ (n : ℕ). (if p x then length (made x) else 0) + length (flat_map made (filter p xs)) ≤ n)
-    (sym (flat_cons others (q x) x (filter q xs)))
-    (joined_less (p x) (q x) (length (made x)) (length (others x)) (length (flat_map made (filter p xs)))
-    (length (flat_map others (filter q xs))) (gives x) (less x) (flat_kept p q made others xs gives less)))
-
-append_assoc : {X : Type 0} (xs ys zs : List X) → (xs ++ ys) ++ zs ≡ xs ++ (ys ++ zs)
-append_assoc [] ys zs = refl
-append_assoc {X} (x ∷ xs) ys zs = ap (λ (l : List X). x ∷ l) (append_assoc xs ys zs)
-
-flat_joined : {X Y : Type 0} (made : X → List Y) (xs ys : List X)
-    → flat_map made (xs ++ ys) ≡ flat_map made xs ++ flat_map made ys
-flat_joined made [] ys = refl
-flat_joined {X} {Y} made (x ∷ xs) ys =
-    ap (λ (l : List Y). made x ++ l) (flat_joined made xs ys)
-    ∙ sym (append_assoc (made x) (flat_map made xs) (flat_map made ys))
-
-flat_flat : {X Y Z : Type 0} (made : Y → List Z) (pieces : X → List Y) (xs : List X)
-    → flat_map made (flat_map pieces xs) ≡ flat_map (λ x. flat_map made (pieces x)) xs
-flat_flat made pieces [] = refl
-flat_flat {X} {Y} {Z} made pieces (x ∷ xs) =
-    flat_joined made (pieces x) (flat_map pieces xs)
-    ∙ ap (λ (l : List Z). flat_map made (pieces x) ++ l) (flat_flat made pieces xs)
-
-either_more : (b : Bool) (one other more next : Bool) → (one ≡ true → more ≡ true) → (other ≡ true → next ≡ true)
-    → (if b then one else other) ≡ true → (if b then more else next) ≡ true
-either_more true one other more next gives too is = gives is
-either_more false one other more next gives too is = too is
 
 -- ---- supports that name more
 
@@ -234,10 +182,10 @@ module _ (question : Question) (less more : Support) (grown : NamesMore less mor
       both (fewer history) rest
       (length-append (made history) (flat_map made (flat_map here (next_moves question less history)))
       ∙ ap (λ (l : List Y). length (made history) + length l)
-      (flat_flat made here (next_moves question less history)))
+      (flat_map_flat_map made here (next_moves question less history)))
       (length-append (others history) (flat_map others (flat_map there (next_moves question more history)))
       ∙ ap (λ (l : List Z). length (others history) + length l)
-      (flat_flat others there (next_moves question more history)))
+      (flat_map_flat_map others there (next_moves question more history)))
     where
       both : {a b c d whole total : ℕ} → a ≤ b → c ≤ d → whole ≡ a + c → total ≡ b + d → whole ≤ total
       both p q r s = omega (arith, p, q, r, s)

@@ -1,18 +1,14 @@
 -- An answer of a round can be written (`writable`).
-use Rattle.std.proofs.Common.{◌≡◌, ℕ, ◌<◌, ◌≤◌, ◌^◌, Bool, true, List, [], ◌∷◌, ◌++◌}
-use Rattle.std.proofs.Common.{length, map}
-use Rattle.std.proofs.Common.{refl, sym, ap, ◌∙◌, subst, inl, inr, arith}
-use Rattle.std.specs.Prelude.{All, Contains, ℤ, pos, negsuc, ◌*ℤ◌, ◌<ℤ◌}
-use Rattle.std.specs.Prelude.{◌≤ℤ◌}
-use Rattle.std.specs.Prelude.{int_le}
-use Rattle.std.specs.List.{list_all}
+use Rattle.std.proofs.Common.{◌≡◌, ℕ, ◌<◌, ◌≤◌, ◌^◌, Bool, true, List, [], ◌∷◌, ◌++◌, length, map}
+use Rattle.std.proofs.Common.{refl, sym, ap, ◌∙◌, subst, arith}
+use Rattle.std.specs.Prelude.{All, Contains, ℤ, pos, negsuc, ◌*ℤ◌, ◌<ℤ◌, ◌≤ℤ◌, int_le}
 use Rattle.std.proofs.Math.IntN.{*ℤ_comm}
-use Rattle.std.proofs.lemmas.Bool.{and_parts}
 use Rattle.std.proofs.lemmas.Int.{ints}
 use Rattle.std.proofs.lemmas.List.Elements.{All-from_recursion}
-use Rattle.suit_lists.proofs.Elements.{Contains-cons_cases, Contains-nil, each_in}
+use Rattle.suit_lists.proofs.Basics.{append_nothing}
+use Rattle.suit_lists.proofs.Elements.{each_in}
 use Rattle.suit_lists.proofs.Maps.{Contains-map}
-use Rattle.suit_lists.proofs.Tests.{some_passing}
+use Rattle.suit_lists.proofs.Tests.{all_at, some_passing}
 use Rattle.suit_num.proofs.IntegerLaws.{int_le-true, le-mul_right}
 use Rattle.suit_num.specs.declared.fraction.Frac.{Frac}
 use Rattle.suit_cards.specs.Cards.{ClassLayout}
@@ -43,8 +39,7 @@ use Rattle.suit_plans.proofs.FirstFaults.{FitsTurn, IsFaultless}
 use Rattle.suit_plans.proofs.MassBounds.{mass_falls}
 use Rattle.suit_plans.proofs.ProperDefences.{defence_row_fits, defences_are_realised, proper_defence}
 use Rattle.suit_plans.proofs.ProperDefences.{stands_after as defence_stands}
-use Rattle.suit_plans.proofs.ProperPlans.{plan_row_fits, plans_are_realised, proper_plan}
-use Rattle.suit_plans.proofs.ProperPlans.{stands_after as plan_stands}
+use Rattle.suit_plans.proofs.ProperPlans.{plan_row_fits, plans_are_realised, proper_plan, stands_after as plan_stands}
 use Rattle.suit_plans.proofs.PublicMoves.{layout_tells}
 use Rattle.suit_plans.proofs.RowLimits.{weight_at_most}
 use Rattle.suit_plans.proofs.SharesAddUpToTheMass.{within_sum}
@@ -58,8 +53,7 @@ use Rattle.suit_program.proofs.lemmas.Readings.PlansKeepTheWorth.{read_plans_are
 use Rattle.suit_program.proofs.lemmas.Readings.DefenceIsProper.{parted_at}
 use Rattle.suit_answer.specs.declared.answer.Answer.{Answer}
 use Rattle.suit_answer.specs.Writable.{IsWritable, IsWritableDefenceRow, IsWritableMove, IsWritableNumber}
-use Rattle.suit_answer.specs.Writable.{IsWritableRow}
-use Rattle.suit_answer.specs.Writable.{IsWritableShare, IsWritableTurn}
+use Rattle.suit_answer.specs.Writable.{IsWritableRow, IsWritableShare, IsWritableTurn}
 use Rattle.suit_solve.specs.Comparing.{answer_of}
 use Rattle.suit_answer.specs.Reduced.{fraction}
 use Rattle.suit_solve.proofs.ClassesWithin.{history_writable, move_writable, within_after}
@@ -89,27 +83,12 @@ weighed_number den weight some most few =
 
 -- ---- turns
 
--- what passes for all passes for each
-all_at : {X : Type 0} (test : X → Bool) (xs : List X) (x : X) → list_all test xs ≡ true → Contains xs x
-    → test x ≡ true
-all_at test [] x all found = absurd (Contains-nil x found)
-all_at test (first ∷ xs) x all found =
-    let parts = and_parts (test first) (list_all test xs) all in
-    elim (Contains-cons_cases first xs x found) [
-      | inl here ↦ ap test (sym here) ∙ parts.0
-      | inr there ↦ all_at test xs x parts.1 there
-    ]
-
 -- masses fall along class histories
 mass_within : (question : Question) (side : Side) (counts : ClassLayout) (before moves : ClassHistory)
     → AreRealised question side counts → Allows question counts (before ++ moves)
     → mass_of question side (before ++ moves) ≤ℤ mass_of question side before
-mass_within question side counts before [] realised allowed = same_history (append_nil before)
+mass_within question side counts before [] realised allowed = same_history (append_nothing before)
   where
-    append_nil : (history : ClassHistory) → history ++ [] ≡ history
-    append_nil [] = refl
-    append_nil (move ∷ history) = ap (λ (l : ClassHistory). move ∷ l) (append_nil history)
-
     same_history : before ++ [] ≡ before → mass_of question side (before ++ []) ≤ℤ mass_of question side before
     same_history same =
         subst (λ (h : ClassHistory). mass_of question side h ≤ℤ mass_of question side before) (sym same)

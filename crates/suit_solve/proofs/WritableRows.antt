@@ -1,9 +1,7 @@
 -- What is read from an optimum has few rows, and each has a count (`plan_few`, `defence_few`, `plan_counts`).
-use Rattle.std.proofs.Common.{◌≡◌, ℕ, suc, ◌+◌, ◌*◌, ◌<◌, ◌≤◌, Bool, true, false, List, [], ◌∷◌, ◌++◌, length}
-use Rattle.std.proofs.Common.{map}
+use Rattle.std.proofs.Common.{◌≡◌, ℕ, suc, ◌+◌, ◌*◌, ◌<◌, ◌≤◌, Bool, true, false, List, [], ◌∷◌, ◌++◌, length, map}
 use Rattle.std.proofs.Common.{refl, sym, ap, ◌∙◌, subst, arith}
-use Rattle.std.specs.Prelude.{Contains, cond, filter, nat_lt, not, ◌&&◌, if◌then◌else◌, ℤ, pos, ◌-ℤ◌, ◌<ℤ◌}
-use Rattle.std.specs.Prelude.{int_lt}
+use Rattle.std.specs.Prelude.{Contains, cond, filter, nat_lt, not, ◌&&◌, if◌then◌else◌, ℤ, pos, ◌-ℤ◌, ◌<ℤ◌, int_lt}
 use Rattle.std.specs.Int.{int_max}
 use Rattle.std.specs.List.{flat_map}
 use Rattle.std.specs.Ordering.{int_eq}
@@ -11,9 +9,9 @@ use Rattle.std.proofs.lemmas.Bool.{and_parts, ltb-false}
 use Rattle.std.proofs.lemmas.Bool.Decides.{Decides-int_eq}
 use Rattle.std.proofs.lemmas.Int.{clamps, ints}
 use Rattle.std.proofs.lemmas.List.{length-append, length-map}
-use Rattle.suit_lists.proofs.Elements.{Contains-first, Contains-later, Contains-nil}
+use Rattle.suit_lists.proofs.Elements.{Contains-first, Contains-later, some_of}
 use Rattle.suit_lists.proofs.Filters.{Contains-filter, kept_parts}
-use Rattle.suit_lists.proofs.FlatMaps.{Contains-flat_map}
+use Rattle.suit_lists.proofs.FlatMaps.{Contains-flat_map, flat_map_from, kept_in}
 use Rattle.suit_lists.proofs.Maps.{Contains-map_from}
 use Rattle.suit_cards.specs.Cards.{ClassLayout}
 use Rattle.suit_num.proofs.IntegerLaws.{int_lt-true}
@@ -35,7 +33,6 @@ use Rattle.suit_program.specs.Readings.{topped_up}
 use Rattle.suit_program.specs.Supports.{Support, declarer_chooses, defence_chooses, is_reached, layouts_of, legal_moves}
 use Rattle.suit_program.specs.Supports.{reached_histories, reached_layouts, supported_moves}
 use Rattle.suit_program.proofs.lemmas.Supports.AtAChoice.{own_place, their_place}
-use Rattle.suit_program.proofs.lemmas.Supports.WhatIsReached.{flat_map_from}
 use Rattle.suit_program.proofs.lemmas.Readings.DefenceIsProper.{defence_masses}
 use Rattle.suit_program.proofs.lemmas.Readings.RowsFit.{sum_kept_counts}
 use Rattle.suit_linear.specs.Programs.{IsDualFeasible}
@@ -43,20 +40,6 @@ use Rattle.suit_solve.specs.Limits.{most_size}
 use Rattle.suit_solve.proofs.LayoutCounts.{layouts_few}
 
 -- ---- lists
-
--- what passes a test is no more than what is made of it
-kept_in : {X Y : Type 0} (test : X → Bool) (made : X → List Y) (xs : List X)
-    → ((x : X) → test x ≡ true → 0 < length (made x)) → length (filter test xs) ≤ length (flat_map made xs)
-kept_in test made [] some = omega arith
-kept_in {X} {Y} test made (x ∷ xs) some =
-    by_test (test x) refl (length-append (made x) (flat_map made xs)) (kept_in test made xs some)
-  where
-    by_test : (b : Bool) → test x ≡ b
-        → length (made x ++ flat_map made xs) ≡ length (made x) + length (flat_map made xs)
-        → length (filter test xs) ≤ length (flat_map made xs)
-        → length (cond b (x ∷ filter test xs) (filter test xs)) ≤ length (made x ++ flat_map made xs)
-    by_test true e whole rest = let one = some x e in omega (arith, whole, rest, one)
-    by_test false e whole rest = omega (arith, whole, rest)
 
 -- few lists of few
 flat_few : {X Y : Type 0} (made : X → List Y) (xs : List X)
@@ -71,11 +54,6 @@ flat_few made (x ∷ xs) few =
     joined : (one rest count whole : ℕ) → whole ≡ one + rest → one ≤ 16777216 → rest ≤ count * 16777216
         → whole ≤ suc count * 16777216
     joined one rest count whole is p q = omega (arith, is, p, q)
-
--- a list with an element is not empty
-some_in : {X : Type 0} (xs : List X) (x : X) → Contains xs x → 0 < length xs
-some_in [] x found = absurd (Contains-nil x found)
-some_in (first ∷ xs) x found = omega arith
 
 -- ---- how many rows
 
@@ -116,7 +94,7 @@ module _ (question : Question) (support : Support) where
       (sym chooses) (Contains-first (Held layout.0 history) []) in
       subst (λ (b : Bool). 0 < length (if b then map (Passed history) (supported_moves question support [] history)
       else flat_map (held_column question history) (reached_layouts question support history))) (sym not_own)
-      (some_in (flat_map (held_column question history) (reached_layouts question support history))
+      (some_of (flat_map (held_column question history) (reached_layouts question support history))
       (Held layout.0 history)
       (Contains-flat_map (held_column question history) (reached_layouts question support history) layout
       (Held layout.0 history)
