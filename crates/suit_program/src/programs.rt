@@ -1,7 +1,7 @@
 //! The program of a support.
-ghost use Rattle.std.specs.Prelude.{◌≡◌, ◌<◌, ◌^◌, ℕ, [], Contains, IfOk, length, get_or, map, neg_ℤ, unsigned_abs};
-ghost use Rattle.std.specs.Prelude.{Vec};
+ghost use Rattle.std.specs.Prelude.{◌≡◌, ◌<◌, ℕ, [], Contains, IfOk, Vec, length, get_or, map, neg_ℤ};
 ghost use Rattle.std.specs.Global.{Global};
+ghost use Rattle.suit_num.specs.Narrow.{IsNarrow};
 ghost use Rattle.suit_linear.specs.Sparse.{dense, sum_in};
 ghost use Rattle.suit_linear.specs.declared.sparse.Entry.{Entry};
 ghost use Rattle.suit_program.specs.Walks.LedgerOf.{sparse_row};
@@ -119,7 +119,7 @@ fn row_of(entries: Vec<Entry>) -> SparseRow
 // What a column adds to a row.
 fn sum_of(entries: &[Entry], column: u32) -> i128
     ensures is { result ≡ sum_in entries.now column }
-    ensures small { unsigned_abs result < 2 ^ 127 }
+    ensures small { IsNarrow result }
 {
     let mut sum = 0;
     for index in 0..entries.len() {

@@ -27,6 +27,7 @@ use Rattle.suit_classes.specs.ClassPlaces.{class_step, class_step_in, classes_le
 use Rattle.suit_classes.specs.ClassPlaces.{left, may_lead, or_show_out, side, west_count}
 use Rattle.suit_classes.proofs.CountedClassByClass.{class_size-none, dealt_to-at, length-dealt_to}
 use Rattle.suit_classes.proofs.SameMoves.{among-Contains}
+use Rattle.suit_classes.specs.declared.classes.TheConstants.{MOST_CLASSES}
 use Rattle.suit_answer.specs.Writable.{IsWritableMove}
 
 -- no card is counted in a class from a number on
@@ -118,7 +119,7 @@ held_none true size none = none
 held_none false size none = refl
 
 dealt_none : (hands : Hands) (owner : Owner) → AreNone (class_count hands) (dealt_to hands owner)
-dealt_none hands owner class past = elim (cases_lt class 13) [
+dealt_none hands owner class past = elim (cases_lt class MOST_CLASSES) [
   | inl small ↦ dealt_to-at hands owner class small ∙ held_none _ _ (class_size-none hands class past)
   | inr beyond ↦ get_or_past (dealt_to hands owner) class 0 (omega (arith, beyond, length-dealt_to hands owner))
 ]

@@ -32,6 +32,7 @@ use Rattle.suit_solve.proofs.ReplyPlaces.{own_place, their_place}
 use Rattle.std.proofs.lemmas.List.Elements.{All-from_recursion}
 use Rattle.suit_lists.proofs.Sums.{sum_by-mul, sum_by_at_most, sum_by_constant}
 use Rattle.suit_program.specs.Supports.{Support, first_support, layouts_of, legal_moves, supported_moves, with_moves}
+use Rattle.suit_program.specs.declared.walks.reach.TheConstants.{MOST_NEXT}
 use Rattle.suit_answer.specs.declared.answer.Answer.{Answer}
 use Rattle.suit_solve.specs.declared.ends.SolveEnd.{SolveEnd}
 use Rattle.suit_solve.specs.declared.ends.SolveEnd.TheVariants as ends
@@ -45,48 +46,50 @@ use Rattle.suit_solve.proofs.Rounds.{IsApartAt, ReadsAt, reads}
 
 -- ---- how many rounds there may be
 
-every_length : length every_move ≡ 40
+every_length : length every_move ≡ MOST_NEXT
 unfolding every_move class_numbers
 every_length = refl
 
-moves_few : (view : ClassView) (west : ClassLayout) → length (class_moves view west) ≤ 40
+moves_few : (view : ClassView) (west : ClassLayout) → length (class_moves view west) ≤ MOST_NEXT
 moves_few view west =
-    subst (λ (moves : List ClassMove). length moves ≤ 40) (sym (class_moves_listed view west))
+    subst (λ (moves : List ClassMove). length moves ≤ MOST_NEXT) (sym (class_moves_listed view west))
     (both (length_filter-most (is_among (class_moves view west)) every_move) every_length)
   where
-    both : {a b : ℕ} → a ≤ b → b ≡ 40 → a ≤ 40
+    both : {a b : ℕ} → a ≤ b → b ≡ MOST_NEXT → a ≤ MOST_NEXT
     both p q = omega (arith, p, q)
 
 legal_few : (question : Question) (west : ClassLayout) (history : ClassHistory)
-    → length (legal_moves question west history) ≤ 40
+    → length (legal_moves question west history) ≤ MOST_NEXT
 legal_few question west history =
     by_decided (class_decided (class_after question history)) (class_moves (class_after question history) west)
     (moves_few (class_after question history) west)
   where
-    by_decided : (b : Bool) (moves : List ClassMove) → length moves ≤ 40 → length (if b then [] else moves) ≤ 40
+    by_decided : (b : Bool) (moves : List ClassMove) → length moves ≤ MOST_NEXT
+        → length (if b then [] else moves) ≤ MOST_NEXT
     by_decided true moves few = omega arith
     by_decided false moves few = few
 
 -- so many moves a class history lacks at most
 few_lacking : (question : Question) (support : Support) (west : ClassLayout) (history : ClassHistory)
-    → lacking_at question support west history ≤ 40
+    → lacking_at question support west history ≤ MOST_NEXT
 few_lacking question support west history =
     both (length_filter-most (λ move. not (is_among (supported_moves question support west history) move))
     (legal_moves question west history)) (legal_few question west history)
   where
-    both : {a b : ℕ} → a ≤ b → b ≤ 40 → a ≤ 40
+    both : {a b : ℕ} → a ≤ b → b ≤ MOST_NEXT → a ≤ MOST_NEXT
     both p q = omega (arith, p, q)
 
-each_sum : {X : Type 0} (f : X → ℕ) (xs : List X) → ((x : X) → f x ≤ 40) → sum_by f xs ≤ length xs * 40
-each_sum f xs few = omega (arith, sum_by_at_most f (λ x. 40) xs few, sum_by_constant 40 xs)
+each_sum : {X : Type 0} (f : X → ℕ) (xs : List X) → ((x : X) → f x ≤ MOST_NEXT) → sum_by f xs ≤ length xs * MOST_NEXT
+each_sum f xs few = omega (arith, sum_by_at_most f (λ x. MOST_NEXT) xs few, sum_by_constant MOST_NEXT xs)
 
-scaled_sum : {X : Type 0} (f g : X → ℕ) (xs : List X) → ((x : X) → f x ≤ g x * 40)
-    → sum_by f xs ≤ sum_by g xs * 40
+scaled_sum : {X : Type 0} (f g : X → ℕ) (xs : List X) → ((x : X) → f x ≤ g x * MOST_NEXT)
+    → sum_by f xs ≤ sum_by g xs * MOST_NEXT
 scaled_sum f g xs few =
-    omega (arith, sum_by_at_most f (λ x. 40 * g x) xs (λ x. let one = few x in omega (arith, one)), sum_by-mul 40 g xs)
+    let most = sum_by_at_most f (λ x. MOST_NEXT * g x) xs (λ x. let one = few x in omega (arith, one)) in
+    omega (arith, most, sum_by-mul MOST_NEXT g xs)
 
 -- a support lacks no more than forty moves of each pair
-lacking_few : (question : Question) (support : Support) → lacking question support ≤ node_count question * 40
+lacking_few : (question : Question) (support : Support) → lacking question support ≤ node_count question * MOST_NEXT
 unfolding lacking node_count
 lacking_few question support =
     scaled_sum
@@ -158,7 +161,7 @@ round_fits question tree support round way =
     small (lacking question support) (lacking question first_support) (node_count question) question.nodes way.early
     (lacking_few question first_support) way.within way.valid.nodes_most
   where
-    small : (left first count nodes : ℕ) → round + left ≤ first → first ≤ count * 40 → count ≤ nodes
+    small : (left first count nodes : ℕ) → round + left ≤ first → first ≤ count * MOST_NEXT → count ≤ nodes
         → nodes ≤ MOST_NODES → round < 2 ^ 28
     small left first count nodes early few le most = omega (arith, early, few, le, most)
 

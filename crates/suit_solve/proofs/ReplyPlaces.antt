@@ -7,6 +7,7 @@ use Rattle.suit_lists.proofs.Elements.{Contains-same}
 use Rattle.suit_cards.specs.Cards.{ClassLayout}
 use Rattle.suit_game.specs.declared.question.Question.{Question}
 use Rattle.suit_game.specs.Validity.{IsValid}
+use Rattle.suit_game.specs.declared.limits.TheConstants.{MOST_MOVES}
 use Rattle.suit_classes.specs.declared.class_moves.ClassMove.{ClassMove}
 use Rattle.suit_classes.specs.declared.class_view.ClassView.{ClassView}
 use Rattle.suit_classes.specs.WhatIsAllowed.{allows, allows_from, is_among}
@@ -60,7 +61,7 @@ module _ (question : Question) (valid : IsValid question) where
       → Contains (counted_histories question layout.0) history
   unfolding counted_histories allows
   counted_at layout listed history allowed goes =
-      Contains-continued 52 question layout.0 [] history
+      Contains-continued MOST_MOVES question layout.0 [] history
       (allowed_short question layout.0 history valid (layout_weighs question valid layout listed) (sym allowed))
       allowed goes
 

@@ -11,6 +11,7 @@ use Rattle.suit_lists.proofs.FlatMaps.{Contains-flat_map, flat_kept, flat_map_fl
 use Rattle.suit_cards.specs.Cards.{ClassLayout}
 use Rattle.suit_game.specs.declared.question.Question.{Question}
 use Rattle.suit_game.specs.Validity.{IsValid}
+use Rattle.suit_game.specs.declared.limits.TheConstants.{MOST_MOVES}
 use Rattle.suit_classes.specs.declared.class_moves.ClassMove.{ClassMove}
 use Rattle.suit_classes.specs.WhatIsAllowed.{every_move, is_among}
 use Rattle.suit_classes.specs.ClassMoves.{ClassHistory}
@@ -91,12 +92,12 @@ module _ (question : Question) (less more : Support) (grown : NamesMore less mor
       let from = flat_map_from moves_less (reached_layouts question less history) move
       (among-Contains (flat_map moves_less (reached_layouts question less history)) move among) in
       let kept = kept_parts (λ (layout : ClassLayout × ℕ). is_reached question less layout.0 history)
-          (layouts_of question)
+      (layouts_of question)
       from.0 from.1 in
       among_contained (flat_map moves_more (reached_layouts question more history)) move
       (Contains-flat_map moves_more (reached_layouts question more history) from.0 move
       (Contains-filter (λ (layout : ClassLayout × ℕ). is_reached question more layout.0 history)
-          (layouts_of question) from.0
+      (layouts_of question) from.0
       kept.0 (reached_more from.0.0 history kept.1))
       (among-Contains (moves_more from.0) move
       (supported_more question less more grown from.0.0 history move
@@ -154,7 +155,7 @@ module _ (question : Question) (less more : Support) (grown : NamesMore less mor
       by_choice false =
           flat_kept (λ (layout : ClassLayout × ℕ). is_reached question less layout.0 history)
           (λ (layout : ClassLayout × ℕ). is_reached question more layout.0 history)
-              (answered_limits question less history)
+          (answered_limits question less history)
           (answered_limits question more history) (layouts_of question)
           (λ layout. reached_more layout.0 history)
           (λ layout. by_answer layout (defence_chooses question layout.0 history))
@@ -194,8 +195,8 @@ module _ (question : Question) (less more : Support) (grown : NamesMore less mor
   pub size_more : size_of question less ≤ size_of question more
   unfolding size_of columns limits reached_histories
   size_more =
-      both (histories_more (limits_at question less) (limits_at question more) limits_more 52 [])
-      (histories_more (columns_at question less) (columns_at question more) columns_more 52 [])
+      both (histories_more (limits_at question less) (limits_at question more) limits_more MOST_MOVES [])
+      (histories_more (columns_at question less) (columns_at question more) columns_more MOST_MOVES [])
     where
       both : {a b c d : ℕ} → a ≤ b → c ≤ d → a + c ≤ b + d
       both p q = omega (arith, p, q)

@@ -1,5 +1,5 @@
 -- An answer of a round can be written (`writable`).
-use Rattle.std.proofs.Common.{◌≡◌, ℕ, ◌<◌, ◌≤◌, ◌^◌, Bool, true, List, [], ◌∷◌, ◌++◌, length, map}
+use Rattle.std.proofs.Common.{◌≡◌, ℕ, ◌<◌, ◌≤◌, Bool, true, List, [], ◌∷◌, ◌++◌, length, map}
 use Rattle.std.proofs.Common.{refl, sym, ap, ◌∙◌, subst, arith}
 use Rattle.std.specs.Prelude.{All, Contains, ℤ, pos, negsuc, ◌*ℤ◌, ◌<ℤ◌, ◌≤ℤ◌, int_le}
 use Rattle.std.proofs.Math.IntN.{*ℤ_comm}
@@ -15,6 +15,7 @@ use Rattle.suit_cards.specs.Cards.{ClassLayout}
 use Rattle.suit_game.specs.declared.question.Question.{Question}
 use Rattle.suit_game.specs.Layouts.{total}
 use Rattle.suit_game.proofs.WhatAllLayoutsWeigh.{total_at_most}
+use Rattle.suit_game.specs.declared.limits.TheConstants.{HAND_SIZE, MOST_TOTAL}
 use Rattle.suit_classes.specs.declared.class_moves.ClassMove.{ClassMove}
 use Rattle.suit_classes.specs.WhatIsAllowed.{allows, is_among}
 use Rattle.suit_classes.specs.Classes.{class_count, defence_classes, hands_of, sizes_of}
@@ -43,6 +44,7 @@ use Rattle.suit_plans.proofs.ProperPlans.{plan_row_fits, plans_are_realised, pro
 use Rattle.suit_plans.proofs.PublicMoves.{layout_tells}
 use Rattle.suit_plans.proofs.RowLimits.{weight_at_most}
 use Rattle.suit_plans.proofs.SharesAddUpToTheMass.{within_sum}
+use Rattle.suit_plans.specs.declared.plan.TheConstants.{MOST_DEN, WORTH_BOUND}
 use Rattle.suit_layouts.specs.ClassLayouts.{class_layouts}
 use Rattle.suit_linear.specs.declared.ends.Optimum.{Optimum}
 use Rattle.suit_program.specs.Readings.ReadingLaws.{defence_read, plan_read}
@@ -66,19 +68,19 @@ use Rattle.suit_solve.proofs.WritableRows.{defence_few, plan_few, plan_row_some,
 -- ---- numbers
 
 -- a number that is not negative and has few bits
-pub writable_number : (number : ℤ) → pos 0 ≤ℤ number → number ≤ℤ pos (2 ^ 126) → IsWritableNumber number
+pub writable_number : (number : ℤ) → pos 0 ≤ℤ number → number ≤ℤ WORTH_BOUND → IsWritableNumber number
 writable_number (pos n) least most = record { least = least; narrow = omega (arith, ints, most) }
 writable_number (negsuc n) least most = absurd (omega (arith, ints, least))
 
 -- a denominator times a weight has few bits
-pub weighed_number : (den : ℤ) (weight : ℕ) → pos 0 ≤ℤ den → den ≤ℤ pos (2 ^ 90) → weight ≤ 10400600
-    → (den *ℤ pos weight) ≤ℤ pos (2 ^ 126)
+pub weighed_number : (den : ℤ) (weight : ℕ) → pos 0 ≤ℤ den → den ≤ℤ MOST_DEN → weight ≤ MOST_TOTAL
+    → (den *ℤ pos weight) ≤ℤ WORTH_BOUND
 weighed_number den weight some most few =
-    let up : (den *ℤ pos weight) ≤ℤ (pos (2 ^ 90) *ℤ pos weight) =
-    le-mul_right den (pos (2 ^ 90)) (pos weight) most (omega (arith, ints)) in
+    let up : (den *ℤ pos weight) ≤ℤ (MOST_DEN *ℤ pos weight) =
+    le-mul_right den MOST_DEN (pos weight) most (omega (arith, ints)) in
     bounded (den *ℤ pos weight) weight up few
   where
-    bounded : (z : ℤ) (weight : ℕ) → z ≤ℤ (pos (2 ^ 90) *ℤ pos weight) → weight ≤ 10400600 → z ≤ℤ pos (2 ^ 126)
+    bounded : (z : ℤ) (weight : ℕ) → z ≤ℤ (MOST_DEN *ℤ pos weight) → weight ≤ MOST_TOTAL → z ≤ℤ WORTH_BOUND
     bounded z weight up few = omega (arith, ints, up, few)
 
 -- ---- turns
@@ -131,7 +133,7 @@ pub writable_turn : (question : Question) (side : Side) (counts : ClassLayout) (
     (shares : Shares)
     (may_have stands : Bool) → FitsTurn question side history shares may_have stands
     → allows question counts history ≡ true → Allows question counts history → AreRealised question side counts
-    → side.whole ≤ℤ pos (2 ^ 126) → 0 < length shares
+    → side.whole ≤ℤ WORTH_BOUND → 0 < length shares
     → IsWritableTurn (class_count (hands_of question)) history shares
 writable_turn question side counts history shares may_have stands fits told allowed realised most some =
     let classes : ℕ = class_count (hands_of question) in
@@ -147,10 +149,10 @@ writable_turn question side counts history shares may_have stands fits told allo
                 (among-Contains legal share.0 (all_at (is_among legal) (moves_of shares) share.0 fits.legal
                 (Contains-map (λ (other : ClassMove × ℤ). other.0) shares share found))),
             writable_number share.1 (low share found)
-                (counts_chain share.1 (mass_of question side history) (pos (2 ^ 126))
+                (counts_chain share.1 (mass_of question side history) WORTH_BOUND
                 (subst (λ (z : ℤ). share.1 ≤ℤ z) fits.adds
                 (within_sum (λ (other : ClassMove × ℤ). other.1) shares share low found))
-                (counts_chain (mass_of question side history) side.whole (pos (2 ^ 126))
+                (counts_chain (mass_of question side history) side.whole WORTH_BOUND
                 (mass_most question side counts history realised allowed) most)),
           )));
       some = some;
@@ -178,16 +180,16 @@ module _ (question : Question) (support : Support) (optimum : Optimum) (read : A
   defence_proper : IsProperDefence question defence
   defence_proper = read_defences_are_proper question support optimum read.priced
 
-  plan_den_most : plan.den ≤ℤ pos (2 ^ 90)
-  plan_den_most = int_le-true plan.den (pos (2 ^ 90)) (proper_plan question plan plan_proper).1
+  plan_den_most : plan.den ≤ℤ MOST_DEN
+  plan_den_most = int_le-true plan.den MOST_DEN (proper_plan question plan plan_proper).1
 
-  defence_den_most : defence.den ≤ℤ pos (2 ^ 90)
-  defence_den_most = int_le-true defence.den (pos (2 ^ 90)) (proper_defence question defence defence_proper).1
+  defence_den_most : defence.den ≤ℤ MOST_DEN
+  defence_den_most = int_le-true defence.den MOST_DEN (proper_defence question defence defence_proper).1
 
   not_below : (den : ℤ) → pos 0 <ℤ den → pos 0 ≤ℤ den
   not_below den some = omega (arith, ints, some)
 
-  few_bits : (den : ℤ) → den ≤ℤ pos (2 ^ 90) → den ≤ℤ pos (2 ^ 126)
+  few_bits : (den : ℤ) → den ≤ℤ MOST_DEN → den ≤ℤ WORTH_BOUND
   few_bits den most = omega (arith, ints, most)
 
   plan_row : (row : Row) → Contains plan.rows row → IsWritableRow (class_count (hands_of question)) row
@@ -220,8 +222,8 @@ module _ (question : Question) (support : Support) (optimum : Optimum) (read : A
       let weight : ℕ = weight_of question row.west in
       record {
         blocks = ap length from.west ∙ small.0;
-        small = subst (All (λ (count : ℕ). count ≤ 13)) (sym from.west)
-            (All-from_recursion (λ (count : ℕ). count ≤ 13) from.layout.0 small.1);
+        small = subst (All (λ (count : ℕ). count ≤ HAND_SIZE)) (sym from.west)
+            (All-from_recursion (λ (count : ℕ). count ≤ HAND_SIZE) from.layout.0 small.1);
         turn = writable_turn question (defenders question defence.den (parted.front ++ row ∷ parted.back) row.west)
             row.west row.history row.counts (allows question row.west row.history)
             (defence_stands row parted.front) fits.1 fits.1.allowed
@@ -230,7 +232,7 @@ module _ (question : Question) (support : Support) (optimum : Optimum) (read : A
             (subst (λ (rows : List DefenceRow). AreRealised question (defenders question defence.den rows row.west)
             row.west) parted.parts
             (defences_are_realised question defence row.west read.valid defence_proper fits.0))
-            (subst (λ (z : ℤ). z ≤ℤ pos (2 ^ 126)) (*ℤ_comm defence.den (pos weight))
+            (subst (λ (z : ℤ). z ≤ℤ WORTH_BOUND) (*ℤ_comm defence.den (pos weight))
             (weighed_number defence.den weight
             (not_below defence.den (defence_over question defence defence_proper)) defence_den_most
             (weight_at_most question row.west read.valid)))
@@ -253,12 +255,12 @@ module _ (question : Question) (support : Support) (optimum : Optimum) (read : A
       let whole : ℤ = plan.den *ℤ pos (total question) in
       let value : Frac = fraction (least question plan) whole in
       let small = fraction_small (least question plan) whole over earned.0 in
-      let bits : least question plan ≤ℤ pos (2 ^ 126) = under (least question plan) earned.1 in
+      let bits : least question plan ≤ℤ WORTH_BOUND = under (least question plan) earned.1 in
       record {
         num = writable_number value.num small.0
-            (counts_chain value.num (least question plan) (pos (2 ^ 126)) small.1 bits);
+            (counts_chain value.num (least question plan) WORTH_BOUND small.1 bits);
         den = writable_number value.den (not_below value.den value.positive)
-            (counts_chain value.den whole (pos (2 ^ 126)) small.2
+            (counts_chain value.den whole WORTH_BOUND small.2
             (weighed_number plan.den (total question) (not_below plan.den (plan_over question plan plan_proper))
             plan_den_most (total_at_most question read.valid)));
         plan = record {
@@ -279,7 +281,7 @@ module _ (question : Question) (support : Support) (optimum : Optimum) (read : A
         };
       }
     where
-      under : (z : ℤ) → z <ℤ pos (2 ^ 118) → z ≤ℤ pos (2 ^ 126)
+      under : (z : ℤ) → z <ℤ WORTH_BOUND → z ≤ℤ WORTH_BOUND
       under z below = omega (arith, ints, below)
 
 -- so can each answer of a round

@@ -17,6 +17,8 @@ use Rattle.suit_cards.specs.Cards.{ClassLayout}
 use Rattle.suit_num.proofs.IntegerLaws.{int_lt-true}
 use Rattle.suit_game.specs.declared.question.Question.{Question}
 use Rattle.suit_game.specs.Validity.{IsValid}
+use Rattle.suit_game.specs.declared.limits.TheConstants.{MOST_SUPPORT}
+use Rattle.suit_layouts.specs.declared.class_list.TheConstants.{MOST_CLASS_LAYOUTS}
 use Rattle.suit_classes.specs.declared.class_moves.ClassMove.{ClassMove}
 use Rattle.suit_classes.specs.ClassMoves.{ClassHistory}
 use Rattle.suit_classes.specs.ClassPlaces.{class_after, class_turn}
@@ -36,6 +38,7 @@ use Rattle.suit_program.proofs.lemmas.Supports.AtAChoice.{own_place, their_place
 use Rattle.suit_program.proofs.lemmas.Readings.DefenceIsProper.{defence_masses}
 use Rattle.suit_program.proofs.lemmas.Readings.RowsFit.{sum_kept_counts}
 use Rattle.suit_linear.specs.Programs.{IsDualFeasible}
+use Rattle.suit_answer.specs.declared.parts.TheConstants.{MOST_ROWS}
 use Rattle.suit_solve.specs.Limits.{most_size}
 use Rattle.suit_solve.proofs.LayoutCounts.{layouts_few}
 
@@ -43,16 +46,16 @@ use Rattle.suit_solve.proofs.LayoutCounts.{layouts_few}
 
 -- few lists of few
 flat_few : {X Y : Type 0} (made : X → List Y) (xs : List X)
-    → ((x : X) → Contains xs x → length (made x) ≤ 16777216)
-    → length (flat_map made xs) ≤ length xs * 16777216
+    → ((x : X) → Contains xs x → length (made x) ≤ MOST_SUPPORT)
+    → length (flat_map made xs) ≤ length xs * MOST_SUPPORT
 flat_few made [] few = omega arith
 flat_few made (x ∷ xs) few =
     joined (length (made x)) (length (flat_map made xs)) (length xs) (length (made x ++ flat_map made xs))
     (length-append (made x) (flat_map made xs)) (few x (Contains-first x xs))
     (flat_few made xs (λ y found. few y (Contains-later x xs y found)))
   where
-    joined : (one rest count whole : ℕ) → whole ≡ one + rest → one ≤ 16777216 → rest ≤ count * 16777216
-        → whole ≤ suc count * 16777216
+    joined : (one rest count whole : ℕ) → whole ≡ one + rest → one ≤ MOST_SUPPORT → rest ≤ count * MOST_SUPPORT
+        → whole ≤ suc count * MOST_SUPPORT
     joined one rest count whole is p q = omega (arith, is, p, q)
 
 -- ---- how many rows
@@ -60,13 +63,13 @@ flat_few made (x ∷ xs) few =
 -- a program that is not too large has few columns
 few_columns : (question : Question) (support : Support)
     → nat_lt (most_size question) (size_of question support) ≡ false
-    → length (columns question support) ≤ 16777216
+    → length (columns question support) ≤ MOST_SUPPORT
 unfolding size_of
 few_columns question support within =
     at_most (length (limits question support)) (length (columns question support))
     (ltb-false (most_size question) (length (limits question support) + length (columns question support)) within)
   where
-    at_most : (one other : ℕ) → one + other ≤ most_size question → other ≤ 16777216
+    at_most : (one other : ℕ) → one + other ≤ most_size question → other ≤ MOST_SUPPORT
     at_most one other le = omega (arith, le)
 
 module _ (question : Question) (support : Support) where
@@ -123,7 +126,7 @@ module _ (question : Question) (support : Support) where
 
   -- the plan has few rows
   pub plan_few : (point : Point) → nat_lt (most_size question) (size_of question support) ≡ false
-      → length (plan_at question support point).rows ≤ 4294967295
+      → length (plan_at question support point).rows ≤ MOST_ROWS
   unfolding plan_at columns
   plan_few point within =
       let reading : Reading = plan_reading question support point in
@@ -133,26 +136,26 @@ module _ (question : Question) (support : Support) where
       (λ history has. own_columns history (row_chooses reading history has)))
       (few_columns question support within)
     where
-      bounded : {rows kept columns : ℕ} → rows ≡ kept → kept ≤ columns → columns ≤ 16777216 → rows ≤ 4294967295
+      bounded : {rows kept columns : ℕ} → rows ≡ kept → kept ≤ columns → columns ≤ MOST_SUPPORT → rows ≤ MOST_ROWS
       bounded is le few = omega (arith, is, le, few)
 
   -- and so has the defence
   pub defence_few : (prices : List ℤ) (scale : ℤ)
       → nat_lt (most_size question) (size_of question support) ≡ false
-      → length (defence_of question support prices scale).rows ≤ 4294967295
+      → length (defence_of question support prices scale).rows ≤ MOST_ROWS
   unfolding defence_of columns
   defence_few prices scale within =
       total (flat_few (defence_rows_in question support prices scale) (layouts_of question) rows_few)
       (layouts_few question)
     where
-      total : {rows layouts : ℕ} → rows ≤ layouts * 16777216 → layouts ≤ 162 → rows ≤ 4294967295
+      total : {rows layouts : ℕ} → rows ≤ layouts * MOST_SUPPORT → layouts ≤ MOST_CLASS_LAYOUTS → rows ≤ MOST_ROWS
       total le few = omega (arith, le, few)
 
-      bounded : {rows kept columns : ℕ} → rows ≡ kept → kept ≤ columns → columns ≤ 16777216 → rows ≤ 16777216
+      bounded : {rows kept columns : ℕ} → rows ≡ kept → kept ≤ columns → columns ≤ MOST_SUPPORT → rows ≤ MOST_SUPPORT
       bounded is le few = omega (arith, is, le, few)
 
       rows_few : (layout : ClassLayout × ℕ) → Contains (layouts_of question) layout
-          → length (defence_rows_in question support prices scale layout) ≤ 16777216
+          → length (defence_rows_in question support prices scale layout) ≤ MOST_SUPPORT
       rows_few layout listed =
           let reading : Reading = defence_reading question support prices scale layout.0 in
           let test : ClassHistory → Bool =

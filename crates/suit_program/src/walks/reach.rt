@@ -23,7 +23,7 @@ use suit_plans::{is_declarers, is_defences};
 use suit_tree::{Node, Tree};
 
 /// As many moves as there are at most.
-pub(crate) const MOST_NEXT: usize = 40;
+pub const MOST_NEXT: usize = 40;
 
 /// A class layout in which a class history is reached.
 #[derive(Clone, Copy, Debug, Default)]

@@ -10,6 +10,7 @@ use Rattle.suit_cards.specs.Cards.{ClassLayout}
 use Rattle.suit_num.proofs.IntegerLaws.{le-mul_right, mul_assoc}
 use Rattle.suit_game.specs.declared.question.Question.{Question}
 use Rattle.suit_game.specs.Validity.{IsValid}
+use Rattle.suit_game.specs.declared.limits.TheConstants.{MOST_MOVES}
 use Rattle.suit_classes.specs.declared.class_moves.ClassMove.{ClassMove}
 use Rattle.suit_classes.specs.ClassGame.{Allows}
 use Rattle.suit_classes.specs.ClassPlaces.{class_after, class_moves, class_payoff, class_turn}
@@ -118,7 +119,7 @@ module _ (question : Question) (plan : Plan) (defence : Defence) (west : ClassLa
       (mass_positive (history ++ move ∷ []) ((allowed_moves question west history move).1 (allows, found))))
       (next move found))))
 
-  met_from : (more : ℕ) (history : List ClassMove) → Allows question west history → more ≡ 52 - length history
+  met_from : (more : ℕ) (history : List ClassMove) → Allows question west history → more ≡ MOST_MOVES - length history
       → IsMet history
   met_from zero history allows left =
       turn_met history allows (λ move found.
@@ -150,7 +151,8 @@ one_met question plan defence layout valid proper found =
     ∙ ap (λ (z : ℤ). z *ℤ defence.den) (*ℤ_comm value weight
     ∙ ap (λ (n : ℕ). pos n *ℤ value) (sym (weight_listed question layout found))) in
     subst (λ (z : ℤ). z ≤ℤ met) first
-    (met_from question plan defence layout.0 (defences_are_realised question defence layout.0 valid proper weighs) 52 []
+    (met_from question plan defence layout.0 (defences_are_realised question defence layout.0 valid proper
+    weighs) MOST_MOVES []
     (start_allows question layout.0 valid weighs) refl)
 
 -- in all: the weights of the class layouts stand in the masses of the defence

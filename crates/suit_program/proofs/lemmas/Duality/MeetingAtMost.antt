@@ -10,6 +10,7 @@ use Rattle.suit_cards.specs.Cards.{ClassLayout}
 use Rattle.suit_num.proofs.IntegerLaws.{le-mul_right, mul_left_comm}
 use Rattle.suit_game.specs.declared.question.Question.{Question}
 use Rattle.suit_game.specs.Validity.{IsValid}
+use Rattle.suit_game.specs.declared.limits.TheConstants.{MOST_MOVES}
 use Rattle.suit_classes.specs.declared.class_moves.ClassMove.{ClassMove}
 use Rattle.suit_classes.specs.WhatIsAllowed.{is_among}
 use Rattle.suit_classes.specs.ClassPlaces.{class_after, class_decided, class_moves, class_payoff, class_turn}
@@ -129,7 +130,7 @@ module _ (question : Question) (plan : Plan) (defence : Defence) (valid : IsVali
       layout))
       ∙ sym (sum_times (mass history) held layouts)
       ∙ *ℤ_comm (mass history) (sum_of (map held layouts))
-      ∙ ap (λ (z : ℤ). z *ℤ mass history) (sym (ended_worth to_defence (52 - length history) history
+      ∙ ap (λ (z : ℤ). z *ℤ mass history) (sym (ended_worth to_defence (MOST_MOVES - length history) history
       (public_over question valid history decided)))
 
   turn_met : (history : List ClassMove) → some_allows question history ≡ true → next_met history
@@ -165,7 +166,8 @@ module _ (question : Question) (plan : Plan) (defence : Defence) (valid : IsVali
       (*ℤ_comm (here move) (mass (history ++ move ∷ []))
       ∙ ap (λ (z : ℤ). z *ℤ here move) (kept history move not_own)) (next move found))))
 
-  met_from : (more : ℕ) (history : List ClassMove) → some_allows question history ≡ true → more ≡ 52 - length history
+  met_from : (more : ℕ) (history : List ClassMove) → some_allows question history ≡ true
+      → more ≡ MOST_MOVES - length history
       → IsMet history
   met_from zero history some left =
       turn_met history some
@@ -188,8 +190,8 @@ unfolding most meets
 most_met question plan defence valid proper =
     let met : ClassLayout × ℕ → ℤ = λ layout. worth (meeting question plan defence layout.0) [] in
     subst (λ (l : List (ClassLayout × ℕ)). sum_of (map met l) ≤ℤ
-        (worth (reply_to_defence question defence) [] *ℤ plan.den))
+    (worth (reply_to_defence question defence) [] *ℤ plan.den))
     (allowing_none question)
     (subst (λ (z : ℤ). sum_of (map met (allowing_layouts question [])) ≤ℤ (worth (reply_to_defence question defence) []
     *ℤ z)) (first_mass question plan)
-    (met_from question plan defence valid proper 52 [] (some_allow_none question valid) refl))
+    (met_from question plan defence valid proper MOST_MOVES [] (some_allow_none question valid) refl))

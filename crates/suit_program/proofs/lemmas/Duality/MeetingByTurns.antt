@@ -1,10 +1,10 @@
 -- What a plan and a defence earn when they meet, turn by turn (`met_over`, `met_on`).
-use Rattle.std.proofs.Common.{◌≡◌, ◌-◌, Bool, true, false, List, [], length, refl}
-use Rattle.std.proofs.Common.{sym, ap, ◌∙◌, subst}
+use Rattle.std.proofs.Common.{◌≡◌, ◌-◌, Bool, true, false, List, [], length, refl, sym, ap, ◌∙◌, subst}
 use Rattle.std.specs.Prelude.{if◌then◌else◌, pos, ◌*ℤ◌}
 use Rattle.suit_lists.proofs.Firsts.{HasFirst}
 use Rattle.suit_cards.specs.Cards.{ClassLayout}
 use Rattle.suit_game.specs.declared.question.Question.{Question}
+use Rattle.suit_game.specs.declared.limits.TheConstants.{MOST_MOVES}
 use Rattle.suit_classes.specs.declared.class_moves.ClassMove.{ClassMove}
 use Rattle.suit_classes.specs.ClassGame.{Allows}
 use Rattle.suit_classes.specs.ClassPlaces.{class_after, class_decided, class_moves, class_payoff}
@@ -31,7 +31,7 @@ module _ (question : Question) (plan : Plan) (defence : Defence) (west : ClassLa
       → worth met history
       ≡ pos (class_payoff (class_after question history))
       *ℤ (plan_mass question plan history *ℤ defence_mass question defence west history)
-  met_over history decided = ended_worth met (52 - length history) history (ap (λ (b : Bool). if b then []
+  met_over history decided = ended_worth met (MOST_MOVES - length history) history (ap (λ (b : Bool). if b then []
       else legal history) decided)
 
   -- and else the sum over the class moves

@@ -7,6 +7,7 @@ use Rattle.std.proofs.Math.IntN.{*ℤ_comm}
 use Rattle.suit_cards.specs.Cards.{ClassLayout}
 use Rattle.suit_num.proofs.IntegerLaws.{mul-add_left, mul-neg_left, mul_left_comm}
 use Rattle.suit_game.specs.declared.question.Question.{Question}
+use Rattle.suit_game.specs.declared.limits.TheConstants.{MOST_MOVES}
 use Rattle.suit_classes.specs.declared.class_moves.ClassMove.{ClassMove}
 use Rattle.suit_classes.specs.ClassMoves.{same_class_move}
 use Rattle.suit_classes.specs.ClassPlaces.{class_after, class_moves, class_payoff, class_turn}
@@ -155,7 +156,7 @@ module _ (question : Question) (support : Support) (k : ℤ) (first second all :
       (λ layout. pos layout.1 *ℤ worth_at question support all layout.0 []) (layouts_of question)
       (λ layout. times_linear (pos layout.1) k (worth_at question support first layout.0 [])
       (worth_at question support second layout.0 []) (worth_at question support all layout.0 [])
-      (within_linear 53 layout.0 []))
+      (within_linear (suc MOST_MOVES) layout.0 []))
 
   -- ---- rows
 
@@ -181,7 +182,7 @@ module _ (question : Question) (support : Support) (k : ℤ) (first second all :
       (worth_at question support first west (history ++ move ∷ []))
       (worth_at question support second west (history ++ move ∷ []))
       (worth_at question support all west (history ++ move ∷ [])) (combined.at (Held west history))
-      (within_linear (53 - length (history ++ move ∷ [])) west (history ++ move ∷ []))
+      (within_linear (suc MOST_MOVES - length (history ++ move ∷ [])) west (history ++ move ∷ []))
 
 -- ---- the numbers of a program
 

@@ -11,6 +11,7 @@ use Rattle.suit_cards.specs.Cards.{ClassLayout}
 use Rattle.suit_num.proofs.IntegerLaws.{le-mul_right, mul-sub_right, mul_not_negative, mul_right_comm}
 use Rattle.suit_game.specs.declared.question.Question.{Question}
 use Rattle.suit_game.specs.Validity.{IsValid}
+use Rattle.suit_game.specs.declared.limits.TheConstants.{HAND_SIZE, MOST_MOVES}
 use Rattle.suit_plans.specs.Masses.{mass_from, mass_of}
 use Rattle.suit_plans.specs.Properness.{sum_of}
 use Rattle.suit_plans.specs.ReplyLaws.{IsPaid}
@@ -52,23 +53,23 @@ given_low (column ∷ all) given wanted low =
 pub thirteen_each : (question : Question) (worths : ClassLayout × ℕ → ℤ) (den : ℤ)
     → ((layout : ClassLayout × ℕ) → Contains (layouts_of question) layout → IsPaid den (worths layout))
     → sum_of (map (λ (layout : ClassLayout × ℕ). pos layout.1 *ℤ worths layout) (layouts_of question))
-    ≤ℤ (sum_of (map (λ (layout : ClassLayout × ℕ). pos layout.1 *ℤ pos 13) (layouts_of question)) *ℤ den)
+    ≤ℤ (sum_of (map (λ (layout : ClassLayout × ℕ). pos layout.1 *ℤ pos HAND_SIZE) (layouts_of question)) *ℤ den)
 thirteen_each question worths den paid =
     let layouts : List (ClassLayout × ℕ) = layouts_of question in
-    let thirteen : ClassLayout × ℕ → ℤ = λ layout. pos layout.1 *ℤ pos 13 in
+    let thirteen : ClassLayout × ℕ → ℤ = λ layout. pos layout.1 *ℤ pos HAND_SIZE in
     subst (λ (z : ℤ). sum_of (map (λ (layout : ClassLayout × ℕ). pos layout.1 *ℤ worths layout) layouts) ≤ℤ z)
     (sym (*ℤ_comm (sum_of (map thirteen layouts)) den ∙ sum_times den thirteen layouts))
     (sum_le (λ layout. pos layout.1 *ℤ worths layout) (λ layout. den *ℤ thirteen layout) layouts
     (λ layout found. weighed (pos layout.1) den (worths layout) (omega (arith, ints)) (paid layout found)))
   where
     weighed : (weight den worth : ℤ) → pos 0 ≤ℤ weight → IsPaid den worth
-        → (weight *ℤ worth) ≤ℤ (den *ℤ (weight *ℤ pos 13))
+        → (weight *ℤ worth) ≤ℤ (den *ℤ (weight *ℤ pos HAND_SIZE))
     weighed weight den worth low paid =
-        subst (λ (z : ℤ). z ≤ℤ (den *ℤ (weight *ℤ pos 13))) (*ℤ_comm worth weight)
+        subst (λ (z : ℤ). z ≤ℤ (den *ℤ (weight *ℤ pos HAND_SIZE))) (*ℤ_comm worth weight)
         (subst (λ (z : ℤ). (worth *ℤ weight) ≤ℤ z)
-        (mul_right_comm (pos 13) den weight ∙ ap (λ (z : ℤ). z *ℤ den) (*ℤ_comm (pos 13) weight)
-        ∙ *ℤ_comm (weight *ℤ pos 13) den)
-        (le-mul_right worth (pos 13 *ℤ den) weight paid.few low))
+        (mul_right_comm (pos HAND_SIZE) den weight ∙ ap (λ (z : ℤ). z *ℤ den) (*ℤ_comm (pos HAND_SIZE) weight)
+        ∙ *ℤ_comm (weight *ℤ pos HAND_SIZE) den)
+        (le-mul_right worth (pos HAND_SIZE *ℤ den) weight paid.few low))
 
 module _ (question : Question) (support : Support) (valid : IsValid question) (given : ℕ → ℤ) (den : ℤ)
     (feasible : IsFeasible (program_of question support) given den) where
@@ -108,17 +109,17 @@ module _ (question : Question) (support : Support) (valid : IsValid question) (g
   unfolding mass_of mass_from
   start_paid layout listed =
       within_paid question support point layout.0 (λ history. is_reached question support layout.0 history ≡ true)
-      feasible_positive (kept_within question support valid point feasible_within layout listed) 53 []
+      feasible_positive (kept_within question support valid point feasible_within layout listed) (suc MOST_MOVES) []
       (reached_none question support layout.0) refl
 
   pub objective_paid : objective_at question support point
-      ≤ℤ (sum_of (map (λ (layout : ClassLayout × ℕ). pos layout.1 *ℤ pos 13) (layouts_of question)) *ℤ den)
+      ≤ℤ (sum_of (map (λ (layout : ClassLayout × ℕ). pos layout.1 *ℤ pos HAND_SIZE) (layouts_of question)) *ℤ den)
   unfolding objective_at
   objective_paid = thirteen_each question (λ layout. worth_at question support point layout.0 []) den start_paid
 
 pub programs_are_bounded : ProgramsAreBounded
 programs_are_bounded question support valid =
-    let most : ℤ = sum_of (map (λ (layout : ClassLayout × ℕ). pos layout.1 *ℤ pos 13) (layouts_of question)) in
+    let most : ℤ = sum_of (map (λ (layout : ClassLayout × ℕ). pos layout.1 *ℤ pos HAND_SIZE) (layouts_of question)) in
     let none : ℤ = objective_at question support no_point in (
       most -ℤ none,
       λ given den feasible.

@@ -1,12 +1,13 @@
 -- Points that lie under the path to a class history: masses at them are at most 1, and worths at most thirteen tricks
 -- (`tame_worths`).
-use Rattle.std.proofs.Common.{◌≡◌, ℕ, true, List, [], ◌∷◌, ◌++◌, refl, sym, subst, inl, inr, arith}
+use Rattle.std.proofs.Common.{◌≡◌, ℕ, true, List, [], ◌∷◌, ◌++◌, refl, sym, subst, inl, inr, arith, suc}
 use Rattle.std.specs.Prelude.{Contains, ℤ, pos, ◌+ℤ◌, ◌-ℤ◌, ◌*ℤ◌, ◌≤ℤ◌, ◌-◌, length}
 use Rattle.std.proofs.lemmas.Int.{ints}
 use Rattle.suit_lists.proofs.Elements.{Contains-cons_cases, Contains-nil, Contains-same}
 use Rattle.suit_cards.specs.Cards.{ClassLayout}
 use Rattle.suit_game.specs.declared.question.Question.{Question}
 use Rattle.suit_game.specs.Validity.{IsValid}
+use Rattle.suit_game.specs.declared.limits.TheConstants.{HAND_SIZE, MOST_MOVES}
 use Rattle.suit_classes.specs.declared.class_moves.ClassMove.{ClassMove}
 use Rattle.suit_plans.specs.Masses.{mass_from, mass_of}
 use Rattle.suit_plans.specs.ReplyLaws.{IsPaid}
@@ -140,7 +141,8 @@ module _ (question : Question) (support : Support) (valid : IsValid question) (t
   pub path_paid : (history : List ClassMove) → is_reached question support layout.0 history ≡ true
       → IsPaid (mass_on history) (worth_at question support (path target) layout.0 history)
   path_paid history reached =
-      within_paid question support (path target) layout.0 Along (path_positive target) kept (53 - length history)
+      within_paid question support (path target) layout.0 Along (path_positive target) kept
+      (suc MOST_MOVES - length history)
       history (reached_along history reached) refl
 
 -- ---- under the path
@@ -195,15 +197,15 @@ module _ (question : Question) (support : Support) (valid : IsValid question) (p
       }
 
   pub tame_worths : (history : List ClassMove) → is_reached question support layout.0 history ≡ true
-      → IsBetween (pos 13) (worth_at question support point layout.0 history)
+      → IsBetween (pos HAND_SIZE) (worth_at question support point layout.0 history)
   tame_worths history reached =
       let along = reached_along question support valid tame.target layout listed history reached in
       let paid = path_paid question support valid tame.target layout listed history reached in
-      let more : ℕ = 53 - length history in
+      let more : ℕ = suc MOST_MOVES - length history in
       record {
         low = within_low question support point tame.positive more layout.0 history;
         few = le_trans (worth_at question support point layout.0 history)
-            (worth_at question support whole layout.0 history) (pos 13)
+            (worth_at question support whole layout.0 history) (pos HAND_SIZE)
             (less (worth_at question support whole layout.0 history) (worth_at question support point layout.0 history)
             (worth_at question support (rest_of point whole) layout.0 history)
             (within_linear question support (pos 1) point (rest_of point whole) whole (rest_combined point whole) more
@@ -213,7 +215,7 @@ module _ (question : Question) (support : Support) (valid : IsValid question) (p
             along.most paid.few);
       }
     where
-      thirteen : (mass worth : ℤ) → mass ≤ℤ pos 1 → worth ≤ℤ (pos 13 *ℤ mass) → worth ≤ℤ pos 13
+      thirteen : (mass worth : ℤ) → mass ≤ℤ pos 1 → worth ≤ℤ (pos HAND_SIZE *ℤ mass) → worth ≤ℤ pos HAND_SIZE
       thirteen mass worth most few = omega (arith, ints, most, few)
 
   pub tame_sums : (history : List ClassMove) → is_reached question support layout.0 history ≡ true

@@ -1,5 +1,5 @@
 -- Every support's program is well formed (`programs_are_well_formed`): no bound is negative, all numbers are narrow.
-use Rattle.std.proofs.Common.{◌≡◌, ℕ, ◌<◌, ◌≤◌, Bool, true, false, List, [], ◌∷◌, ◌++◌, length, map, refl, sym}
+use Rattle.std.proofs.Common.{◌≡◌, ℕ, ◌<◌, ◌≤◌, Bool, true, false, List, [], ◌∷◌, ◌++◌, length, map, refl, sym, suc}
 use Rattle.std.proofs.Common.{ap, ◌∙◌, arith}
 use Rattle.std.specs.Prelude.{All, ◌&&◌, ◌^◌, if◌then◌else◌, ℤ, pos, negsuc, neg_ℤ, ◌-ℤ◌, ◌*ℤ◌, ◌≤ℤ◌, ◌-◌, bytes_eq}
 use Rattle.std.proofs.lemmas.Bool.{and_parts}
@@ -12,7 +12,7 @@ use Rattle.suit_game.specs.declared.question.Question.{Question}
 use Rattle.suit_game.specs.Layouts.{total}
 use Rattle.suit_game.specs.Validity.{IsValid}
 use Rattle.suit_game.proofs.WhatAllLayoutsWeigh.{total_at_most}
-use Rattle.suit_game.specs.declared.limits.TheConstants.{MOST_TOTAL}
+use Rattle.suit_game.specs.declared.limits.TheConstants.{HAND_SIZE, MOST_MOVES, MOST_TOTAL}
 use Rattle.suit_classes.specs.declared.class_moves.ClassMove.{ClassMove}
 use Rattle.suit_classes.specs.ClassMoves.{same_class_move}
 use Rattle.suit_classes.proofs.SameMoves.{same_move_is}
@@ -101,15 +101,15 @@ none_tame = record {
 
 -- a number of at most thirteen tricks, or less than nothing
 record IsTiny (number : ℤ) : Type 0 where
-  low : neg_ℤ (pos 13) ≤ℤ number
+  low : neg_ℤ (pos HAND_SIZE) ≤ℤ number
   few : number ≤ℤ pos 1
 
-difference_tiny : (x y : ℤ) → IsBetween (pos 1) x → IsBetween (pos 13) y → IsTiny (x -ℤ y)
+difference_tiny : (x y : ℤ) → IsBetween (pos 1) x → IsBetween (pos HAND_SIZE) y → IsTiny (x -ℤ y)
 difference_tiny x y first second =
     let a = first.low in let b = first.few in let c = second.low in let d = second.few in
     record { low = omega (arith, ints, a, b, c, d); few = omega (arith, ints, a, b, c, d) }
 
-wider : (x : ℤ) → IsBetween (pos 1) x → IsBetween (pos 13) x
+wider : (x : ℤ) → IsBetween (pos 1) x → IsBetween (pos HAND_SIZE) x
 wider x between = let a = between.low in let b = between.few in
     record { low = a; few = omega (arith, ints, b) }
 
@@ -121,12 +121,12 @@ narrow_within (negsuc n) most low few below = omega (arith, ints, low, few, belo
 tiny_narrow : (number : ℤ) → IsTiny number → IsNarrow number
 tiny_narrow number tiny =
     let a = tiny.low in let b = tiny.few in
-    narrow_within number 13 (omega (arith, ints, a)) (omega (arith, ints, b)) (omega arith)
+    narrow_within number HAND_SIZE (omega (arith, ints, a)) (omega (arith, ints, b)) (omega arith)
 
 neg_narrow : (number : ℤ) → IsTiny number → IsNarrow (neg_ℤ number)
 neg_narrow number tiny =
     let a = tiny.low in let b = tiny.few in
-    narrow_within (neg_ℤ number) 13 (omega (arith, ints, a, b)) (omega (arith, ints, a, b)) (omega arith)
+    narrow_within (neg_ℤ number) HAND_SIZE (omega (arith, ints, a, b)) (omega (arith, ints, a, b)) (omega arith)
 
 module _ (question : Question) (support : Support) (valid : IsValid question) where
   excess_tiny : (point : Point) → IsTame point → (limit : Limit) → StandsAt question support limit
@@ -154,19 +154,20 @@ module _ (question : Question) (support : Support) (valid : IsValid question) wh
       → objective_at question support point ≤ℤ pos 135207800
   unfolding objective_at
   objective_few point tame =
-      let most : ℤ = sum_of (map (λ (layout : ClassLayout × ℕ). pos layout.1 *ℤ pos 13) (layouts_of question)) in
+      let most : ℤ = sum_of (map (λ (layout : ClassLayout × ℕ). pos layout.1 *ℤ pos HAND_SIZE) (layouts_of question)) in
       let all = thirteen_each question (λ layout. worth_at question support point layout.0 []) (pos 1)
       (λ layout found. paid (worth_at question support point layout.0 [])
       (tame_worths question support valid point tame layout found []
       (reached_none question support layout.0))) in
-      let weighs : most ≡ pos (total question) *ℤ pos 13 =
-      sum_weighed (pos 13) (layouts_of question) ∙ ap (λ (n : ℕ). pos n *ℤ pos 13) (weights_add question) in
+      let weighs : most ≡ pos (total question) *ℤ pos HAND_SIZE =
+      sum_weighed (pos HAND_SIZE) (layouts_of question) ∙ ap (λ (n : ℕ). pos n *ℤ pos HAND_SIZE)
+      (weights_add question) in
       limited (objective_at question support point) most (total question) all weighs (total_at_most question valid)
     where
-      paid : (worth : ℤ) → IsBetween (pos 13) worth → IsPaid (pos 1) worth
+      paid : (worth : ℤ) → IsBetween (pos HAND_SIZE) worth → IsPaid (pos 1) worth
       paid worth between = record { some = between.low; few = let a = between.few in omega (arith, ints, a) }
 
-      limited : (number most : ℤ) (weight : ℕ) → number ≤ℤ (most *ℤ pos 1) → most ≡ pos weight *ℤ pos 13
+      limited : (number most : ℤ) (weight : ℕ) → number ≤ℤ (most *ℤ pos 1) → most ≡ pos weight *ℤ pos HAND_SIZE
           → weight ≤ MOST_TOTAL → number ≤ℤ pos 135207800
       limited number most weight le is few = omega (arith, ints, le, is, few)
 
@@ -189,7 +190,8 @@ module _ (question : Question) (support : Support) (valid : IsValid question) wh
       turned x y none low = omega (arith, ints, none, low)
   bound_low (Answered west history move) =
       turned (worth_at question support no_point west (history ++ move ∷ []))
-      (within_low question support no_point none_positive (53 - length (history ++ move ∷ [])) west (history ++ move
+      (within_low question support no_point none_positive (suc MOST_MOVES - length (history ++ move ∷ [])) west
+      (history ++ move
       ∷ []))
     where
       turned : (y : ℤ) → pos 0 ≤ℤ y → pos 0 ≤ℤ neg_ℤ (pos 0 -ℤ y)

@@ -8,6 +8,7 @@ use Rattle.suit_lists.proofs.Firsts.{HasFirst}
 use Rattle.suit_cards.specs.Cards.{ClassLayout}
 use Rattle.suit_game.specs.declared.question.Question.{Question}
 use Rattle.suit_game.specs.Validity.{IsValid}
+use Rattle.suit_game.specs.declared.limits.TheConstants.{HAND_SIZE}
 use Rattle.suit_classes.specs.declared.class_moves.ClassMove.{ClassMove}
 use Rattle.suit_classes.specs.ClassPlaces.{class_after, class_turn}
 use Rattle.suit_plans.specs.Masses.{is_defences}
@@ -110,4 +111,4 @@ module _ (question : Question) (support : Support) (valid : IsValid question) (p
       where
         held_paid : (mass worth held : ℤ) → pos 0 ≤ℤ held → held ≤ℤ worth → IsPaid mass worth → IsPaid mass held
         held_paid mass worth held low le paid =
-            record { some = low; few = le_trans held worth (pos 13 *ℤ mass) le paid.few }
+            record { some = low; few = le_trans held worth (pos HAND_SIZE *ℤ mass) le paid.few }

@@ -14,6 +14,7 @@ use Rattle.suit_lists.proofs.Maps.{map_same, map_twice}
 use Rattle.suit_cards.specs.Cards.{ClassLayout}
 use Rattle.suit_num.proofs.IntegerLaws.{mul-add_left}
 use Rattle.suit_game.specs.declared.question.Question.{Question}
+use Rattle.suit_game.specs.declared.limits.TheConstants.{MOST_MOVES}
 use Rattle.suit_classes.specs.declared.class_moves.ClassMove.{ClassMove}
 use Rattle.suit_plans.specs.Properness.{sum_of}
 use Rattle.suit_plans.proofs.NumberSums.{sum_nothing}
@@ -236,7 +237,7 @@ module _ (question : Question) (support : Support) (prices : List ℤ) (scale : 
 
     -- where declarer's rows are kept exactly
     pub exceeds_by_play : exceeds point
-        ≡ sum_of (map (λ layout. play_sum question support (part_of point) 52 layout []) (layouts_of question))
+        ≡ sum_of (map (λ layout. play_sum question support (part_of point) MOST_MOVES layout []) (layouts_of question))
     unfolding limits reached_layouts
     exceeds_by_play =
         priced_by_names (limits question support) prices (excess question support point) (limits_once question support)
@@ -247,6 +248,6 @@ module _ (question : Question) (support : Support) (prices : List ℤ) (scale : 
         (reached_histories question support) (λ history found. history_part history))
         ∙ rows_by_play question support (part_of point)
         ∙ ap (λ (l : List (ClassLayout × ℕ)). sum_of (map (λ layout. play_sum question support
-            (part_of point) 52 layout [])
+        (part_of point) MOST_MOVES layout [])
         l)) (filter_all (λ (layout : ClassLayout × ℕ). is_reached question support layout.0 []) (layouts_of question)
         (λ layout. reached_none question support layout.0))

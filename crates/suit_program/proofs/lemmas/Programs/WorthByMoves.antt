@@ -14,6 +14,7 @@ use Rattle.suit_lists.proofs.Maps.{map_same}
 use Rattle.suit_cards.specs.Cards.{ClassLayout}
 use Rattle.suit_game.specs.declared.question.Question.{Question}
 use Rattle.suit_game.specs.Validity.{IsValid}
+use Rattle.suit_game.specs.declared.limits.TheConstants.{MOST_MOVES}
 use Rattle.std.proofs.lemmas.Bool.{false≢true}
 use Rattle.suit_classes.specs.declared.class_moves.ClassMove.{ClassMove}
 use Rattle.suit_classes.specs.WhatIsAllowed.{every_move, is_among}
@@ -39,28 +40,31 @@ same_bools false false there back = refl
 
 -- ---- worths
 
-fuel_here : (history : List ClassMove) → length history ≤ 52 → 53 - length history ≡ suc (52 - length history)
+fuel_here : (history : List ClassMove) → length history ≤ MOST_MOVES
+    → suc MOST_MOVES - length history ≡ suc (MOST_MOVES - length history)
 fuel_here history short = omega arith
 
-fuel_next : (history : List ClassMove) (move : ClassMove) → 52 - length history ≡ 53 - length (history ++ move ∷ [])
+fuel_next : (history : List ClassMove) (move : ClassMove)
+    → MOST_MOVES - length history ≡ suc MOST_MOVES - length (history ++ move ∷ [])
 fuel_next history move = omega (arith, length-append history (move ∷ []))
 
 module _ (question : Question) (support : Support) (point : Point) (west : ClassLayout) (history : List ClassMove)
-    (short : length history ≤ 52) where
+    (short : length history ≤ MOST_MOVES) where
   here_within : worth_at question support point west history
-      ≡ worth_within question support point (suc (52 - length history)) west history
+      ≡ worth_within question support point (suc (MOST_MOVES - length history)) west history
   here_within = ap (λ (n : ℕ). worth_within question support point n west history) (fuel_here history short)
 
   -- a choice of the defence is worth its column
   pub worth_held : defence_chooses question west history ≡ true
       → worth_at question support point west history ≡ point.at (Held west history)
-  worth_held chooses = here_within ∙ choosing question support point west (52 - length history) history chooses
+  worth_held chooses = here_within ∙ choosing question support point west (MOST_MOVES - length history) history chooses
 
   -- where play is over there is the payoff
   pub worth_paid : defence_chooses question west history ≡ false → supported_moves question support west history ≡ []
       → worth_at question support point west history
       ≡ pos (class_payoff (class_after question history)) *ℤ mass_at question support point history
-  worth_paid not none = here_within ∙ going question support point west (52 - length history) history [] not none
+  worth_paid not none = here_within ∙ going question support point west (MOST_MOVES - length history)
+      history [] not none
 
   -- and else the sum
   pub worth_summed : (moves : List ClassMove) → defence_chooses question west history ≡ false
@@ -69,8 +73,8 @@ module _ (question : Question) (support : Support) (point : Point) (west : Class
       ≡ sum_of (map (λ move. worth_at question support point west (history ++ move ∷ [])) moves)
   worth_summed moves not is some =
       let next : ClassMove → ℤ =
-      λ move. worth_within question support point (52 - length history) west (history ++ move ∷ []) in
-      here_within ∙ going question support point west (52 - length history) history moves not is
+      λ move. worth_within question support point (MOST_MOVES - length history) west (history ++ move ∷ []) in
+      here_within ∙ going question support point west (MOST_MOVES - length history) history moves not is
       ∙ some_summed question support point history next moves some
       ∙ ap sum_of (map_same next (λ move. worth_at question support point west (history ++ move ∷ [])) moves
       (λ move found. ap (λ (n : ℕ). worth_within question support point n west (history ++ move ∷ []))
@@ -79,7 +83,7 @@ module _ (question : Question) (support : Support) (point : Point) (west : Class
 -- what is reached is short
 pub reached_short : (question : Question) (support : Support) → IsValid question → (layout : ClassLayout × ℕ)
     → Contains (layouts_of question) layout → (history : List ClassMove)
-    → is_reached question support layout.0 history ≡ true → length history ≤ 52
+    → is_reached question support layout.0 history ≡ true → length history ≤ MOST_MOVES
 reached_short question support valid layout listed history reached =
     class_histories_are_short question layout.0 history
     (reached_allows question support valid layout listed history reached)

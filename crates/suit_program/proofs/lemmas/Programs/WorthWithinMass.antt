@@ -11,6 +11,7 @@ use Rattle.suit_lists.proofs.Maps.{map_same}
 use Rattle.suit_cards.specs.Cards.{ClassLayout}
 use Rattle.suit_num.proofs.IntegerLaws.{mul_not_negative}
 use Rattle.suit_game.specs.declared.question.Question.{Question}
+use Rattle.suit_game.specs.declared.limits.TheConstants.{HAND_SIZE, MOST_MOVES}
 use Rattle.suit_classes.specs.declared.class_moves.ClassMove.{ClassMove}
 use Rattle.suit_classes.specs.ClassMoves.{same_class_move}
 use Rattle.suit_classes.specs.ClassPlaces.{class_after, class_moves, class_payoff, class_turn}
@@ -92,7 +93,7 @@ module _ (question : Question) (support : Support) (point : Point) (positive : I
       sum_positive (λ (layout : ClassLayout × ℕ). pos layout.1 *ℤ worth_at question support point layout.0 [])
       (layouts_of question)
       (λ layout found. mul_not_negative (pos layout.1) (worth_at question support point layout.0 [])
-      (omega (arith, ints)) (within_low 53 layout.0 []))
+      (omega (arith, ints)) (within_low (suc MOST_MOVES) layout.0 []))
 
 -- ---- and at most thirteen tricks
 
@@ -117,8 +118,8 @@ some_summed question support point history f [] some = absurd (nothing some.part
     nothing is = cc
 some_summed question support point history f (move ∷ moves) some = refl
 
-pub left_next : (history : List ClassMove) (move : ClassMove) (more : ℕ) → suc more ≡ 53 - length history
-    → more ≡ 53 - length (history ++ move ∷ [])
+pub left_next : (history : List ClassMove) (move : ClassMove) (more : ℕ) → suc more ≡ suc MOST_MOVES - length history
+    → more ≡ suc MOST_MOVES - length (history ++ move ∷ [])
 left_next history move more left = omega (arith, left, length-append history (move ∷ []))
 
 -- what keeps within the rows in one class layout
@@ -126,7 +127,7 @@ pub record AreKept (question : Question) (support : Support) (point : Point) (we
     (Fits : List ClassMove → Type 0) : Type 0 where
   pub goes : (history : List ClassMove) (move : ClassMove) → Fits history
       → Contains (supported_moves question support west history) move → Fits (history ++ move ∷ [])
-  pub payoffs : (history : List ClassMove) → Fits history → class_payoff (class_after question history) ≤ 13
+  pub payoffs : (history : List ClassMove) → Fits history → class_payoff (class_after question history) ≤ HAND_SIZE
   pub shared : (history : List ClassMove) → Fits history → declarer_chooses question history ≡ true
       → sum_passed question support point history ≤ℤ mass_at question support point history
   pub held : (history : List ClassMove) → Fits history → defence_chooses question west history ≡ true
@@ -188,7 +189,7 @@ module _ (question : Question) (support : Support) (point : Point) (west : Class
       (λ move found. paid move (Contains-same move (sym same) found)))
       (subst (λ (z : ℤ). z ≤ℤ mass history) (sym passes) (kept.shared history fits chooses))
 
-  turn_paid : (more : ℕ) (history : List ClassMove) → Fits history → suc more ≡ 53 - length history
+  turn_paid : (more : ℕ) (history : List ClassMove) → Fits history → suc more ≡ suc MOST_MOVES - length history
       → ArePaid more history → TurnAt question support west history
       → IsPaid (mass history) (worth_within question support point (suc more) west history)
   turn_paid more history fits left paid (Ended over none not_theirs) =
@@ -217,7 +218,7 @@ module _ (question : Question) (support : Support) (point : Point) (west : Class
       (subst (λ (z : ℤ). IsPaid z (next more history move)) (same point move) (paid move found))))
 
   -- with whatever number of moves
-  pub within_paid : (more : ℕ) (history : List ClassMove) → Fits history → more ≡ 53 - length history
+  pub within_paid : (more : ℕ) (history : List ClassMove) → Fits history → more ≡ suc MOST_MOVES - length history
       → IsPaid (mass history) (worth_within question support point more west history)
   unfolding worth_within
   within_paid zero history fits left = record {
@@ -225,7 +226,7 @@ module _ (question : Question) (support : Support) (point : Point) (west : Class
     few = nothing_low (mass history) (masses_low question support point positive history);
   }
     where
-      nothing_low : (z : ℤ) → pos 0 ≤ℤ z → pos 0 ≤ℤ (pos 13 *ℤ z)
+      nothing_low : (z : ℤ) → pos 0 ≤ℤ z → pos 0 ≤ℤ (pos HAND_SIZE *ℤ z)
       nothing_low z low = omega (arith, ints, low)
   within_paid (suc more) history fits left =
       turn_paid more history fits left

@@ -20,6 +20,7 @@ use Rattle.suit_lists.proofs.Maps.{Contains-map_from, map_same}
 use Rattle.suit_lists.proofs.Tests.{passing_some, some_passing}
 use Rattle.suit_game.specs.declared.question.Question.{Question}
 use Rattle.suit_game.specs.Validity.{IsValid}
+use Rattle.suit_game.specs.declared.limits.TheConstants.{MOST_MOVES}
 use Rattle.suit_classes.specs.declared.class_moves.ClassMove.{ClassMove}
 use Rattle.suit_classes.specs.WhatIsAllowed.{every_move, is_among}
 use Rattle.suit_classes.specs.ClassMoves.{same_class_move}
@@ -144,12 +145,12 @@ module _ (question : Question) (support : Support) (valid : IsValid question) (p
 
   -- ---- fuel
 
-  room_left : (history : List ClassMove) (move : ClassMove) (more : ℕ) → suc more ≡ 52 - length history
-      → 53 - length (history ++ move ∷ []) ≡ suc more
+  room_left : (history : List ClassMove) (move : ClassMove) (more : ℕ) → suc more ≡ MOST_MOVES - length history
+      → suc MOST_MOVES - length (history ++ move ∷ []) ≡ suc more
   room_left history move more left = omega (arith, left, length-append history (move ∷ []))
 
-  more_left : (history : List ClassMove) (move : ClassMove) (more : ℕ) → suc more ≡ 52 - length history
-      → more ≡ 52 - length (history ++ move ∷ [])
+  more_left : (history : List ClassMove) (move : ClassMove) (more : ℕ) → suc more ≡ MOST_MOVES - length history
+      → more ≡ MOST_MOVES - length (history ++ move ∷ [])
   more_left history move more left = omega (arith, left, length-append history (move ∷ []))
 
   -- ---- a turn of declarer's
@@ -390,7 +391,8 @@ module _ (question : Question) (support : Support) (valid : IsValid question) (p
       (public_kept history layout there not_over)))
 
   -- in a class layout at a choice of the defence
-  choice_held : (more : ℕ) (history : List ClassMove) (layout : ClassLayout × ℕ) → suc more ≡ 52 - length history
+  choice_held : (more : ℕ) (history : List ClassMove) (layout : ClassLayout × ℕ)
+      → suc more ≡ MOST_MOVES - length history
       → defence_chooses question layout.0 history ≡ true
       → sum_of (map (λ move. held more (history ++ move ∷ []) layout)
       (supported_moves question support layout.0 history)) ≡ held (suc more) history layout
@@ -420,7 +422,7 @@ module _ (question : Question) (support : Support) (valid : IsValid question) (p
           let product : b *ℤ v ≡ b *ℤ pos 0 = ap (λ (z : ℤ). b *ℤ z) none in
           omega (arith, ints, each, parted, product, turned)
 
-  turn_held : (more : ℕ) (history : List ClassMove) (layout : ClassLayout × ℕ) → suc more ≡ 52 - length history
+  turn_held : (more : ℕ) (history : List ClassMove) (layout : ClassLayout × ℕ) → suc more ≡ MOST_MOVES - length history
       → is_reached question support layout.0 history ≡ true
       → is_declarers (class_turn (class_after question history)) ≡ false
       → TurnAt question support layout.0 history
@@ -464,7 +466,7 @@ module _ (question : Question) (support : Support) (valid : IsValid question) (p
         | inr none ↦ inr (none_next layout listed history move before.0 before.1 there none)
       ]
 
-  theirs_under : (more : ℕ) (history : List ClassMove) → IsGoing history → suc more ≡ 52 - length history
+  theirs_under : (more : ℕ) (history : List ClassMove) → IsGoing history → suc more ≡ MOST_MOVES - length history
       → class_decided (class_after question history) ≡ false
       → is_declarers (class_turn (class_after question history)) ≡ false
       → is_defences (class_turn (class_after question history)) ≡ true
@@ -503,7 +505,7 @@ module _ (question : Question) (support : Support) (valid : IsValid question) (p
       let low = mass_positive question read valid proper history layout there in
       nothing (mass layout.0 history) low (int_lt-false (pos 0) (mass layout.0 history)
       (none_there (λ (other : ClassLayout × ℕ). int_lt (pos 0) (mass other.0 history))
-          (allowing_layouts question history)
+      (allowing_layouts question history)
       layout dead there))
     where
       nothing : (x : ℤ) → pos 0 ≤ℤ x → x ≤ℤ pos 0 → x ≡ pos 0
@@ -514,7 +516,7 @@ module _ (question : Question) (support : Support) (valid : IsValid question) (p
       none_there test xs x none found =
           false_from_ne_true (test x) (λ passes. false≢true (sym none ∙ passing_some test xs x found passes))
 
-  turn_under : (more : ℕ) (history : List ClassMove) → IsGoing history → suc more ≡ 52 - length history
+  turn_under : (more : ℕ) (history : List ClassMove) → IsGoing history → suc more ≡ MOST_MOVES - length history
       → NextUnder more history → reply.live history ≡ true → WhoseTurn (class_after question history)
       → IsUnder (suc more) history
   turn_under more history fits left next live (Over decided turn) =
@@ -534,7 +536,7 @@ module _ (question : Question) (support : Support) (valid : IsValid question) (p
       ]) next
 
   -- play with no move left is over
-  last_under : (history : List ClassMove) → IsGoing history → 0 ≡ 52 - length history
+  last_under : (history : List ClassMove) → IsGoing history → 0 ≡ MOST_MOVES - length history
       → WhoseTurn (class_after question history) → IsUnder 0 history
   last_under history fits left (Over decided turn) =
       over_under question support valid prices scale dual proper all 0 history fits.2 fits.3 decided
@@ -544,7 +546,7 @@ module _ (question : Question) (support : Support) (valid : IsValid question) (p
   last_under history fits left (Declarers not_over own not_theirs) =
       let short = room question read valid history fits.0 not_over in absurd (omega (arith, left, short))
 
-  all_under : (more : ℕ) (history : List ClassMove) → IsGoing history → more ≡ 52 - length history
+  all_under : (more : ℕ) (history : List ClassMove) → IsGoing history → more ≡ MOST_MOVES - length history
       → IsUnder more history
   all_under zero history fits left = last_under history fits left (whose_turn (class_after question history))
   all_under (suc more) history fits left = elim (cases_Bool (reply.live history)) [
@@ -562,21 +564,21 @@ module _ (question : Question) (support : Support) (valid : IsValid question) (p
   unfolding most follows read_mass read_from objective_at reached_layouts
   defence_holds value is =
       let layouts : List (ClassLayout × ℕ) = layouts_of question in
-      let worths : ClassLayout × ℕ → ℤ = λ layout. pos layout.1 *ℤ worth_z 53 layout.0 [] in
-      let plays : ClassLayout × ℕ → ℤ = λ layout. play 52 layout [] in
-      let under = all_under 52 [] (
+      let worths : ClassLayout × ℕ → ℤ = λ layout. pos layout.1 *ℤ worth_z (suc MOST_MOVES) layout.0 [] in
+      let plays : ClassLayout × ℕ → ℤ = λ layout. play MOST_MOVES layout [] in
+      let under = all_under MOST_MOVES [] (
         some_allow_none question valid,
         refl,
         chosen_none question support valid taken (takes question support valid prices scale dual proper all),
         λ layout there. inl (reached_none question support layout.0),
       ) refl in
-      let start : held_in_all 52 [] ≡ sum_of (map (λ layout. scale *ℤ worths layout -ℤ plays layout) layouts) =
-      ap (λ (l : List (ClassLayout × ℕ)). sum_of (map (held 52 []) l))
+      let start : held_in_all MOST_MOVES [] ≡ sum_of (map (λ layout. scale *ℤ worths layout -ℤ plays layout) layouts) =
+      ap (λ (l : List (ClassLayout × ℕ)). sum_of (map (held MOST_MOVES []) l))
       (filter_all (λ (layout : ClassLayout × ℕ). is_reached question support layout.0 []) layouts
       (λ layout. reached_none question support layout.0))
-      ∙ ap sum_of (map_same (held 52 []) (λ layout. scale *ℤ worths layout -ℤ plays layout) layouts
+      ∙ ap sum_of (map_same (held MOST_MOVES []) (λ layout. scale *ℤ worths layout -ℤ plays layout) layouts
       (λ layout found. ap (λ (z : ℤ). z -ℤ plays layout)
-      (weighed (weight_of question layout.0) layout.1 (worth_z 53 layout.0 [])
+      (weighed (weight_of question layout.0) layout.1 (worth_z (suc MOST_MOVES) layout.0 [])
       (weight_listed question layout found)))) in
       let parted = sum_less (λ layout. scale *ℤ worths layout) plays layouts in
       let times = sum_times scale worths layouts in
@@ -587,7 +589,7 @@ module _ (question : Question) (support : Support) (valid : IsValid question) (p
       (taken_columns question support valid taken (takes question support valid prices scale dual proper all)) is
       (λ column found. taken_listed question support valid taken
       (takes question support valid prices scale dual proper all) column found) in
-      finish (worth reply []) (held_in_all 52 [])
+      finish (worth reply []) (held_in_all MOST_MOVES [])
       (sum_of (map (λ layout. scale *ℤ worths layout -ℤ plays layout) layouts))
       (sum_of (map (λ layout. scale *ℤ worths layout) layouts)) (sum_of (map plays layouts))
       (scale *ℤ sum_of (map worths layouts)) (exceeds question support prices scale dual point)

@@ -16,6 +16,7 @@ use Rattle.suit_cards.specs.Cards.{ClassLayout}
 use Rattle.suit_num.proofs.IntegerLaws.{le-mul_right, mul-sub_left, mul_not_negative}
 use Rattle.suit_game.specs.declared.question.Question.{Question}
 use Rattle.suit_game.specs.Validity.{IsValid}
+use Rattle.suit_game.specs.declared.limits.TheConstants.{MOST_MOVES}
 use Rattle.suit_classes.specs.declared.class_moves.ClassMove.{ClassMove}
 use Rattle.suit_classes.specs.WhatIsAllowed.{allows, is_among}
 use Rattle.suit_classes.specs.ClassPlaces.{class_after, class_decided, class_moves, class_payoff, class_turn}
@@ -160,7 +161,7 @@ module _ (question : Question) (support : Support) (valid : IsValid question) (p
       let own = (and_parts (is_declarers (class_turn view)) (nat_lt 1 (length (legal_moves question [] history)))
       chooses).0 in
       let not_over = (own_turn view own).0 in
-      let short : length history ≤ 52 = class_histories_are_short question layout.0 history
+      let short : length history ≤ MOST_MOVES = class_histories_are_short question layout.0 history
       (reached_allows question support valid layout listed history reached) in
       let same : public_moves question history ≡ legal_moves question [] history =
       own_moves_on question valid history not_over layout
@@ -169,10 +170,11 @@ module _ (question : Question) (support : Support) (valid : IsValid question) (p
       ∙ sym (legal_going question support layout.0 history layout.0 not_over)
       ∙ sym (own_legal question support layout.0 history not_over own) in
       let chosen_there : Contains (choices reply) history =
-      Contains-filter (λ other. has_choice reply other && reply_reaches reply other) (histories_within 52 reply [])
+      Contains-filter (λ other. has_choice reply other && reply_reaches reply other)
+      (histories_within MOST_MOVES reply [])
       history
       (goes_within question support layout.0 reply
-      (λ other move there found. public_held layout listed other move there found) 52 [] history short
+      (λ other move there found. public_held layout listed other move there found) MOST_MOVES [] history short
       (reached_none question support layout.0) reached)
       (both_true (has_choice reply history) (reply_reaches reply history)
       (ap (λ (l : List ClassMove). is_declarers (class_turn view) && nat_lt 1 (length l)) same ∙ chooses)
@@ -304,7 +306,7 @@ module _ (question : Question) (support : Support) (valid : IsValid question) (p
   -- at a choice: what the prices of its moves are worth, turned
   pub part_choice : (more : ℕ) (history : List ClassMove) (layout : ClassLayout × ℕ)
       → defence_chooses question layout.0 history ≡ true
-      → ((move : ClassMove) → 53 - length (history ++ move ∷ []) ≡ more)
+      → ((move : ClassMove) → suc MOST_MOVES - length (history ++ move ∷ []) ≡ more)
       → part history layout ≡ pos 0 -ℤ sum_of (map (λ move. price layout.0 history move
       *ℤ worth_z more layout.0 (history ++ move ∷ [])) (supported_moves question support layout.0 history))
   part_choice more history layout chooses left =
@@ -340,7 +342,7 @@ module _ (question : Question) (support : Support) (valid : IsValid question) (p
           (λ move found. each (price layout.0 history move) (point.at (Held layout.0 history))
           (worth_at question support point layout.0 (history ++ move ∷ [])) (prices_low layout.0 history move)
           (point_held layout.0 history)
-          (worth_low (53 - length (history ++ move ∷ [])) layout.0 (history ++ move ∷ [])))
+          (worth_low (suc MOST_MOVES - length (history ++ move ∷ [])) layout.0 (history ++ move ∷ [])))
       at false = omega (arith, ints)
 
   pub play_low : (more : ℕ) (layout : ClassLayout × ℕ) (history : List ClassMove) → play more layout history ≤ℤ pos 0

@@ -19,6 +19,7 @@ use Rattle.suit_num.proofs.IntegerLaws.{int_lt-false, le-mul_right, le_from_mul,
 use Rattle.suit_num.proofs.IntegerLaws.{mul_not_negative, mul_not_positive}
 use Rattle.suit_game.specs.declared.question.Question.{Question}
 use Rattle.suit_game.specs.Validity.{IsValid}
+use Rattle.suit_game.specs.declared.limits.TheConstants.{HAND_SIZE, MOST_MOVES}
 use Rattle.suit_classes.specs.declared.class_moves.ClassMove.{ClassMove}
 use Rattle.suit_classes.specs.ClassMoves.{same_class_move}
 use Rattle.suit_classes.specs.ClassGame.{Allows}
@@ -315,7 +316,7 @@ module _ (question : Question) (support : Support) (point full : Point) (k : ℤ
   ended_below more history fits over none waits =
       let payoff : ℤ = pos (class_payoff (class_after question history)) in
       let earned : worth reply history ≡ payoff *ℤ mass history =
-      ended_worth reply (52 - length history) history over in
+      ended_worth reply (MOST_MOVES - length history) history over in
       subst (λ (z : ℤ). z ≤ℤ (k *ℤ worth reply history))
       (sym (going question support full west more history [] waits none))
       (subst (λ (z : ℤ). (payoff *ℤ mass_at question support full history) ≤ℤ z)
@@ -330,7 +331,7 @@ module _ (question : Question) (support : Support) (point full : Point) (k : ℤ
 
   -- there is room for a move
   short : (history : List ClassMove) (move : ClassMove) → Live history
-      → Contains (supported_moves question support west history) move → length history < 52
+      → Contains (supported_moves question support west history) move → length history < MOST_MOVES
   short history move fits found =
       let few = class_histories_are_short question west (history ++ move ∷ [])
       ((allowed_moves question west history move).1 (
@@ -340,7 +341,7 @@ module _ (question : Question) (support : Support) (point full : Point) (k : ℤ
       omega (arith, few, length-append history (move ∷ []))
 
   -- the only move of the reply
-  alone_worth : (history : List ClassMove) (move : ClassMove) → length history < 52
+  alone_worth : (history : List ClassMove) (move : ClassMove) → length history < MOST_MOVES
       → legal_moves question west history ≡ move ∷ [] → worth reply history ≡ worth reply (history ++ move ∷ [])
   alone_worth history move room alone =
       worth_next reply history room
@@ -380,7 +381,8 @@ module _ (question : Question) (support : Support) (point full : Point) (k : ℤ
       ]
 
   -- a move of declarer's that gets no mass is worth nothing at the point
-  dead_below : (more : ℕ) (history : List ClassMove) (move : ClassMove) → Live history → suc more ≡ 53 - length history
+  dead_below : (more : ℕ) (history : List ClassMove) (move : ClassMove) → Live history
+      → suc more ≡ suc MOST_MOVES - length history
       → Contains (supported_moves question support west history) move
       → int_lt (pos 0) (mass (history ++ move ∷ [])) ≡ false → IsBelow more (history ++ move ∷ [])
   dead_below more history move fits left found dead =
@@ -395,7 +397,7 @@ module _ (question : Question) (support : Support) (point full : Point) (k : ℤ
       (worth_low (history ++ move ∷ []) (reached_allows question support valid layout listed (history ++ move ∷ [])
       there)))
     where
-      none : (x y z w : ℤ) → x ≤ℤ (pos 13 *ℤ y) → y ≤ℤ (k *ℤ z) → z ≤ℤ pos 0 → pos 0 ≤ℤ w → x ≤ℤ w
+      none : (x y z w : ℤ) → x ≤ℤ (pos HAND_SIZE *ℤ y) → y ≤ℤ (k *ℤ z) → z ≤ℤ pos 0 → pos 0 ≤ℤ w → x ≤ℤ w
       none x y z w few le dead low =
           let some = part.over in
           let nothing = mul_not_positive z k dead (omega (arith, ints, some)) in
@@ -403,7 +405,7 @@ module _ (question : Question) (support : Support) (point full : Point) (k : ℤ
           omega (arith, ints, few, le, low, nothing, turned)
 
   one_below : (more : ℕ) (history : List ClassMove) (move : ClassMove) → Live history
-      → suc more ≡ 53 - length history → Contains (supported_moves question support west history) move
+      → suc more ≡ suc MOST_MOVES - length history → Contains (supported_moves question support west history) move
       → is_defences (class_turn (class_after question history)) ≡ false → NextBelow more history
       → IsBelow more (history ++ move ∷ [])
   one_below more history move fits left found not_theirs below =
@@ -417,7 +419,7 @@ module _ (question : Question) (support : Support) (point full : Point) (k : ℤ
         | inr dead ↦ dead_below more history move fits left found dead
       ]
 
-  own_below : (more : ℕ) (history : List ClassMove) → Live history → suc more ≡ 53 - length history
+  own_below : (more : ℕ) (history : List ClassMove) → Live history → suc more ≡ suc MOST_MOVES - length history
       → declarer_chooses question history ≡ true → defence_chooses question west history ≡ false
       → supported_moves question support west history ≡ supported_moves question support [] history
       → HasFirst (supported_moves question support [] history) → NextBelow more history → IsBelow (suc more) history
@@ -473,7 +475,7 @@ module _ (question : Question) (support : Support) (point full : Point) (k : ℤ
       (first_passes test (reply.moves history) from.0 found
       ((Decides-int_eq (worth reply (history ++ from.0 ∷ [])) (worth reply history)).1 from.2))
 
-  their_below : (more : ℕ) (history : List ClassMove) → Live history → suc more ≡ 53 - length history
+  their_below : (more : ℕ) (history : List ClassMove) → Live history → suc more ≡ suc MOST_MOVES - length history
       → defence_chooses question west history ≡ true → NextBelow more history → IsBelow (suc more) history
   their_below more history fits left chooses below =
       let move : ClassMove = reply_move reply history in
@@ -497,7 +499,7 @@ module _ (question : Question) (support : Support) (point full : Point) (k : ℤ
       (subst (λ (z : ℤ). next more history move ≤ℤ (k *ℤ z)) (reply_worth history fits chooses)
       (below move found live)))
 
-  turn_below : (more : ℕ) (history : List ClassMove) → Live history → suc more ≡ 53 - length history
+  turn_below : (more : ℕ) (history : List ClassMove) → Live history → suc more ≡ suc MOST_MOVES - length history
       → NextBelow more history → TurnAt question support west history → IsBelow (suc more) history
   turn_below more history fits left below (Ended over none waits) = ended_below more history fits over none waits
   turn_below more history fits left below (Forced move alone only nobody same) =
@@ -507,7 +509,8 @@ module _ (question : Question) (support : Support) (point full : Point) (k : ℤ
   turn_below more history fits left below (Theirs chooses some same) =
       their_below more history fits left chooses below
 
-  all_below : (more : ℕ) (history : List ClassMove) → Live history → more ≡ 53 - length history → IsBelow more history
+  all_below : (more : ℕ) (history : List ClassMove) → Live history → more ≡ suc MOST_MOVES - length history
+      → IsBelow more history
   unfolding worth_within
   all_below zero history fits left = times_low (worth reply history) (worth_low history (allowed history fits))
   all_below (suc more) history fits left =
@@ -520,7 +523,7 @@ module _ (question : Question) (support : Support) (point full : Point) (k : ℤ
       → worth_at question support full west [] ≤ℤ (k *ℤ worth reply [])
   unfolding follows
   start_below some =
-      all_below 53 [] (record {
+      all_below (suc MOST_MOVES) [] (record {
         reached = reached_none question support west;
         followed = refl;
         live = ap (int_lt (pos 0)) (start_mass question support point) ∙ some;

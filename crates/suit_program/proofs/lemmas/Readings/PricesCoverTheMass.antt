@@ -19,6 +19,7 @@ use Rattle.suit_cards.specs.Cards.{ClassLayout}
 use Rattle.suit_num.proofs.IntegerLaws.{int_lt-false, int_lt-true, mul-sub_left, mul_assoc, mul_not_negative}
 use Rattle.suit_game.specs.declared.question.Question.{Question}
 use Rattle.suit_game.specs.Validity.{IsValid}
+use Rattle.suit_game.specs.declared.limits.TheConstants.{MOST_MOVES}
 use Rattle.suit_classes.specs.declared.class_moves.ClassMove.{ClassMove}
 use Rattle.suit_classes.specs.WhatIsAllowed.{is_among}
 use Rattle.suit_classes.specs.ClassMoves.{same_class_move}
@@ -44,8 +45,7 @@ use Rattle.suit_program.proofs.lemmas.Programs.WithinTheRows.{their_only}
 use Rattle.suit_program.proofs.lemmas.Programs.WorthAtPrices.{exceeds, exceeds_by_play, part_of, units_bounded}
 use Rattle.suit_program.proofs.lemmas.Programs.PricesByName.{price_low}
 use Rattle.suit_program.proofs.lemmas.Supports.WhatIsReached.{reached_allows, reached_layout, reached_listed}
-use Rattle.suit_program.proofs.lemmas.Supports.WhatIsReached.{reached_next}
-use Rattle.suit_program.proofs.lemmas.Supports.WhatIsReached.{reached_none}
+use Rattle.suit_program.proofs.lemmas.Supports.WhatIsReached.{reached_next, reached_none}
 use Rattle.suit_program.proofs.lemmas.Readings.MassesNoLess.{read_mass-push}
 use Rattle.suit_program.proofs.lemmas.Programs.SumsInOrder.{le_trans, sum_le}
 use Rattle.suit_program.proofs.lemmas.Supports.SumsByPlay.{play_sum}
@@ -257,7 +257,7 @@ module _ (question : Question) (support : Support) (valid : IsValid question) (p
           (supported_moves question support other.0 history)
           (λ move found. each (price other.0 history move) (point.at (Held other.0 history))
           (worth_at question support point other.0 (history ++ move ∷ [])) (prices_low other.0 history move) none
-          (worths_low (53 - length (history ++ move ∷ [])) other.0 (history ++ move ∷ [])))
+          (worths_low (suc MOST_MOVES - length (history ++ move ∷ [])) other.0 (history ++ move ∷ [])))
       at false = omega (arith, ints)
 
   -- nor do those after a class history from which it is not reached
@@ -284,22 +284,22 @@ module _ (question : Question) (support : Support) (valid : IsValid question) (p
   -- ---- the start
 
   abbrev start : ClassLayout × ℕ → ℤ
-  start other = scale *ℤ (pos other.1 *ℤ worth 53 other.0 []) -ℤ play 52 other []
+  start other = scale *ℤ (pos other.1 *ℤ worth (suc MOST_MOVES) other.0 []) -ℤ play MOST_MOVES other []
 
   start_sum : (defence_chooses question west target ≡ true) → is_reached question support west target ≡ true
       → sum_of (map start (layouts_of question)) ≤ℤ pos 0
   unfolding objective_at
   start_sum chooses reached =
       let layouts : List (ClassLayout × ℕ) = layouts_of question in
-      let worths : ClassLayout × ℕ → ℤ = λ other. pos other.1 *ℤ worth 53 other.0 [] in
+      let worths : ClassLayout × ℕ → ℤ = λ other. pos other.1 *ℤ worth (suc MOST_MOVES) other.0 [] in
       let bounded = units_bounded question support prices scale dual (Held west target)
       (column_listed question support valid layout listed target reached chooses) in
       let played = exceeds_by_play question support prices scale dual point
       (λ history found. held_tight question support west target history) in
       let times = sum_times scale worths layouts in
-      let parted = sum_less (λ other. scale *ℤ worths other) (λ other. play 52 other []) layouts in
+      let parted = sum_less (λ other. scale *ℤ worths other) (λ other. play MOST_MOVES other []) layouts in
       finish (scale *ℤ sum_of (map worths layouts)) (exceeds question support prices scale dual point)
-      (sum_of (map (λ other. scale *ℤ worths other) layouts)) (sum_of (map (λ other. play 52 other []) layouts))
+      (sum_of (map (λ other. scale *ℤ worths other) layouts)) (sum_of (map (λ other. play MOST_MOVES other []) layouts))
       (sum_of (map start layouts)) bounded played times parted
     where
       finish : (a e b p x : ℤ) → a ≤ℤ e → e ≡ p → a ≡ b → x ≡ b -ℤ p → x ≤ℤ pos 0
@@ -309,10 +309,11 @@ module _ (question : Question) (support : Support) (valid : IsValid question) (p
   start_low : (other : ClassLayout × ℕ) → (other.0 ≡ west → ⊥) → pos 0 ≤ℤ start other
   start_low other apart =
       let some = dual.over in
-      let none = off_way 52 other [] (λ moves. held_elsewhere west target other.0 moves apart) in
-      let low = mul_not_negative scale (pos other.1 *ℤ worth 53 other.0 []) (omega (arith, ints, some))
-      (mul_not_negative (pos other.1) (worth 53 other.0 []) (omega (arith, ints)) (worths_low 53 other.0 [])) in
-      finish (scale *ℤ (pos other.1 *ℤ worth 53 other.0 [])) (play 52 other []) low none
+      let none = off_way MOST_MOVES other [] (λ moves. held_elsewhere west target other.0 moves apart) in
+      let low = mul_not_negative scale (pos other.1 *ℤ worth (suc MOST_MOVES) other.0 []) (omega (arith, ints, some))
+      (mul_not_negative (pos other.1) (worth (suc MOST_MOVES) other.0 []) (omega (arith, ints))
+      (worths_low (suc MOST_MOVES) other.0 [])) in
+      finish (scale *ℤ (pos other.1 *ℤ worth (suc MOST_MOVES) other.0 [])) (play MOST_MOVES other []) low none
     where
       finish : (x y : ℤ) → pos 0 ≤ℤ x → y ≤ℤ pos 0 → pos 0 ≤ℤ (x -ℤ y)
       finish x y p q = omega (arith, ints, p, q)
@@ -377,7 +378,7 @@ module _ (question : Question) (support : Support) (valid : IsValid question) (p
           ∷ []))) (price west target) (supported_moves question support west target)
           (λ move found. each (price west target move)
           (worth_at question support point west (target ++ move ∷ [])) (prices_low west target move)
-          (worths_low (53 - length (target ++ move ∷ [])) west (target ++ move ∷ [])))))
+          (worths_low (suc MOST_MOVES - length (target ++ move ∷ [])) west (target ++ move ∷ [])))))
 
       both : (x y : ℤ) → x ≤ℤ price_sum → y ≤ℤ pos 0 → (x +ℤ y) ≤ℤ price_sum
       both x y p q = omega (arith, ints, p, q)
@@ -484,7 +485,7 @@ module _ (question : Question) (support : Support) (valid : IsValid question) (p
 
   -- where it chooses before the end the prices take its place
   step_choosing : (more : ℕ) (history : List ClassMove) (bound : ℤ) → defence_chooses question west history ≡ true
-      → ((other : ClassMove) → 53 - length (history ++ other ∷ []) ≡ suc more) → (history ≡ target → ⊥)
+      → ((other : ClassMove) → suc MOST_MOVES - length (history ++ other ∷ []) ≡ suc more) → (history ≡ target → ⊥)
       → (bound *ℤ worth (suc (suc more)) west history) ≤ℤ play (suc more) layout history
       → sum_of (map (λ other. price west history other *ℤ later_worth more history other
       -ℤ later_play more history other) (supported_moves question support west history)) ≤ℤ pos 0
@@ -544,17 +545,17 @@ module _ (question : Question) (support : Support) (valid : IsValid question) (p
   not_end history move rest is same =
       longer history move rest (append_assoc history (move ∷ []) rest ∙ is ∙ sym same)
 
-  room_left : (history : List ClassMove) (move : ClassMove) (more : ℕ) → suc more ≡ 52 - length history
-      → 53 - length (history ++ move ∷ []) ≡ suc more
+  room_left : (history : List ClassMove) (move : ClassMove) (more : ℕ) → suc more ≡ MOST_MOVES - length history
+      → suc MOST_MOVES - length (history ++ move ∷ []) ≡ suc more
   room_left history move more left = omega (arith, left, length-append history (move ∷ []))
 
-  more_left : (history : List ClassMove) (move : ClassMove) (more : ℕ) → suc more ≡ 52 - length history
-      → more ≡ 52 - length (history ++ move ∷ [])
+  more_left : (history : List ClassMove) (move : ClassMove) (more : ℕ) → suc more ≡ MOST_MOVES - length history
+      → more ≡ MOST_MOVES - length (history ++ move ∷ [])
   more_left history move more left = omega (arith, left, length-append history (move ∷ []))
 
   -- along the way what is read stays under its bound
   way : (more : ℕ) (history moves : List ClassMove) (bound : ℤ) → history ++ moves ≡ target
-      → more ≡ 52 - length history → is_reached question support west history ≡ true
+      → more ≡ MOST_MOVES - length history → is_reached question support west history ≡ true
       → goes_supported question support west history moves ≡ true
       → defence_chooses question west target ≡ true → pos 0 ≤ℤ bound → mass history ≤ℤ bound
       → (bound *ℤ worth (suc more) west history) ≤ℤ play more layout history
@@ -600,10 +601,10 @@ module _ (question : Question) (support : Support) (valid : IsValid question) (p
       let some = dual.over in
       let weight : layout.1 ≡ weight_of question west = weight_listed question layout listed in
       let whole : ℤ = pos (weight_of question west) *ℤ scale in
-      way 52 [] target whole refl refl (reached_none question support west) reached chooses
+      way MOST_MOVES [] target whole refl refl (reached_none question support west) reached chooses
       (mul_not_negative (pos (weight_of question west)) scale (omega (arith, ints)) (omega (arith, ints, some)))
       (itself whole)
-      (finish (worth 53 west []) (play 52 layout []) (start_here chooses reached) weight)
+      (finish (worth (suc MOST_MOVES) west []) (play MOST_MOVES layout []) (start_here chooses reached) weight)
     where
       itself : (z : ℤ) → z ≤ℤ z
       itself z = omega (arith, ints)

@@ -15,6 +15,7 @@ use Rattle.suit_lists.proofs.Walks.{Contains-range}
 use Rattle.suit_cards.specs.Cards.{ClassLayout}
 use Rattle.suit_game.specs.declared.question.Question.{Question}
 use Rattle.suit_game.specs.Validity.{IsValid}
+use Rattle.suit_game.specs.declared.limits.TheConstants.{MOST_MOVES}
 use Rattle.suit_classes.specs.declared.class_moves.ClassMove.{ClassMove}
 use Rattle.suit_classes.specs.WhatIsAllowed.{is_among}
 use Rattle.suit_classes.specs.ClassMoves.{ClassHistory, same_class_move}
@@ -133,15 +134,16 @@ module _ (question : Question) (support : Support) (plan : Plan) (valid : IsVali
   reply_supported layout listed history reached chooses goes live =
       let layouts : List (ClassLayout × ℕ) = layouts_of question in
       let reply : Reply = reply_to_plan question plan layout.0 in
-      let short : length history ≤ 52 = class_histories_are_short question layout.0 history
+      let short : length history ≤ MOST_MOVES = class_histories_are_short question layout.0 history
       (reached_allows question support valid layout listed history reached) in
       let at = index_of layouts layout ([], 0) listed in
       let below = at.1 in
       let chosen : Contains (choices reply) history =
-      Contains-filter (λ other. has_choice reply other && reply_reaches reply other) (histories_within 52 reply [])
+      Contains-filter (λ other. has_choice reply other && reply_reaches reply other)
+      (histories_within MOST_MOVES reply [])
       history
       (goes_within question support layout.0 reply
-      (λ other move there found. supported_legal question support layout.0 other move found) 52 [] history short
+      (λ other move there found. supported_legal question support layout.0 other move found) MOST_MOVES [] history short
       (reached_none question support layout.0) reached)
       (both_true (has_choice reply history) (reply_reaches reply history) chooses
       (both_true (reply.live history) (follows reply [] history) live goes)) in
@@ -154,6 +156,6 @@ module _ (question : Question) (support : Support) (plan : Plan) (valid : IsVali
       (range_with_len 0 (length layouts)) at.0 entry
       (Contains-range 0 (length layouts) at.0 (omega arith) (omega (arith, below)))
       (subst (λ (other : ClassLayout × ℕ). Contains (least_reply_in question plan other.0 at.0) entry)
-          (sym at.2) inside) in
+      (sym at.2) inside) in
       subst (λ (other : ClassLayout × ℕ). is_among (supported_moves question support other.0 history)
       (reply_move reply history) ≡ true) at.2 (named entry found)

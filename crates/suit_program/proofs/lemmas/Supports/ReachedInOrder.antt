@@ -7,6 +7,7 @@ use Rattle.suit_lists.proofs.Chains.{Chained, chained_filter, pairs_chained}
 use Rattle.suit_lists.proofs.FlatMaps.{flat_map_alike}
 use Rattle.suit_cards.specs.Cards.{ClassLayout}
 use Rattle.suit_game.specs.declared.question.Question.{Question}
+use Rattle.suit_game.specs.declared.limits.TheConstants.{MOST_MOVES}
 use Rattle.suit_classes.specs.declared.class_moves.ClassMove.{ClassMove}
 use Rattle.suit_classes.specs.WhatIsAllowed.{every_move, is_among}
 use Rattle.suit_classes.specs.MoveOrder.{stands_before}
@@ -51,8 +52,8 @@ module _ (question : Question) (support : Support) where
   pub reached_chained : Chained (λ here there. history_before here there ≡ true) (reached_histories question support)
   unfolding reached_histories
   reached_chained =
-      subst (Chained (λ here there. history_before here there ≡ true)) (same_histories 52 [])
-      (chained_within (walk question support) moves_rise 52 [])
+      subst (Chained (λ here there. history_before here there ≡ true)) (same_histories MOST_MOVES [])
+      (chained_within (walk question support) moves_rise MOST_MOVES [])
 
 -- so do some of them
 pub kept_chained : (test : List ClassMove → Bool) (question : Question) (support : Support)

@@ -10,6 +10,7 @@ use Rattle.suit_lists.proofs.FlatMaps.{each_flat_map, flat_map_from}
 use Rattle.suit_lists.proofs.Maps.{Contains-map_from}
 use Rattle.suit_game.specs.declared.question.Question.{Question}
 use Rattle.suit_game.specs.Validity.{IsValid}
+use Rattle.suit_game.specs.declared.limits.TheConstants.{MOST_MOVES}
 use Rattle.suit_classes.specs.declared.class_moves.ClassMove.{ClassMove}
 use Rattle.suit_classes.specs.WhatIsAllowed.{every_move}
 use Rattle.suit_classes.specs.ClassMoves.{ClassHistory}
@@ -91,8 +92,9 @@ module _ (question : Question) (reply : Reply) (only : GoesOnly question reply) 
   unfolding choices
   choices_past history found =
       let listed = (kept_parts (λ other. has_choice reply other && is_reached reply other)
-      (histories_within 52 reply []) history found).0 in
-      let on = each_at (IsOn question []) (histories_within 52 reply []) history (all_on 52 []) listed in
+      (histories_within MOST_MOVES reply []) history found).0 in
+      let on = each_at (IsOn question []) (histories_within MOST_MOVES reply []) history
+      (all_on MOST_MOVES []) listed in
       λ start rest is some. on.past start rest (sym on.parts ∙ is) some
 
 module _ (question : Question) (valid : IsValid question) where

@@ -13,6 +13,7 @@ use Rattle.suit_lists.proofs.FlatMaps.{Contains-flat_map}
 use Rattle.suit_lists.proofs.Maps.{map_same}
 use Rattle.suit_lists.proofs.Once.{IsOnce, once_unless}
 use Rattle.suit_game.specs.declared.question.Question.{Question}
+use Rattle.suit_game.specs.declared.limits.TheConstants.{MOST_MOVES}
 use Rattle.suit_classes.specs.declared.class_moves.ClassMove.{ClassMove}
 use Rattle.suit_classes.specs.WhatIsAllowed.{every_move, is_among}
 use Rattle.suit_classes.specs.ClassMoves.{same_class_move}
@@ -202,6 +203,6 @@ module _ (question : Question) (support : Support) where
         (reached_layouts question support history))
 
     -- over all that is reached
-    pub rows_by_play : sum_of (map here (reached_histories question support)) ≡ in_all 52 []
+    pub rows_by_play : sum_of (map here (reached_histories question support)) ≡ in_all MOST_MOVES []
     unfolding reached_histories
-    rows_by_play = by_play 52 []
+    rows_by_play = by_play MOST_MOVES []

@@ -12,6 +12,7 @@ use Rattle.suit_lists.proofs.Maps.{Contains-map, Contains-map_from}
 use Rattle.suit_cards.specs.Cards.{ClassLayout}
 use Rattle.suit_game.specs.declared.question.Question.{Question}
 use Rattle.suit_game.specs.Validity.{IsValid}
+use Rattle.suit_game.specs.declared.limits.TheConstants.{MOST_MOVES}
 use Rattle.suit_classes.specs.declared.class_moves.ClassMove.{ClassMove}
 use Rattle.suit_classes.specs.WhatIsAllowed.{every_move, is_among}
 use Rattle.suit_classes.specs.ClassGame.{Allows}
@@ -177,7 +178,8 @@ module _ (question : Question) (support : Support) where
         → Contains (reached_histories question support) history
     unfolding reached_histories is_reached
     reached_listed history reached =
-        goes_listed 52 [] history (class_histories_are_short question layout.0 history (reached_allows history reached))
+        goes_listed MOST_MOVES [] history (class_histories_are_short question layout.0 history
+        (reached_allows history reached))
         (reached_none layout.0) reached
 
     -- ---- rows
@@ -250,8 +252,8 @@ module _ (question : Question) (support : Support) where
         listed = (allowing_parts question valid [] first.0 first.1).0;
         reached = reached_none first.0.0;
       } in
-      each_at (IsSomewhere question support) (histories_from question support 52 []) history
-      (all_somewhere 52 [] start) found
+      each_at (IsSomewhere question support) (histories_from question support MOST_MOVES []) history
+      (all_somewhere MOST_MOVES [] start) found
 
 -- ---- rows and columns
 

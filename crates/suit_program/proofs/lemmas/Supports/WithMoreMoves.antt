@@ -17,6 +17,7 @@ use Rattle.suit_lists.proofs.Walks.{Contains-range, any_one_more, by_indices}
 use Rattle.suit_cards.specs.Cards.{ClassLayout, Indices}
 use Rattle.suit_game.specs.declared.question.Question.{Question}
 use Rattle.suit_game.specs.Validity.{IsValid}
+use Rattle.suit_game.specs.declared.limits.TheConstants.{MOST_MOVES}
 use Rattle.suit_classes.specs.declared.class_moves.ClassMove.{ClassMove}
 use Rattle.suit_classes.specs.declared.class_view.ClassView.{ClassView}
 use Rattle.suit_classes.specs.WhatIsAllowed.{allows, is_among}
@@ -205,7 +206,7 @@ some_allows_at question history =
     let may : ClassLayout × ℕ → Bool = λ layout. allows question layout.0 history in
     any_kept may (layouts_of question)
     ∙ ap (λ (l : List (ClassLayout × ℕ)). nat_lt 0 (length (filter may l)))
-        (sym (by_indices (layouts_of question) ([], 0)))
+    (sym (by_indices (layouts_of question) ([], 0)))
     ∙ ap (λ (l : List (ClassLayout × ℕ)). nat_lt 0 (length l))
     (filter_of_map may (layout_at question) (layout_indices (layouts_of question)))
     ∙ ap (nat_lt 0) (length-map (filter (λ index. may (layout_at question index))
@@ -216,16 +217,16 @@ cons_some : (move : ClassMove) (moves : List ClassMove) → move ∷ moves ≡ [
 cons_some move moves none = cc
 
 node_found : (question : Question) → IsValid question → (history path : ClassHistory) (node : Node)
-    → IsTreeAt (52 - length history) question history node
+    → IsTreeAt (MOST_MOVES - length history) question history node
     → ((start rest : ClassHistory) → history ++ path ≡ start ++ rest → (rest ≡ [] → ⊥)
     → class_decided (class_after question start) ≡ false)
     → 0 < length (allowing question (history ++ path)) → (found : Node)
     × (children_at node path ≡ children_of found)
-    × IsTreeAt (52 - length (history ++ path)) question (history ++ path) found
+    × IsTreeAt (MOST_MOVES - length (history ++ path)) question (history ++ path) found
 node_found question valid history [] node tree past some = (
   node,
   refl,
-  subst (λ (h : ClassHistory). IsTreeAt (52 - length h) question h node) (sym (append-nil history)) tree,
+  subst (λ (h : ClassHistory). IsTreeAt (MOST_MOVES - length h) question h node) (sym (append-nil history)) tree,
 )
 node_found question valid history (move ∷ path) node tree past some =
     let apart : (history ++ move ∷ []) ++ path ≡ history ++ move ∷ path = append_assoc history (move ∷ []) path in
@@ -239,12 +240,13 @@ node_found question valid history (move ∷ path) node tree past some =
     (Contains-same move (sym (moves_below question valid history node tree)) on) in
     let below = (child_below question valid history node tree child.0 child.1).1 in
     let there = node_found question valid (history ++ move ∷ []) path child.0
-    (subst (λ (m : ClassMove). IsTreeAt (52 - length (history ++ m ∷ [])) question (history ++ m ∷ []) child.0) child.2
+    (subst (λ (m : ClassMove). IsTreeAt (MOST_MOVES - length (history ++ m ∷ [])) question (history ++ m ∷ [])
+    child.0) child.2
     below)
     (λ start rest is some_rest. past start rest (sym apart ∙ is) some_rest) later in (
       there.0,
       ap (λ (nodes : List Node). fold children_by nodes path) child.3 ∙ there.1,
-      subst (λ (h : ClassHistory). IsTreeAt (52 - length h) question h there.0) apart there.2,
+      subst (λ (h : ClassHistory). IsTreeAt (MOST_MOVES - length h) question h there.0) apart there.2,
     )
 
 true_first : (b c : Bool) → b ≡ true → (b && c) ≡ c

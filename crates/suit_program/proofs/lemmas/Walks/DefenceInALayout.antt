@@ -145,7 +145,7 @@ module _ (reader : DefenceReader) (reach : Reach) (row : ℕ) (mass : ℤ)
             (length-map moves (Answered west h)) stood.within)
             ∙ ap (map (λ move. (move, price_of (limits q s) prices west h move))) is
             ∙ ap (λ (w : ClassLayout). map (λ move. (move, price_of (limits q s) prices w h move))
-                (supported_moves q s w h))
+            (supported_moves q s w h))
             (sym turn.west)
 
         pub shares_told : (cut : List ℤ) → cut ≡ take (length moves) (drop first prices) → (shares : Shares)

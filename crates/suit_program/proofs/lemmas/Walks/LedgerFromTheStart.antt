@@ -8,7 +8,7 @@ use Rattle.suit_lists.proofs.Elements.{Contains-first, Contains-later, Contains-
 use Rattle.suit_cards.specs.Cards.{ClassLayout}
 use Rattle.suit_game.specs.declared.question.Question.{Question}
 use Rattle.suit_game.specs.Validity.{IsValid}
-use Rattle.suit_game.specs.declared.limits.TheConstants.{MOST_SUPPORT, MOST_TOTAL}
+use Rattle.suit_game.specs.declared.limits.TheConstants.{MOST_MOVES, MOST_SUPPORT, MOST_TOTAL}
 use Rattle.suit_classes.specs.Classes.{defence_sizes, hands_of}
 use Rattle.suit_classes.proofs.DefenceSizes.{sum-defence_sizes}
 use Rattle.suit_layouts.proofs.WhatHasWeightIsListed.{class_layouts_exact}
@@ -69,8 +69,8 @@ accounts_of layouts =
 module _ (tree : Tree) (support : MarkedSupport) (case : IsSized tree support) (ledger : Ledger)
     (no_columns : ledger.columns ≡ 0) (one_row : ledger.rows ≡ 1) where
   pub room : (question : Question) (seen : Support) → size_of question seen ≤ MOST_SUPPORT
-      → (ledger.columns + length (columns_from question seen 52 []) ≤ MOST_SUPPORT)
-      × (ledger.rows + length (limits_from question seen 52 []) ≤ suc MOST_SUPPORT)
+      → (ledger.columns + length (columns_from question seen MOST_MOVES []) ≤ MOST_SUPPORT)
+      × (ledger.rows + length (limits_from question seen MOST_MOVES []) ≤ suc MOST_SUPPORT)
   unfolding size_of columns limits columns_from limits_from reached_histories
   room question seen few = (omega (arith, few, no_columns), omega (arith, few, one_row))
 

@@ -15,6 +15,7 @@ use Rattle.suit_lists.proofs.Walks.{by_indices}
 use Rattle.suit_cards.specs.Cards.{ClassLayout, Indices}
 use Rattle.suit_game.specs.declared.question.Question.{Question}
 use Rattle.suit_game.specs.Validity.{IsValid}
+use Rattle.suit_game.specs.declared.limits.TheConstants.{MOST_MOVES}
 use Rattle.suit_classes.specs.declared.class_moves.ClassMove.{ClassMove}
 use Rattle.suit_classes.specs.declared.class_moves.ClassMove.TheVariants.{ShowOut}
 use Rattle.suit_classes.specs.declared.class_view.ClassView.{ClassView}
@@ -90,28 +91,29 @@ module _ (question : Question) (valid : IsValid question) (history : ClassHistor
   -- a node stands below a class history, by a move
   abbrev pub IsBelow : ClassMove → Node → Type 0
   IsBelow move child =
-      (move_to child ≡ Some move) × IsTreeAt (52 - length (history ++ move ∷ [])) question (history ++ move ∷ []) child
+      (move_to child ≡ Some move) × IsTreeAt (MOST_MOVES - length (history ++ move ∷ [])) question
+      (history ++ move ∷ []) child
 
   -- before a move more there are fewer than can be played
-  pub moves_short : (move : ClassMove) → Contains (moves_on question history) move → length history < 52
+  pub moves_short : (move : ClassMove) → Contains (moves_on question history) move → length history < MOST_MOVES
   moves_short move found =
       let kept : Indices = allowing question (history ++ move ∷ []) in
       let parts = moves_on-parts question history move found in
       let first : ℕ = get_or kept 0 0 in
       let allowed = ((kept_layouts question (history ++ move ∷ []) first valid).0
       (Contains-get_or kept 0 0 parts.1)).1 in
-      let short : length (history ++ move ∷ []) ≤ 52 =
+      let short : length (history ++ move ∷ []) ≤ MOST_MOVES =
       class_histories_are_short question (counts_at question first) (history ++ move ∷ []) allowed in
       omega (arith, short, length-append history (move ∷ []))
 
   module _ (node : Node) where
-    fitted_in : (more : ℕ) → more ≡ 52 - length history → IsTreeAt more question history node
+    fitted_in : (more : ℕ) → more ≡ MOST_MOVES - length history → IsTreeAt more question history node
         → AllFit IsBelow (moves_on question history) (children_of node)
     unfolding IsTreeAt AllFit
     fitted_in zero long tree =
         subst (λ (moves : List ClassMove). AllFit IsBelow moves (children_of node))
         (sym (nil_from_none (moves_on question history) (λ move found.
-        let short : length history < 52 = moves_short move found in
+        let short : length history < MOST_MOVES = moves_short move found in
         omega (arith, long, short))))
         (subst (AllFit IsBelow []) (sym tree.1) tt)
     fitted_in (suc more) long tree =
@@ -124,12 +126,12 @@ module _ (question : Question) (valid : IsValid question) (history : ClassHistor
               fits.1,
         )) (moves_on question history) (children_of node) tree.1
       where
-        less : (more long longer : ℕ) → suc more ≡ 52 - long → longer ≡ long + 1 → more ≡ 52 - longer
+        less : (more long longer : ℕ) → suc more ≡ MOST_MOVES - long → longer ≡ long + 1 → more ≡ MOST_MOVES - longer
         less more long longer is next = omega (arith, is, next)
 
-    module _ (tree : IsTreeAt (52 - length history) question history node) where
+    module _ (tree : IsTreeAt (MOST_MOVES - length history) question history node) where
       fitted : AllFit IsBelow (moves_on question history) (children_of node)
-      fitted = fitted_in (52 - length history) refl tree
+      fitted = fitted_in (MOST_MOVES - length history) refl tree
 
       -- the moves to them are those by which the class history goes on
       pub moves_below : map move_of (children_of node) ≡ moves_on question history
@@ -141,13 +143,14 @@ module _ (question : Question) (valid : IsValid question) (history : ClassHistor
       -- each of them stands there
       pub child_below : (child : Node) → Contains (children_of node) child
           → (move_to child ≡ Some (move_of child))
-          × IsTreeAt (52 - length (history ++ move_of child ∷ [])) question (history ++ move_of child ∷ []) child
+          × IsTreeAt (MOST_MOVES - length (history ++ move_of child ∷ [])) question
+          (history ++ move_of child ∷ []) child
           × Contains (moves_on question history) (move_of child)
       child_below child found =
           let at = fitted_node IsBelow (moves_on question history) (children_of node) child fitted found in
           let same : at.0 ≡ move_of child = sym (ap (λ to. unwrap_or to ShowOut) at.2.0) in (
             subst (λ (move : ClassMove). move_to child ≡ Some move) same at.2.0,
-            subst (λ (move : ClassMove). IsTreeAt (52 - length (history ++ move ∷ [])) question
+            subst (λ (move : ClassMove). IsTreeAt (MOST_MOVES - length (history ++ move ∷ [])) question
                 (history ++ move ∷ []) child) same at.2.1,
             subst (Contains (moves_on question history)) same at.1,
           )
@@ -162,7 +165,8 @@ module _ (question : Question) (valid : IsValid question) (history : ClassHistor
             (λ move. is_held index (allowing question (history ++ move ∷ []))) (moves_on question history)
             (children_of node) fitted
             (λ move child below. ap (is_held index)
-            (tree_stands (52 - length (history ++ move ∷ [])) question (history ++ move ∷ []) child below.1).layouts)
+            (tree_stands (MOST_MOVES - length (history ++ move ∷ [])) question (history ++ move ∷ []) child
+            below.1).layouts)
             (λ move child may below. ap (λ to. unwrap_or to ShowOut) below.0)
             ∙ map-id (filter (λ move. is_held index (allowing question (history ++ move ∷ [])))
             (moves_on question history))

@@ -1,6 +1,5 @@
 -- A turn of the defence: its columns and rows, and what is handed on, make up for what is owed (`theirs_told`).
-use Rattle.std.proofs.Common.{◌≡◌, ℕ, suc, ◌+◌, ◌≤◌, Bool, true, false, List, [], ◌∷◌, ◌++◌, length, map}
-use Rattle.std.proofs.Common.{refl}
+use Rattle.std.proofs.Common.{◌≡◌, ℕ, suc, ◌+◌, ◌≤◌, Bool, true, false, List, [], ◌∷◌, ◌++◌, length, map, refl}
 use Rattle.std.proofs.Common.{sym, ap, ◌∙◌, subst, arith}
 use Rattle.std.specs.Prelude.{Contains, ◌==◌, if◌then◌else◌, nat_lt, ℤ, pos, negsuc, ◌+ℤ◌, ◌-ℤ◌, ◌*ℤ◌}
 use Rattle.std.proofs.lemmas.Bool.{and_parts, false≢true, false_from_ne_true}
@@ -11,6 +10,7 @@ use Rattle.suit_lists.proofs.Once.{IsOnce}
 use Rattle.suit_cards.specs.Cards.{ClassLayout}
 use Rattle.suit_game.specs.declared.question.Question.{Question}
 use Rattle.suit_game.specs.Validity.{IsValid}
+use Rattle.suit_game.specs.declared.limits.TheConstants.{MOST_MOVES}
 use Rattle.suit_classes.specs.declared.class_moves.ClassMove.{ClassMove}
 use Rattle.suit_classes.specs.ClassMoves.{same_class_move}
 use Rattle.suit_classes.specs.ClassPlaces.{class_after, class_decided, class_turn}
@@ -25,8 +25,7 @@ use Rattle.suit_program.specs.Programs.Points.{Held, Point}
 use Rattle.suit_program.specs.Programs.{Answered, Limit, answered_limits, excess}
 use Rattle.suit_program.specs.Supports.{Support, declarer_chooses, defence_chooses, legal_moves, supported_moves}
 use Rattle.suit_program.specs.Walks.Writing.{AnswerView, advanced, answered_rows, held_at, held_in, layout_of, opened}
-use Rattle.suit_program.specs.Walks.Writing.{owed}
-use Rattle.suit_program.specs.Walks.Writing.{place_in, told}
+use Rattle.suit_program.specs.Walks.Writing.{owed, place_in, told}
 use Rattle.suit_program.specs.Programs.Worths.{worth_at}
 use Rattle.suit_program.proofs.lemmas.Walks.AccountsByLayout.{IsThere}
 use Rattle.suit_program.proofs.lemmas.Supports.WhatIsReached.{reached_allows}
@@ -134,7 +133,7 @@ module _ (question : Question) (support : Support) (point : Point) (history : Li
       +ℤ told (excess question support point) first (if chooses then map (Answered west history) moves else []) row
 
   chosen_told : (account : Account) (first : ℕ)
-      → length history ≤ 52 → defence_chooses question (counts_at question account.index) history ≡ true
+      → length history ≤ MOST_MOVES → defence_chooses question (counts_at question account.index) history ≡ true
       → one_before account first (supported_moves question support (counts_at question account.index) history) true
       ≡ one_after account first (supported_moves question support (counts_at question account.index) history) true
   unfolding excess

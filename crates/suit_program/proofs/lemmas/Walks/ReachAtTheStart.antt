@@ -16,6 +16,7 @@ use Rattle.suit_lists.proofs.Walks.{Contains-range}
 use Rattle.suit_cards.specs.Cards.{ClassLayout, Indices}
 use Rattle.suit_game.specs.declared.question.Question.{Question}
 use Rattle.suit_game.specs.Validity.{IsValid}
+use Rattle.suit_game.specs.declared.limits.TheConstants.{MOST_MOVES}
 use Rattle.suit_classes.specs.declared.class_moves.ClassMove.{ClassMove}
 use Rattle.suit_classes.specs.Classes.{defence_sizes, hands_of, sizes_of}
 use Rattle.suit_classes.specs.ClassMoves.{ClassHistory}
@@ -185,7 +186,7 @@ module _ (question : Question) (valid : IsValid question) (tree : Tree) (grown :
   pub start_reach : IsReach question (support_seen question support) [] reach
   start_reach = record {
     valid = valid;
-    tree = subst (IsTreeAt 52 question []) (sym node) grown.nodes;
+    tree = subst (IsTreeAt MOST_MOVES question []) (sym node) grown.nodes;
     some = omega (
       arith,
       some_listed,

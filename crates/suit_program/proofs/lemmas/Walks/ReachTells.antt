@@ -19,6 +19,7 @@ use Rattle.suit_lists.proofs.Maps.{Contains-map, Contains-map_from}
 use Rattle.suit_lists.proofs.Once.{IsOnce}
 use Rattle.suit_lists.proofs.Tests.{any_of_map, any_same, some_passing}
 use Rattle.suit_game.specs.declared.question.Question.{Question}
+use Rattle.suit_game.specs.declared.limits.TheConstants.{MOST_MOVES}
 use Rattle.suit_classes.specs.declared.class_moves.ClassMove.{ClassMove}
 use Rattle.suit_classes.specs.declared.class_view.ClassView.{ClassView}
 use Rattle.suit_classes.specs.WhatIsAllowed.{every_move, is_among}
@@ -148,7 +149,7 @@ module _ (question : Question) (support : Support) (history : ClassHistory) (rea
 
   -- whose turn it is
   pub turn_is : turn_at reach.node ≡ class_turn view
-  turn_is = (tree_stands (52 - length history) question history reach.node is.tree).turn
+  turn_is = (tree_stands (MOST_MOVES - length history) question history reach.node is.tree).turn
 
   -- what it names
   pub own_named_is : (move : ClassMove) → support.declarers history move ≡ own_named reach move
@@ -329,7 +330,7 @@ module _ (question : Question) (support : Support) (history : ClassHistory) (rea
       → holds_index index child ≡ is_among (class_moves view (counts_at question index)) (move_of child)
   child_holds child below index found =
       let stands = child_below question is.valid history reach.node is.tree child below in
-      ap (is_held index) (tree_stands (52 - length (history ++ move_of child ∷ [])) question
+      ap (is_held index) (tree_stands (MOST_MOVES - length (history ++ move_of child ∷ [])) question
       (history ++ move_of child ∷ []) child stands.1).layouts
       ∙ held_is question history (move_of child) index is.valid (index_allowed index found)
 
@@ -527,7 +528,8 @@ module _ (question : Question) (support : Support) (history : ClassHistory) (rea
     pub child_reach : IsReach question support (history ++ move_of child ∷ []) next
     child_reach = record {
       valid = is.valid;
-      tree = subst (IsTreeAt (52 - length (history ++ move_of child ∷ [])) question (history ++ move_of child ∷ []))
+      tree = subst (IsTreeAt (MOST_MOVES - length (history ++ move_of child ∷ [])) question
+          (history ++ move_of child ∷ []))
           (sym node) (child_below question is.valid history reach.node is.tree child below).1;
       some = omega (
         arith,
@@ -601,23 +603,23 @@ module _ (question : Question) (support : Support) (history : ClassHistory) (rea
       ∙ flat_map_map f move_of (filter (goes_on question support history) children)
       ∙ flat_map_kept (λ child. f (move_of child)) (goes_on question support history) children
 
-  none_below : 52 ≤ length history → children ≡ []
+  none_below : MOST_MOVES ≤ length history → children ≡ []
   none_below long = nil_from_none children
       (λ child found.
       let below = child_below question is.valid history reach.node is.tree child found in
-      let short : length history < 52 = moves_short question is.valid history (move_of child) below.2 in
+      let short : length history < MOST_MOVES = moves_short question is.valid history (move_of child) below.2 in
       omega (arith, short, long))
 
-  histories_in : (more : ℕ) → more ≡ 52 - length history
+  histories_in : (more : ℕ) → more ≡ MOST_MOVES - length history
       → histories_from question support more history
       ≡ history ∷ flat_map (λ child. if goes_on question support history child
-      then histories_from question support (52 - length (history ++ move_of child ∷ []))
+      then histories_from question support (MOST_MOVES - length (history ++ move_of child ∷ []))
       (history ++ move_of child ∷ []) else []) children
   unfolding histories_from
   histories_in zero long =
-      let full : 52 ≤ length history = omega (arith, long) in
+      let full : MOST_MOVES ≤ length history = omega (arith, long) in
       sym (ap (λ (nodes : List Node). history ∷ flat_map (λ child. if goes_on question support history child
-      then histories_from question support (52 - length (history ++ move_of child ∷ []))
+      then histories_from question support (MOST_MOVES - length (history ++ move_of child ∷ []))
       (history ++ move_of child ∷ []) else []) nodes) (none_below full))
   histories_in (suc more) long =
       ap (λ (l : List ClassHistory). history ∷ l)
@@ -625,19 +627,19 @@ module _ (question : Question) (support : Support) (history : ClassHistory) (rea
       ∙ flat_map_alike (λ child. if goes_on question support history child
       then histories_from question support more (history ++ move_of child ∷ []) else [])
       (λ child. if goes_on question support history child
-      then histories_from question support (52 - length (history ++ move_of child ∷ []))
+      then histories_from question support (MOST_MOVES - length (history ++ move_of child ∷ []))
       (history ++ move_of child ∷ []) else [])
       children (λ child. ap (λ (left : ℕ). if goes_on question support history child
       then histories_from question support left (history ++ move_of child ∷ []) else [])
       (less more (length history) (length (history ++ move_of child ∷ [])) long
       (length-append history (move_of child ∷ [])))))
     where
-      less : (more long longer : ℕ) → suc more ≡ 52 - long → longer ≡ long + 1 → more ≡ 52 - longer
+      less : (more long longer : ℕ) → suc more ≡ MOST_MOVES - long → longer ≡ long + 1 → more ≡ MOST_MOVES - longer
       less more long longer same next = omega (arith, same, next)
 
   -- the class histories that are reached from here on: this one, and those from each node below to which play goes on
-  pub histories_below : histories_from question support (52 - length history) history
+  pub histories_below : histories_from question support (MOST_MOVES - length history) history
       ≡ history ∷ flat_map (λ child. if goes_on question support history child
-      then histories_from question support (52 - length (history ++ move_of child ∷ []))
+      then histories_from question support (MOST_MOVES - length (history ++ move_of child ∷ []))
       (history ++ move_of child ∷ []) else []) children
-  histories_below = histories_in (52 - length history) refl
+  histories_below = histories_in (MOST_MOVES - length history) refl

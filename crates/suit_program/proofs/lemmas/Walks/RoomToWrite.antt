@@ -1,7 +1,6 @@
 -- What a walk may count on: the class histories that go on, and room for their columns and rows (`go_on`,
 -- `child_asked`).
-use Rattle.std.proofs.Common.{◌≡◌, ℕ, zero, suc, ◌+◌, ◌-◌, ◌<◌, ◌≤◌, true, List, [], ◌∷◌, ◌++◌, length}
-use Rattle.std.proofs.Common.{get_or}
+use Rattle.std.proofs.Common.{◌≡◌, ℕ, zero, suc, ◌+◌, ◌-◌, ◌<◌, ◌≤◌, true, List, [], ◌∷◌, ◌++◌, length, get_or}
 use Rattle.std.proofs.Common.{map, take, drop, refl, sym, ap, ◌∙◌, subst, arith}
 use Rattle.std.specs.Prelude.{Contains}
 use Rattle.std.specs.List.{flat_map}
@@ -9,7 +8,7 @@ use Rattle.std.proofs.lemmas.List.{length-append, length-map, take-append-drop, 
 use Rattle.std.proofs.lemmas.List.Concat.{flat_map-append}
 use Rattle.std.proofs.lemmas.List.Elements.{Contains-get_or}
 use Rattle.suit_game.specs.declared.question.Question.{Question}
-use Rattle.suit_game.specs.declared.limits.TheConstants.{MOST_SUPPORT}
+use Rattle.suit_game.specs.declared.limits.TheConstants.{MOST_MOVES, MOST_SUPPORT}
 use Rattle.suit_classes.specs.declared.class_moves.ClassMove.{ClassMove}
 use Rattle.suit_classes.specs.ClassMoves.{ClassHistory}
 use Rattle.suit_classes.specs.ClassPlaces.{class_after, class_turn}
@@ -40,7 +39,7 @@ go_on question support history reach is =
     histories_below question support history reach is
     ∙ ap (λ (l : List ClassHistory). history ∷ l)
     (sym (made_below question support history reach is
-    (λ move. histories_from question support (52 - length (history ++ move ∷ [])) (history ++ move ∷ []))))
+    (λ move. histories_from question support (MOST_MOVES - length (history ++ move ∷ [])) (history ++ move ∷ []))))
 
 -- ---- room
 
@@ -54,14 +53,14 @@ module _ (ledger : Ledger) (reach : Reach) (accounts : List Account) (case : IsA
   abbrev next : List ClassMove
   next = next_moves case.question case.support case.history
 
-  pub all_columns : length (columns_from case.question case.support (52 - length case.history) case.history)
+  pub all_columns : length (columns_from case.question case.support (MOST_MOVES - length case.history) case.history)
       ≡ length here + length (flat_map (columns_by case.question case.support case.history) next)
   all_columns =
       ap (λ (l : List Column). length l) (columns_split case.question case.support case.history
       (go_on case.question case.support case.history reach case.reached))
       ∙ length-append here (flat_map (columns_by case.question case.support case.history) next)
 
-  pub all_rows : length (limits_from case.question case.support (52 - length case.history) case.history)
+  pub all_rows : length (limits_from case.question case.support (MOST_MOVES - length case.history) case.history)
       ≡ length rows_here + length (flat_map (limits_by case.question case.support case.history) next)
   all_rows =
       ap (λ (l : List Limit). length l) (limits_split case.question case.support case.history

@@ -10,6 +10,7 @@ use Rattle.std.proofs.lemmas.List.Sums.{sum_by-cons}
 use Rattle.suit_lists.proofs.Sums.{sum_by_flat_map, sum_by_map, sum_by_same, sums_together}
 use Rattle.suit_cards.specs.Cards.{ClassLayout}
 use Rattle.suit_game.specs.declared.question.Question.{Question}
+use Rattle.suit_game.specs.declared.limits.TheConstants.{MOST_MOVES}
 use Rattle.suit_classes.specs.ClassMoves.{ClassHistory}
 use Rattle.suit_classes.specs.ClassPlaces.{class_after, class_turn}
 use Rattle.suit_plans.specs.Masses.{is_declarers, is_defences}
@@ -57,7 +58,7 @@ module _ (question : Question) (support : Support) where
   pub whole_size : size_of question support ≡ size_from question support []
   unfolding size_of limits columns reached_histories
   whole_size =
-      let histories : List ClassHistory = histories_from question support 52 [] in
+      let histories : List ClassHistory = histories_from question support MOST_MOVES [] in
       ap (λ (n : ℕ). n + length (flat_map (columns_at question support) histories))
       (length-flat_map (limits_at question support) histories)
       ∙ ap (λ (n : ℕ). sum_by (λ history. length (limits_at question support history)) histories + n)
@@ -140,7 +141,7 @@ module _ (question : Question) (support : Support) (history : ClassHistory) wher
         ≡ size_at question support history + sum_by child_size (children_of reach.node)
     size_below =
         let from : Node → List ClassHistory = λ child. if goes_on question support history child
-        then histories_from question support (52 - length (history ++ move_of child ∷ []))
+        then histories_from question support (MOST_MOVES - length (history ++ move_of child ∷ []))
         (history ++ move_of child ∷ []) else [] in
         ap (sum_by (size_at question support)) (histories_below question support history reach is)
         ∙ sum_by-cons (size_at question support) history (flat_map from (children_of reach.node))
@@ -148,7 +149,7 @@ module _ (question : Question) (support : Support) (history : ClassHistory) wher
         (sum_by_flat_map (size_at question support) from (children_of reach.node)
         ∙ sum_by_same (λ child. sum_by (size_at question support) (from child)) child_size (children_of reach.node)
         (λ child. either (goes_on question support history child)
-        (histories_from question support (52 - length (history ++ move_of child ∷ []))
+        (histories_from question support (MOST_MOVES - length (history ++ move_of child ∷ []))
         (history ++ move_of child ∷ []))))
       where
         either : (b : Bool) (histories : List ClassHistory)
@@ -158,7 +159,7 @@ module _ (question : Question) (support : Support) (history : ClassHistory) wher
         either false histories = refl
 
     -- there are fewer moves before a node below than can be played
-    pub child_short : (child : Node) → Contains (children_of reach.node) child → length history < 52
+    pub child_short : (child : Node) → Contains (children_of reach.node) child → length history < MOST_MOVES
     child_short child below =
         moves_short question is.valid history (move_of child)
         (child_below question is.valid history reach.node is.tree child below).2

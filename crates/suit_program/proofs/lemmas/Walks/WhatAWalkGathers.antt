@@ -94,7 +94,7 @@ module _ {X : Type 0} (piece : ClassHistory → List X) (question : Question) (s
 
   -- all nodes below a reached class history give what the walk gathers there
   module _ (reach : Reach) (reached : IsReach question support history reach) where
-    all_in : (more : ℕ) → more ≡ 52 - length history → IsTreeAt more question history reach.node
+    all_in : (more : ℕ) → more ≡ MOST_MOVES - length history → IsTreeAt more question history reach.node
         → gathered (children_of reach.node) ≡ flat_map piece (histories_from question support more history)
     unfolding IsTreeAt histories_from
     all_in zero is tree = ap gathered tree.1
@@ -109,11 +109,11 @@ module _ {X : Type 0} (piece : ClassHistory → List X) (question : Question) (s
         ∙ sym (flat_map_flat_map piece (λ move. histories_from question support more (history ++ move ∷ []))
         (next_moves question support history)))
       where
-        less : (more long longer : ℕ) → suc more ≡ 52 - long → longer ≡ long + 1 → 52 - longer ≡ more
+        less : (more long longer : ℕ) → suc more ≡ MOST_MOVES - long → longer ≡ long + 1 → MOST_MOVES - longer ≡ more
         less more long longer is next = omega (arith, is, next)
 
     pub gathered_all : gathered (children_of reach.node) ≡ walked piece question support history
-    gathered_all = all_in (52 - length history) refl reached.tree
+    gathered_all = all_in (MOST_MOVES - length history) refl reached.tree
 
     -- what stands in a list as the walk gathers it does so at the class history and below each node
     pub stands_here : (all : List X) (index : ℕ) → StandsIn all index (walked piece question support history)
@@ -146,17 +146,18 @@ module _ {X : Type 0} (piece : ClassHistory → List X) (question : Question) (s
 -- where there is a node below, a move more may follow
 pub room_below : (question : Question) (support : Support) (history : ClassHistory) (reach : Reach)
     → IsReach question support history reach → (nodes : List Node) → nodes ≡ children_of reach.node → (i : ℕ)
-    → i < length nodes → length history < 52
+    → i < length nodes → length history < MOST_MOVES
 unfolding IsTreeAt
 room_below question support history reach reached nodes is i below =
-    at (52 - length history) refl reached.tree
+    at (MOST_MOVES - length history) refl reached.tree
   where
-    at : (more : ℕ) → more ≡ 52 - length history → IsTreeAt more question history reach.node → length history < 52
+    at : (more : ℕ) → more ≡ MOST_MOVES - length history → IsTreeAt more question history reach.node
+        → length history < MOST_MOVES
     at zero long tree = absurd (omega (arith, below, ap (λ (l : List Node). length l) (is ∙ tree.1)))
     at (suc more) long tree = omega (arith, long)
 
 pub room_less : (question : Question) (support : Support) (history : ClassHistory) (move : ClassMove) (more : ℕ)
-    → length history < 52 → more ≡ MOST_MOVES - length history
+    → length history < MOST_MOVES → more ≡ MOST_MOVES - length history
     → more - 1 ≡ MOST_MOVES - length (history ++ move ∷ [])
 room_less question support history move more short is =
     let longer = length-append history (move ∷ []) in omega (arith, short, is, longer)

@@ -1,14 +1,13 @@
 -- What the walk writes at a class history, turn by turn, is what is asked (`decided_case`, `waiting_case`,
 -- `passing_case`, `answering_case`).
-use Rattle.std.proofs.Common.{◌≡◌, ℕ, ◌+◌, ◌-◌, ◌<◌, ◌≤◌, Bool, true, false, List, [], ◌∷◌, length, map}
-use Rattle.std.proofs.Common.{refl, sym}
+use Rattle.std.proofs.Common.{◌≡◌, ℕ, ◌+◌, ◌-◌, ◌<◌, ◌≤◌, Bool, true, false, List, [], ◌∷◌, length, map, refl, sym}
 use Rattle.std.proofs.Common.{ap, ◌∙◌, subst, arith}
 use Rattle.std.specs.Prelude.{Contains, ◌==◌, ◌^◌, if◌then◌else◌, pos, ◌-ℤ◌}
 use Rattle.std.specs.List.{flat_map}
 use Rattle.std.proofs.lemmas.Bool.{false≢true}
 use Rattle.std.proofs.lemmas.List.{length-map}
 use Rattle.suit_lists.proofs.Elements.{Contains-first}
-use Rattle.suit_game.specs.declared.limits.TheConstants.{MOST_SUPPORT}
+use Rattle.suit_game.specs.declared.limits.TheConstants.{HAND_SIZE, MOST_MOVES, MOST_SUPPORT}
 use Rattle.suit_classes.specs.declared.class_moves.ClassMove.{ClassMove}
 use Rattle.suit_classes.specs.declared.class_turn.ClassTurn.TheVariants as turn_kinds
 use Rattle.suit_classes.specs.ClassPlaces.{class_after, class_decided, class_payoff, class_turn}
@@ -30,8 +29,7 @@ use Rattle.suit_program.specs.Programs.Points.{Passed}
 use Rattle.suit_program.specs.Walks.Reaches.{Reached}
 use Rattle.suit_program.specs.Supports.{declarer_chooses, reached_layouts, supported_moves}
 use Rattle.suit_program.specs.Walks.Writing.{AreAnswered, IsAsked, IsOpened, accounts_after, answer_seen, answered_by}
-use Rattle.suit_program.specs.Walks.Writing.{layout_of}
-use Rattle.suit_program.specs.Walks.Writing.{mass_after}
+use Rattle.suit_program.specs.Walks.Writing.{layout_of, mass_after}
 use Rattle.suit_program.proofs.lemmas.Walks.RoomToWrite.{room_columns, room_rows, theirs_there, turn_same}
 use Rattle.suit_program.proofs.lemmas.Walks.LedgerByPostings.{paid}
 use Rattle.suit_program.proofs.lemmas.Walks.WrittenAtATurn.{answered_opened, kept_opened, over_opened, passed_opened}
@@ -74,9 +72,10 @@ module _ (ledger : Ledger) (reach : Reach) (accounts : List Account) (mass : ℕ
   payoff_is : payoff_at reach.node
       ≡ (if class_decided (class_after case.question case.history)
       then class_payoff (class_after case.question case.history) else 0)
-  payoff_is = (tree_stands (52 - length case.history) case.question case.history reach.node case.reached.tree).payoff
+  payoff_is = (tree_stands (MOST_MOVES - length case.history) case.question case.history reach.node
+      case.reached.tree).payoff
 
-  pub payoff_few : payoff_at reach.node ≤ 13
+  pub payoff_few : payoff_at reach.node ≤ HAND_SIZE
   payoff_few =
       limit (class_decided (class_after case.question case.history))
       (class_payoff (class_after case.question case.history)) (payoff_at reach.node)
@@ -85,7 +84,7 @@ module _ (ledger : Ledger) (reach : Reach) (accounts : List Account) (mass : ℕ
       (reached_allows case.question case.support case.reached.valid (layout_of case.question some_account.0)
       there.listed case.history there.reached))
     where
-      limit : (b : Bool) (n m : ℕ) → m ≡ (if b then n else 0) → n ≤ 13 → m ≤ 13
+      limit : (b : Bool) (n m : ℕ) → m ≡ (if b then n else 0) → n ≤ HAND_SIZE → m ≤ HAND_SIZE
       limit true n m is few = omega (arith, is, few)
       limit false n m is few = omega (arith, is)
 

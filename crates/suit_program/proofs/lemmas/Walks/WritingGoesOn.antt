@@ -8,6 +8,7 @@ use Rattle.std.proofs.lemmas.List.{get_or-append-add, length-append}
 use Rattle.std.proofs.lemmas.List.Concat.{flat_map-append}
 use Rattle.suit_lists.proofs.FlatMaps.{flat_map_flat_map}
 use Rattle.suit_game.specs.declared.question.Question.{Question}
+use Rattle.suit_game.specs.declared.limits.TheConstants.{MOST_MOVES}
 use Rattle.suit_classes.specs.declared.class_moves.ClassMove.{ClassMove}
 use Rattle.suit_classes.specs.declared.class_moves.ClassMove.TheVariants.{ShowOut}
 use Rattle.suit_plans.specs.Properness.{sum_of}
@@ -28,35 +29,35 @@ use Rattle.suit_program.proofs.lemmas.Walks.WritingByLayout.{extends_both}
 module _ (question : Question) (support : Support) (history : List ClassMove) where
   -- the columns and rows with a move more
   abbrev pub columns_by : ClassMove → List Column
-  columns_by move = columns_from question support (52 - length (history ++ move ∷ [])) (history ++ move ∷ [])
+  columns_by move = columns_from question support (MOST_MOVES - length (history ++ move ∷ [])) (history ++ move ∷ [])
 
   abbrev pub limits_by : ClassMove → List Limit
-  limits_by move = limits_from question support (52 - length (history ++ move ∷ [])) (history ++ move ∷ [])
+  limits_by move = limits_from question support (MOST_MOVES - length (history ++ move ∷ [])) (history ++ move ∷ [])
 
   -- the class histories from a class history on
   abbrev pub GoOn : Type 0
-  GoOn = histories_from question support (52 - length history) history
-      ≡ history ∷ flat_map (λ move. histories_from question support (52 - length (history ++ move ∷ []))
+  GoOn = histories_from question support (MOST_MOVES - length history) history
+      ≡ history ∷ flat_map (λ move. histories_from question support (MOST_MOVES - length (history ++ move ∷ []))
       (history ++ move ∷ [])) (next_moves question support history)
 
-  pub columns_split : GoOn → columns_from question support (52 - length history) history
+  pub columns_split : GoOn → columns_from question support (MOST_MOVES - length history) history
       ≡ columns_at question support history ++ flat_map columns_by (next_moves question support history)
   unfolding columns_from
   columns_split go =
       ap (flat_map (columns_at question support)) go
       ∙ ap (λ (l : List Column). columns_at question support history ++ l)
       (flat_map_flat_map (columns_at question support)
-      (λ move. histories_from question support (52 - length (history ++ move ∷ [])) (history ++ move ∷ []))
+      (λ move. histories_from question support (MOST_MOVES - length (history ++ move ∷ [])) (history ++ move ∷ []))
       (next_moves question support history))
 
-  pub limits_split : GoOn → limits_from question support (52 - length history) history
+  pub limits_split : GoOn → limits_from question support (MOST_MOVES - length history) history
       ≡ limits_at question support history ++ flat_map limits_by (next_moves question support history)
   unfolding limits_from
   limits_split go =
       ap (flat_map (limits_at question support)) go
       ∙ ap (λ (l : List Limit). limits_at question support history ++ l)
       (flat_map_flat_map (limits_at question support)
-      (λ move. histories_from question support (52 - length (history ++ move ∷ [])) (history ++ move ∷ []))
+      (λ move. histories_from question support (MOST_MOVES - length (history ++ move ∷ [])) (history ++ move ∷ []))
       (next_moves question support history))
 
   module _ (mass : ℕ) (accounts : List Account) (turn : Turn) where
@@ -157,8 +158,8 @@ module _ (question : Question) (support : Support) (history : List ClassMove) wh
           extends = extends_both old opened new (length (columns_at question support history))
               (length (limits_at question support history)) (length (flat_map columns_by next))
               (length (flat_map limits_by next))
-              (length (columns_from question support (52 - length history) history))
-              (length (limits_from question support (52 - length history) history))
+              (length (columns_from question support (MOST_MOVES - length history) history))
+              (length (limits_from question support (MOST_MOVES - length history) history))
               (ap (λ (l : List Column). length l) columns
               ∙ length-append (columns_at question support history) (flat_map columns_by next))
               (ap (λ (l : List Limit). length l) rows
@@ -173,7 +174,7 @@ module _ (question : Question) (support : Support) (history : List ClassMove) wh
               (told (excess question support point) old.rows (limits_at question support history) row)
               (told (excess question support point) opened.rows (flat_map limits_by next) row)
               (told (excess question support point) old.rows
-              (limits_from question support (52 - length history) history) row)
+              (limits_from question support (MOST_MOVES - length history) history) row)
               (opens.values point given parts.0 same row)
               (passed.values point given (subst (λ (n : ℕ). AreGiven given point n (flat_map columns_by next))
               (sym wide) parts.1) (λ index below. opens.masses point given parts.0 same index below) row)

@@ -1,5 +1,4 @@
-use Rattle.std.proofs.Common.{rules, ◌≡◌, ◌^◌, ℤ, pos, ◌≤ℤ◌, ◌<ℤ◌, ◌*ℤ◌, to_z, of_z, FitsSigned, List, sym, ap, ◌∙◌}
-use Rattle.std.proofs.Common.{subst}
+use Rattle.std.proofs.Common.{rules, ◌≡◌, ℤ, pos, ◌≤ℤ◌, ◌<ℤ◌, ◌*ℤ◌, to_z, of_z, FitsSigned, List, sym, ap, ◌∙◌, subst}
 use Rattle.std.specs.Int.{w128}
 use Rattle.std.proofs.lemmas.Int.{to_z-of_z}
 use Rattle.suit_num.proofs.IntegerLaws.{int_le-true}
@@ -10,6 +9,7 @@ use Rattle.suit_plans.proofs.ProperPlans.{proper_plan}
 use Rattle.suit_plans.specs.BestReplies.{least, least_reply, most}
 use Rattle.suit_plans.specs.declared.moves.DeclarerMove.{DeclarerMove}
 use Rattle.suit_plans.specs.declared.moves.DefenceMove.{DefenceMove}
+use Rattle.suit_plans.specs.declared.plan.TheConstants.{MOST_DEN, WORTH_BOUND}
 use Rattle.suit_reply.specs.AgainstDefence.{IsDefenceFor}
 use Rattle.suit_reply.specs.AgainstPlan.{IsPlanFor}
 use Rattle.suit_answer.specs.Reduced.{fraction}
@@ -25,15 +25,15 @@ value_over-value-requires-clause-number c =
     to_z-of_z w128 c.in_ok-earned.earned fits
     ∙ c.in_ok-earned.ensures.number
     (record { question = question; valid = c.requires.valid; grown = c.requires.grown; proper = c.requires.plan }) in
-    subst (λ (z : ℤ). (pos 0 ≤ℤ z) × (z <ℤ pos (2 ^ 118))) (sym earns)
+    subst (λ (z : ℤ). (pos 0 ≤ℤ z) × (z <ℤ WORTH_BOUND)) (sym earns)
     (leasts_bounded question c.args.plan c.requires.valid c.requires.plan)
 
 pub value_over-value-requires-clause-den : goal.value_over-value-requires-clause-den
 value_over-value-requires-clause-den c =
     let fits : FitsSigned w128 c.args.plan.den = search rules in
     let parts = proper_plan c.args.question.now c.args.plan c.requires.plan in
-    subst (λ (z : ℤ). (pos 1 ≤ℤ z) × (z ≤ℤ pos (2 ^ 90))) (sym (to_z-of_z w128 c.args.plan.den fits))
-    (int_le-true (pos 1) c.args.plan.den parts.0, int_le-true c.args.plan.den (pos (2 ^ 90)) parts.1)
+    subst (λ (z : ℤ). (pos 1 ≤ℤ z) × (z ≤ℤ MOST_DEN)) (sym (to_z-of_z w128 c.args.plan.den fits))
+    (int_le-true (pos 1) c.args.plan.den parts.0, int_le-true c.args.plan.den MOST_DEN parts.1)
 
 pub value_over-requires-clause-number : goal.value_over-requires-clause-number
 value_over-requires-clause-number c =
@@ -43,15 +43,15 @@ value_over-requires-clause-number c =
     to_z-of_z w128 c.in_ok-allowed.allowed fits
     ∙ c.in_ok-allowed.ensures.number
     (record { question = question; valid = c.requires.valid; grown = c.requires.grown; proper = c.requires.defence }) in
-    subst (λ (z : ℤ). (pos 0 ≤ℤ z) × (z <ℤ pos (2 ^ 118))) (sym allows)
+    subst (λ (z : ℤ). (pos 0 ≤ℤ z) × (z <ℤ WORTH_BOUND)) (sym allows)
     (mosts_bounded question c.args.defence c.requires.valid c.requires.defence)
 
 pub value_over-requires-clause-den : goal.value_over-requires-clause-den
 value_over-requires-clause-den c =
     let fits : FitsSigned w128 c.args.defence.den = search rules in
     let parts = proper_defence c.args.question.now c.args.defence c.requires.defence in
-    subst (λ (z : ℤ). (pos 1 ≤ℤ z) × (z ≤ℤ pos (2 ^ 90))) (sym (to_z-of_z w128 c.args.defence.den fits))
-    (int_le-true (pos 1) c.args.defence.den parts.0, int_le-true c.args.defence.den (pos (2 ^ 90)) parts.1)
+    subst (λ (z : ℤ). (pos 1 ≤ℤ z) × (z ≤ℤ MOST_DEN)) (sym (to_z-of_z w128 c.args.defence.den fits))
+    (int_le-true (pos 1) c.args.defence.den parts.0, int_le-true c.args.defence.den MOST_DEN parts.1)
 
 pub returns-then-eq : goal.returns-then-eq
 returns-then-eq c =

@@ -1,5 +1,6 @@
 use Rattle.std.proofs.Common.{◌≡◌, ℕ, ◌+◌, ◌-◌, ◌<◌, ◌++◌, get_or, length, take}
 use Rattle.std.specs.Prelude.{ℤ}
+use Rattle.suit_game.specs.declared.limits.TheConstants.{MOST_MOVES}
 use Rattle.suit_program.specs.declared.walks.defence_reader.DefenceReader.{DefenceReader}
 use Rattle.suit_program.specs.Walks.DefenceLists.{RowList}
 use Rattle.suit_program.specs.Walks.DefenceWalks.{IsDefenceStop, turn_row}
@@ -9,7 +10,7 @@ use Rattle.suit_program.proofs.lemmas.Walks.WhatAWalkGathers.{gathered}
 use Rattle.suit_program.proofs.walks.defence_walk.DefenceWalk.+below.Given as goal
 
 abbrev pub decreases-below : goal.decreases-below
-decreases-below l = 52 - length l.history.now.items
+decreases-below l = MOST_MOVES - length l.history.now.items
 
 abbrev pub invariant-loop-child : goal.invariant-loop-child
 invariant-loop-child l = record {

@@ -1,11 +1,12 @@
 use Rattle.std.proofs.Common.{◌≡◌, ◌+◌, ◌-◌, ◌++◌, length, take}
+use Rattle.suit_game.specs.declared.limits.TheConstants.{MOST_MOVES}
 use Rattle.suit_program.specs.Walks.PlanWalks.{IsPlanStop, reading_of, row_here}
 use Rattle.suit_program.specs.Programs.{columns_at}
 use Rattle.suit_program.proofs.lemmas.Walks.WhatAWalkGathers.{gathered}
 use Rattle.suit_program.proofs.walks.plan_reader.PlanReader.+below.Given as goal
 
 abbrev pub decreases-below : goal.decreases-below
-decreases-below l = 52 - length l.history.now.items
+decreases-below l = MOST_MOVES - length l.history.now.items
 
 abbrev pub invariant-loop-child : goal.invariant-loop-child
 invariant-loop-child l = record {

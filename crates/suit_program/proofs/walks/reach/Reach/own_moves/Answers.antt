@@ -2,6 +2,7 @@ use Rattle.std.proofs.Common.{◌<◌, ◌-◌, ◌∷◌, [], Bool, get_or, Lis
 use Rattle.std.proofs.lemmas.List.{length-append, take_all}
 use Rattle.suit_lists.proofs.Filters.{filter_of_map}
 use Rattle.suit_lists.proofs.Walks.{kept_one, kept_other}
+use Rattle.suit_game.specs.declared.limits.TheConstants.{MOST_MOVES}
 use Rattle.suit_classes.specs.declared.class_moves.ClassMove.{ClassMove}
 use Rattle.suit_tree.specs.declared.node.Node.{Node}
 use Rattle.suit_tree.specs.Nodes.{children_of, move_of}
@@ -15,7 +16,7 @@ use Rattle.suit_program.specs.declared.walks.reach.TheConstants.{MOST_NEXT}
 
 pub push-requires : goal.push-requires
 push-requires c =
-    let most = few_children (52 - length c.requires.history) c.requires.question c.requires.history
+    let most = few_children (MOST_MOVES - length c.requires.history) c.requires.question c.requires.history
     c.args.self.now.node c.requires.reached.tree in
     let few : length c.loop-child.moves.items < MOST_NEXT =
     omega (
