@@ -17,7 +17,8 @@ use Rattle.suit_table.specs.Tables.{AreLines, IsTable}
 use Rattle.suit_table.specs.declared.outcomes.Outcome.{Outcome}
 use Rattle.suit_table.specs.declared.outcomes.Outcome.TheVariants.{Value, Nodes, Support, Pivots, Wide, Memory}
 use Rattle.suit_top.specs.declared.status.Status.TheVariants.{Csv, Done}
-use Rattle.suit_top.specs.Commands.Table.{due_of_records, due_tabling, Fits, IsCertifiedValue, IsTextTabled, outcome_of, Shows}
+use Rattle.suit_top.specs.Commands.Table.{due_of_records, due_tabling, Fits, IsCertifiedValue, IsTextTabled, outcome_of}
+use Rattle.suit_top.specs.Commands.Table.{Shows}
 use Rattle.suit_top.specs.Refusals.{misfit_line}
 use Rattle.suit_top.proofs.ValidIsCertified.{met_certified}
 use Rattle.suit_top.proofs.FatesAreCertified.{fate_met}

@@ -1,5 +1,5 @@
 -- `found_checks`: an answer that is found to be valid is certified.
-use Rattle.std.proofs.Common.{◌≡◌, ℕ, zero, suc, ◌*◌, ◌<◌, Bool, true, false, refl, sym, ap, ◌∙◌}
+use Rattle.std.proofs.Common.{◌≡◌, ℕ, zero, suc, ◌*◌, ◌<◌, Bool, true, false, refl, sym, ap}
 use Rattle.std.proofs.Common.{subst, arith}
 use Rattle.std.proofs.lemmas.Int.{ints}
 use Rattle.std.specs.Prelude.{ℤ, pos, negsuc, ◌*ℤ◌, ◌≤ℤ◌, ◌<ℤ◌, nat_lt, unsigned_abs, if◌then◌else◌}
@@ -20,7 +20,7 @@ use Rattle.suit_lift.proofs.OneValue.{met_is_certified}
 use Rattle.suit_lift.proofs.PlanGains.{plans_earn}
 use Rattle.suit_top.specs.declared.status.Status.TheVariants.{Done, Nodes, Usage}
 use Rattle.suit_top.specs.Certified.{IsCertifiedAnswer}
-use Rattle.suit_top.specs.Commands.Check.{Checks, due_checking, due_found, valid_text}
+use Rattle.suit_top.specs.Commands.Check.{Checks, due_checking, due_found}
 use Rattle.suit_top.specs.Dues.{Due}
 use Rattle.suit_top.specs.Refusals.{nodes_line}
 

@@ -1,6 +1,5 @@
 -- An answer of which `check` owes Done can be told (`done_tellable`): its plan is proper and its value is not large.
-use Rattle.std.proofs.Common.{◌≡◌, ℕ, zero, suc, ◌+◌, ◌*◌, ◌^◌, ◌<◌, ◌≤◌, Bool, true, false, [], refl}
-use Rattle.std.proofs.Common.{sym}
+use Rattle.std.proofs.Common.{◌≡◌, ℕ, zero, suc, ◌+◌, ◌*◌, ◌^◌, ◌<◌, ◌≤◌, Bool, true, false, [], refl, sym}
 use Rattle.std.proofs.Common.{ap, ◌∙◌, subst, arith}
 use Rattle.std.proofs.Math.IntN.{*ℤ_comm}
 use Rattle.std.proofs.Math.Nat.{mul-le-mul_right}
@@ -11,7 +10,7 @@ use Rattle.suit_num.proofs.IntegerLaws.{int_le-true}
 use Rattle.suit_num.specs.declared.fraction.Frac.{Frac}
 use Rattle.suit_cards.specs.Cards.{ClassLayout}
 use Rattle.suit_game.specs.declared.question.Question.{Question}
-use Rattle.suit_game.specs.declared.limits.TheConstants.{MOST_TOTAL}
+use Rattle.suit_game.specs.declared.limits.TheConstants.{HAND_SIZE, MOST_TOTAL}
 use Rattle.suit_game.specs.Layouts.{total}
 use Rattle.suit_game.specs.Validity.{IsValid}
 use Rattle.suit_game.proofs.WhatAllLayoutsWeigh.{total_at_most}
@@ -22,7 +21,7 @@ use Rattle.suit_plans.specs.BestReplies.{least, reply_to_plan, worth}
 use Rattle.suit_plans.specs.Properness.{IsProperPlan}
 use Rattle.suit_plans.specs.ReplyLaws.{IsPaid}
 use Rattle.suit_plans.specs.declared.plan.Plan.{Plan}
-use Rattle.suit_plans.specs.declared.plan.TheConstants.{MOST_DEN}
+use Rattle.suit_plans.specs.declared.plan.TheConstants.{MOST_DEN, MOST_MASS}
 use Rattle.suit_plans.proofs.RepliesAreBounded.{sum_weighed, weighed_paid, weights_add}
 use Rattle.suit_plans.proofs.AtMostThirteenTricks.{sum_paid}
 use Rattle.suit_plans.proofs.ProperPlans.{proper_plan}
@@ -31,6 +30,7 @@ use Rattle.suit_answer.specs.Reduced.{fraction}
 use Rattle.suit_answer.proofs.OneFractionInLowestTerms.{fraction_small, made_fraction, some_from_one, whole_over}
 use Rattle.suit_lines.specs.Lines.{lines_of}
 use Rattle.suit_lines.specs.Values.{IsTellable}
+use Rattle.suit_lines.specs.declared.value.TheConstants.{MOST_VALUE}
 use Rattle.suit_check.specs.Verdicts.{Finding, Valid, Plan as PlanFound, Defence, Least, Most, verdict_of}
 use Rattle.suit_check.specs.VerdictLaws.{IsMet}
 use Rattle.suit_check.proofs.VerdictsMet.{valid_is_met}
@@ -79,12 +79,12 @@ plan_paid question plan valid proper =
     (sum_paid worths (λ (layout : ClassLayout × ℕ). pos layout.1 *ℤ plan.den) layouts
     (λ layout found. weighed_paid question plan layout valid proper found))
 
-few_times : (a n d w : ℕ) → 0 < w → a ≤ 13 * w → a * d ≡ n * w → n ≤ 1000 * d
+few_times : (a n d w : ℕ) → 0 < w → a ≤ HAND_SIZE * w → a * d ≡ n * w → n ≤ MOST_VALUE * d
 few_times a n d w some few same =
-    let scaled : a * d ≤ (13 * w) * d = mul-le-mul_right d few in
-    let within : n * w ≤ (13 * d) * w + 0 = omega (arith, same, scaled) in
-    let small : n ≤ 13 * d = subst (λ (m : ℕ). n ≤ m) (div-mul-add (13 * d) w 0 some)
-    (le-div n ((13 * d) * w + 0) w some within) in
+    let scaled : a * d ≤ (HAND_SIZE * w) * d = mul-le-mul_right d few in
+    let within : n * w ≤ (HAND_SIZE * d) * w + 0 = omega (arith, same, scaled) in
+    let small : n ≤ HAND_SIZE * d = subst (λ (m : ℕ). n ≤ m) (div-mul-add (HAND_SIZE * d) w 0 some)
+    (le-div n ((HAND_SIZE * d) * w + 0) w some within) in
     omega arith
 
 no_less : (a n w : ℕ) → 0 < w → pos a ≡ negsuc n *ℤ pos w → ⊥
@@ -93,12 +93,12 @@ no_less a n (suc w) some same = omega (arith, ints, same)
 
 record IsFew (num den : ℤ) : Type 0 where
   least : pos 0 ≤ℤ num
-  most : num ≤ℤ (pos 1000 *ℤ den)
+  most : num ≤ℤ (pos MOST_VALUE *ℤ den)
 
-few_value : (number num den whole : ℤ) → pos 0 ≤ℤ number → number ≤ℤ (pos 13 *ℤ whole) → pos 0 <ℤ den
+few_value : (number num den whole : ℤ) → pos 0 ≤ℤ number → number ≤ℤ (pos HAND_SIZE *ℤ whole) → pos 0 <ℤ den
     → pos 0 <ℤ whole → number *ℤ den ≡ num *ℤ whole → IsFew num den
 few_value (pos a) (pos n) (pos d) (pos w) low few positive some same =
-    let small : n ≤ 1000 * d =
+    let small : n ≤ MOST_VALUE * d =
     few_times a n d w (omega (arith, ints, some)) (omega (arith, ints, few)) (ap unsigned_abs same) in
     record { least = omega (arith, ints); most = omega (arith, ints, small) }
 few_value (pos a) (negsuc n) (pos d) (pos w) low few positive some same =
@@ -109,7 +109,7 @@ few_value (pos a) num (pos d) (negsuc w) low few positive some same = absurd (om
 
 -- a denominator that is no larger than a plan's times the total weight is not large
 fine_den : (den part : ℤ) (t : ℕ) → pos 1 ≤ℤ part → part ≤ℤ MOST_DEN → t ≤ MOST_TOTAL → den ≤ℤ (part *ℤ pos t)
-    → den ≤ℤ pos (2 ^ 114)
+    → den ≤ℤ pos MOST_MASS
 fine_den den (pos p) t one most few within =
     let below : den ≤ℤ pos (p * t) = within in
     let scaled : p * t ≤ 2 ^ 90 * t = mul-le-mul_right t (omega (arith, ints, most)) in
@@ -126,8 +126,8 @@ done_tellable question answer valid is =
     let whole : ℤ = answer.plan.den *ℤ pos (total question) in
     let some : pos 0 <ℤ whole = whole_over question answer.plan.den valid (some_from_one answer.plan.den one) in
     let paid = plan_paid question answer.plan valid met.plan in
-    let few : number ≤ℤ (pos 13 *ℤ whole) =
-    subst (λ (z : ℤ). number ≤ℤ (pos 13 *ℤ z)) (*ℤ_comm (pos (total question)) answer.plan.den) paid.few in
+    let few : number ≤ℤ (pos HAND_SIZE *ℤ whole) =
+    subst (λ (z : ℤ). number ≤ℤ (pos HAND_SIZE *ℤ z)) (*ℤ_comm (pos (total question)) answer.plan.den) paid.few in
     let small = few_value number answer.value.num answer.value.den whole paid.some few answer.value.positive some
     met.least in
     let lowest : answer.value ≡ fraction number whole = made_fraction answer.value number whole some met.least in

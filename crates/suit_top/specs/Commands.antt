@@ -30,7 +30,8 @@ abbrev pub command_of : List Text → Option Command
 command_of words =
     option_or (option_map reads.OnQuestion (question_command_of words))
     (option_or (option_map reads.OnAnswer (answer_command_of words))
-    (option_or (option_map reads.OnTable (table_command_of words)) (option_map reads.OnNothing (bare_command_of words))))
+    (option_or (option_map reads.OnTable (table_command_of words))
+    (option_map reads.OnNothing (bare_command_of words))))
 
 -- what holds of every command: the words of those that read nothing say no more than they may
 abbrev pub IsCommand : Command → Type 0

@@ -2,16 +2,21 @@
 use Rattle.std.specs.Prelude.{◌≡◌, ◌^◌, ◌-◌, [], ◌∷◌, codes, pos}
 use Rattle.suit_num.specs.Narrow.{IsNarrow}
 use Rattle.suit_cards.specs.Cards.{Text}
+use Rattle.suit_text.specs.declared.limits.TheConstants.{MOST_TEXT}
 use Rattle.suit_game.specs.declared.limits.TheConstants.{DEFAULT_NODES, DEFAULT_PIVOTS, HAND_SIZE, MOST_MOVES}
 use Rattle.suit_game.specs.declared.limits.TheConstants.{MOST_NODES, MOST_PIVOTS, MOST_SUPPORT, MOST_TOTAL}
+use Rattle.suit_classes.specs.declared.classes.TheConstants.{MOST_CLASSES, MOST_DEFENCE_CLASSES}
 use Rattle.suit_gen.specs.declared.deals.TheConstants.{MADE_NODES, MADE_PIVOTS}
 use Rattle.suit_layouts.specs.declared.class_list.TheConstants.{MOST_CLASS_LAYOUTS}
 use Rattle.suit_linear.specs.declared.limits.TheConstants.{MOST_SMALL}
-use Rattle.suit_plans.specs.declared.plan.TheConstants.{MOST_DEN}
+use Rattle.suit_plans.specs.declared.plan.TheConstants.{MOST_DEN, MOST_MASS, WORTH_BOUND}
+use Rattle.suit_question.specs.declared.values.TheConstants.{MOST_DIGITS}
 use Rattle.suit_table.specs.declared.judging.TheConstants.{BATCH}
 use Rattle.suit_table.specs.declared.outcomes.TheConstants.{MOST_BITS}
 use Rattle.suit_table.specs.declared.records.TheConstants.{FIELDS, MOST_TABLE}
 use Rattle.suit_table.specs.declared.summaries.TheConstants.{MOST_QUESTIONS}
+use Rattle.suit_answer.specs.declared.parts.TheConstants.{MOST_LINES, MOST_ROWS}
+use Rattle.suit_lines.specs.declared.value.TheConstants.{MOST_DECIMALS, MOST_HUNDREDTHS, MOST_VALUE}
 use Rattle.suit_top.specs.declared.commands.TheConstants.{MOST_INPUT}
 use Rattle.suit_top.specs.declared.commands.made.TheConstants.{MOST_RECORDS}
 use Rattle.suit_top.specs.declared.status.Status.{Status}
@@ -36,9 +41,14 @@ pub record Refused : Type 0 where
 
 -- the limits, as numbers: definitions cite the constants of the code, so that another number would be proved as well
 pub record Limits : Type 0 where
-  -- bytes of input, of a table and of all else
+  -- bytes of a text, and of input: of a table and of all else
+  pub text : MOST_TEXT ≡ 16777216
   pub table : MOST_TABLE ≡ 16777216
   pub input : MOST_INPUT ≡ 2097152
+  -- digits of a question's numbers, rows that a line of an answer may tell of, and lines of an answer
+  pub digits : MOST_DIGITS ≡ 9
+  pub rows : MOST_ROWS ≡ 4294967295
+  pub lines : MOST_LINES ≡ 16777217
   -- budgets: the most, and what stands where none is given
   pub nodes : MOST_NODES ≡ 4000000
   pub usual_nodes : DEFAULT_NODES ≡ 200000
@@ -46,9 +56,17 @@ pub record Limits : Type 0 where
   pub usual_pivots : DEFAULT_PIVOTS ≡ 100000
   -- rows and columns of a support
   pub support : MOST_SUPPORT ≡ 4000
-  -- the denominator of a plan or a defence
+  -- the denominator of a plan or a defence, the masses of all layouts together, and what either is worth
   pub den : MOST_DEN ≡ pos (2 ^ 90)
-  -- class layouts, moves of a history, cards of a hand, and what all layouts weigh
+  pub mass : MOST_MASS ≡ 2 ^ 114
+  pub worth : WORTH_BOUND ≡ pos (2 ^ 118)
+  -- the value that a sentence tells, its digits after the point, and its hundredths
+  pub value : MOST_VALUE ≡ 1000
+  pub decimals : MOST_DECIMALS ≡ 4
+  pub hundredths : MOST_HUNDREDTHS ≡ 10000000
+  -- classes, those of the defenders, class layouts, moves of a history, cards of a hand, and what all layouts weigh
+  pub classes : MOST_CLASSES ≡ 13
+  pub defence_classes : MOST_DEFENCE_CLASSES ≡ 7
   pub class_layouts : MOST_CLASS_LAYOUTS ≡ 162
   pub moves : MOST_MOVES ≡ 52
   pub hand : HAND_SIZE ≡ 13
