@@ -264,7 +264,7 @@ module _ (question : Question) (support : Support) (valid : IsValid question) (p
     side = defenders question scale all_rows west
 
     listed : Contains (layouts_of question) layout
-    listed = subst (λ (l : List (ClassLayout × ℕ)). Contains l layout) (sym parts)
+    listed = Contains-same layout (sym parts)
         (Contains-append_right front (layout ∷ back) layout (Contains-first layout back))
 
     chain : Chained IsLayoutBefore (front ++ layout ∷ back)
@@ -536,7 +536,7 @@ module _ (question : Question) (support : Support) (valid : IsValid question) (p
     row_fine done history rest parts =
         let row : DefenceRow = record { west = west; history = history; counts = counts_in west history } in
         let found : Contains (kept_in west) history =
-        subst (λ (l : List (List ClassMove)). Contains l history) (sym parts)
+        Contains-same history (sym parts)
         (Contains-append_right done (history ∷ rest) history (Contains-first history rest)) in
         let kept = and_parts (is_reached question support west history) (has_row reading history)
         (kept_parts (has_in west) (reached_histories question support) history found).1 in

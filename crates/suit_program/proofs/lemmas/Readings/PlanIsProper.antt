@@ -405,7 +405,7 @@ module _ (question : Question) (support : Support) (point : Point) (valid : IsVa
   unfolding row_counts
   row_fine done history rest parts =
       let found : Contains kept history =
-      subst (λ (l : List (List ClassMove)). Contains l history) (sym parts)
+      Contains-same history (sym parts)
       (Contains-append_right done (history ∷ rest) history (Contains-first history rest)) in
       let has = kept_parts (has_row reading) (reached_histories question support) history found in
       let there = listed_somewhere question support valid history has.0 in

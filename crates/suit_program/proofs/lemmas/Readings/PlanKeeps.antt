@@ -364,8 +364,9 @@ module _ (question : Question) (support : Support) (point full : Point) (k : ℤ
       let live : Live (history ++ move ∷ []) = record {
         reached = reached_next question support west history move fits.reached found;
         followed = follows_next reply history move fits.followed
-            (λ own. same_alone (reply_move reply history) move (subst (λ (l : List ClassMove). Contains l
-            (reply_move reply history)) alone (reply_move_found reply history min_picks room some own)));
+            (λ own. same_alone (reply_move reply history) move
+            (Contains-same (reply_move reply history) alone
+            (reply_move_found reply history min_picks room some own)));
         live = ap (int_lt (pos 0)) (mass_stays history move fits.reached found not_own) ∙ fits.live;
       } in
       subst (λ (z : ℤ). z ≤ℤ (k *ℤ worth reply history))

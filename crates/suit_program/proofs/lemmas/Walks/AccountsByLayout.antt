@@ -1,8 +1,9 @@
 -- The accounts of the class layouts in which a class history is reached (`accounts_layouts`, `account_there`).
-use Rattle.std.proofs.Common.{◌≡◌, ℕ, Bool, true, List, [], ◌∷◌, ◌++◌, length, get_or, map, sym, ap, ◌∙◌, subst}
+use Rattle.std.proofs.Common.{◌≡◌, ℕ, Bool, true, List, [], ◌∷◌, ◌++◌, length, get_or, map, sym, ap, ◌∙◌}
 use Rattle.std.specs.Prelude.{Contains, ◌&&◌, filter}
 use Rattle.std.specs.List.{flat_map, range_with_len}
 use Rattle.std.proofs.lemmas.List.Elements.{filter_agree}
+use Rattle.suit_lists.proofs.Elements.{Contains-same}
 use Rattle.suit_cards.specs.Cards.{ClassLayout}
 use Rattle.suit_lists.proofs.Filters.{filter-filter, kept_parts}
 use Rattle.suit_lists.proofs.FlatMaps.{flat_map_map}
@@ -68,7 +69,7 @@ module _ (question : Question) (support : Support) (history : List ClassMove) (r
   account_there account found =
       let layout : ClassLayout × ℕ = layout_of question account in
       let held : Contains (reached_layouts question support history) layout =
-      subst (λ (l : List (ClassLayout × ℕ)). Contains l layout) accounts_layouts
+      Contains-same layout accounts_layouts
       (Contains-map (layout_of question) accounts account found) in
       let parts = kept_parts (λ (other : ClassLayout × ℕ). is_reached question support other.0 history)
       (layouts_of question) layout held in

@@ -1,5 +1,5 @@
 -- What a walk over reached class histories holds at the empty one (`start_reach`).
-use Rattle.std.proofs.Common.{◌≡◌, ℕ, ◌<◌, ◌≤◌, Bool, true, false, List, [], Option, Some, length, map, refl}
+use Rattle.std.proofs.Common.{◌≡◌, ℕ, ◌<◌, ◌≤◌, Bool, true, false, [], Option, Some, length, map, refl}
 use Rattle.std.proofs.Common.{sym, ap, ◌∙◌, subst, arith, inl, inr}
 use Rattle.std.specs.Prelude.{◌&&◌, ◌||◌, Contains, bytes_eq, nat_lt, if◌then◌else◌}
 use Rattle.std.specs.List.{list_any}
@@ -9,6 +9,7 @@ use Rattle.std.proofs.lemmas.List.{length-map, map-id}
 use Rattle.std.proofs.lemmas.List.FromFn.{length-range_with_len}
 use Rattle.std.proofs.lemmas.Simd.{map-map}
 use Rattle.std.proofs.lemmas.Slice.Eq.{bytes_eq-Decides}
+use Rattle.suit_lists.proofs.Elements.{Contains-same}
 use Rattle.suit_lists.proofs.Filters.{filter_all, length_filter-most}
 use Rattle.suit_lists.proofs.Maps.{Contains-map, Contains-map_from}
 use Rattle.suit_lists.proofs.Tests.{passing_some, some_passing}
@@ -172,7 +173,7 @@ module _ (question : Question) (valid : IsValid question) (tree : Tree) (grown :
       ≡ (reach.all || named_on (option_copied layout.named) moves move)
   start_theirs layout found moves move =
       let from = Contains-map_from (layout_named support) (layout_indices (layouts_of question)) (layout_seen layout)
-      (subst (λ (l : List (ℕ × Option Mark)). Contains l (layout_seen layout)) layouts
+      (Contains-same (layout_seen layout) layouts
       (Contains-map layout_seen reach.layouts.items layout found)) in
       let index : from.0 ≡ layout.index = ap (λ (seen : ℕ × Option Mark). seen.0) from.2 in
       let mark : defence_mark support from.0 ≡ option_copied layout.named =

@@ -502,7 +502,7 @@ module _ (question : Question) (support : Support) (history : ClassHistory) (rea
     from_layout layout found =
         let kept : List ReachedLayout = filter (λ other. goes_in reach other child) reach.layouts.items in
         let from = Contains-map_from (layout_after (move_of child)) kept (layout_seen layout)
-        (subst (λ (l : List (ℕ × Option Mark)). Contains l (layout_seen layout)) after
+        (Contains-same (layout_seen layout) after
         (Contains-map layout_seen next.layouts.items layout found)) in
         (from.0, (kept_parts (λ other. goes_in reach other child) reach.layouts.items from.0 from.1).0, from.2)
 
