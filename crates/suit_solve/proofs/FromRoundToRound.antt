@@ -1,5 +1,5 @@
 -- A question on its way through the rounds (`first_round`, `next_legal`, `next_at`).
-use Rattle.std.proofs.Common.{◌≡◌, ℕ, zero, suc, ◌+◌, ◌*◌, ◌^◌, ◌<◌, ◌≤◌, Bool, true, false, List, [], length, refl}
+use Rattle.std.proofs.Common.{◌≡◌, ℕ, zero, suc, ◌+◌, ◌*◌, ◌<◌, ◌≤◌, Bool, true, false, List, [], length, refl}
 use Rattle.std.proofs.Common.{sym, ap, ◌∙◌, subst, Some, None, Ok, Err, arith}
 use Rattle.std.specs.Prelude.{Contains, get_or, not, sum_by, if◌then◌else◌}
 use Rattle.std.proofs.lemmas.Bool.{le-ltb, lt-ltb}
@@ -156,13 +156,13 @@ first_under_way question tree support valid grown within is =
 
 -- no tree within the budget of any question has so many moves that a round's number is too wide
 pub round_fits : (question : Question) (tree : Tree) (support : Support) (round : ℕ)
-    → IsOnItsWay question tree support round → round < 2 ^ 28
+    → IsOnItsWay question tree support round → round ≤ MOST_NODES * MOST_NEXT
 round_fits question tree support round way =
     small (lacking question support) (lacking question first_support) (node_count question) question.nodes way.early
     (lacking_few question first_support) way.within way.valid.nodes_most
   where
     small : (left first count nodes : ℕ) → round + left ≤ first → first ≤ count * MOST_NEXT → count ≤ nodes
-        → nodes ≤ MOST_NODES → round < 2 ^ 28
+        → nodes ≤ MOST_NODES → round ≤ MOST_NODES * MOST_NEXT
     small left first count nodes early few le most = omega (arith, early, few, le, most)
 
 some_more : (less more : ℕ) → less < more → (left : ℕ) × (more ≡ suc left)

@@ -1,6 +1,8 @@
-use Rattle.std.proofs.Common.{◌+◌, ◌^◌, ◌<◌, ap, ◌∙◌, arith, sym, subst}
+use Rattle.std.proofs.Common.{◌+◌, ◌*◌, ◌≤◌, ap, ◌∙◌, arith, sym, subst}
+use Rattle.suit_game.specs.declared.limits.TheConstants.{MOST_NODES}
 use Rattle.suit_program.specs.Supports.Marks.{support_seen}
 use Rattle.suit_program.specs.Supports.{Support, with_moves}
+use Rattle.suit_program.specs.declared.walks.reach.TheConstants.{MOST_NEXT}
 use Rattle.suit_solve.specs.Plays.{ended_so}
 use Rattle.suit_solve.specs.Solving.{IsOnItsWay}
 use Rattle.suit_solve.proofs.FromRoundToRound.{next_legal, next_seen, next_under_way, round_fits}
@@ -16,7 +18,7 @@ add-requires c =
 pub overflow_add-self : goal.overflow_add-self
 overflow_add-self c =
     let solving = c.args.self.now in
-    let early : solving.round < 2 ^ 28 =
+    let early : solving.round ≤ MOST_NODES * MOST_NEXT =
     round_fits solving.question.now solving.tree (support_seen solving.question.now solving.support) solving.round
     c.requires in
     omega (arith, early)
