@@ -30,7 +30,8 @@ record IsWhole (number num den part : ℤ) (whole : ℕ) : Type 0 where
   den_is : den ≡ pos (counted den)
   met : counted number * counted den ≡ counted num * (counted part * whole)
 
-below_nothing : (a n m : ℕ) → 0 < m → pos a ≡ negsuc n *ℤ pos m → ⊥
+-- a number that is not negative is not a negative one times a positive one
+pub below_nothing : (a n m : ℕ) → 0 < m → pos a ≡ negsuc n *ℤ pos m → ⊥
 below_nothing a n zero some same = omega (arith, some)
 below_nothing a n (suc m) some same = omega (arith, ints, same)
 

@@ -1,5 +1,5 @@
 -- An answer of which `check` owes Done can be told (`done_tellable`): its plan is proper and its value is not large.
-use Rattle.std.proofs.Common.{◌≡◌, ℕ, zero, suc, ◌+◌, ◌*◌, ◌^◌, ◌<◌, ◌≤◌, Bool, true, false, [], refl, sym}
+use Rattle.std.proofs.Common.{◌≡◌, ℕ, ◌+◌, ◌*◌, ◌<◌, ◌≤◌, Bool, true, false, [], refl, sym}
 use Rattle.std.proofs.Common.{ap, ◌∙◌, subst, arith}
 use Rattle.std.proofs.Math.IntN.{*ℤ_comm}
 use Rattle.std.proofs.Math.Nat.{mul-le-mul_right}
@@ -39,7 +39,7 @@ use Rattle.suit_top.specs.Commands.Check.{due_checking, due_found}
 use Rattle.suit_top.specs.Commands.Lines.{due_telling, is_done}
 use Rattle.suit_top.specs.Dues.{Due, done}
 use Rattle.suit_top.specs.Refusals.{nodes_line}
-use Rattle.suit_top.proofs.ValidIsCertified.{check_tells}
+use Rattle.suit_top.proofs.ValidIsCertified.{below_nothing, check_tells}
 
 -- ---- what `check` owes with Done
 
@@ -87,10 +87,6 @@ few_times a n d w some few same =
     (le-div n ((HAND_SIZE * d) * w + 0) w some within) in
     omega arith
 
-no_less : (a n w : ℕ) → 0 < w → pos a ≡ negsuc n *ℤ pos w → ⊥
-no_less a n zero some same = omega (arith, some)
-no_less a n (suc w) some same = omega (arith, ints, same)
-
 record IsFew (num den : ℤ) : Type 0 where
   least : pos 0 ≤ℤ num
   most : num ≤ℤ (pos MOST_VALUE *ℤ den)
@@ -102,7 +98,7 @@ few_value (pos a) (pos n) (pos d) (pos w) low few positive some same =
     few_times a n d w (omega (arith, ints, some)) (omega (arith, ints, few)) (ap unsigned_abs same) in
     record { least = omega (arith, ints); most = omega (arith, ints, small) }
 few_value (pos a) (negsuc n) (pos d) (pos w) low few positive some same =
-    absurd (no_less (a * d) n w (omega (arith, ints, some)) same)
+    absurd (below_nothing (a * d) n w (omega (arith, ints, some)) same)
 few_value (negsuc a) num den whole low few positive some same = absurd (omega (arith, ints, low))
 few_value (pos a) num (negsuc d) whole low few positive some same = absurd (omega (arith, ints, positive))
 few_value (pos a) num (pos d) (negsuc w) low few positive some same = absurd (omega (arith, ints, some))
@@ -112,7 +108,7 @@ fine_den : (den part : ℤ) (t : ℕ) → pos 1 ≤ℤ part → part ≤ℤ MOST
     → den ≤ℤ pos MOST_MASS
 fine_den den (pos p) t one most few within =
     let below : den ≤ℤ pos (p * t) = within in
-    let scaled : p * t ≤ 2 ^ 90 * t = mul-le-mul_right t (omega (arith, ints, most)) in
+    let scaled : p * t ≤ unsigned_abs MOST_DEN * t = mul-le-mul_right t (omega (arith, ints, most)) in
     omega (arith, ints, below, scaled, few)
 fine_den den (negsuc p) t one most few within = absurd (omega (arith, ints, one))
 
