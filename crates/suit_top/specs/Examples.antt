@@ -10,6 +10,7 @@ use Rattle.suit_gen.specs.declared.deals.TheConstants.{MADE_NODES, MADE_PIVOTS}
 use Rattle.suit_layouts.specs.declared.class_list.TheConstants.{MOST_CLASS_LAYOUTS}
 use Rattle.suit_linear.specs.declared.limits.TheConstants.{MOST_SMALL}
 use Rattle.suit_plans.specs.declared.plan.TheConstants.{MOST_DEN, MOST_MASS, WORTH_BOUND}
+use Rattle.suit_reply.specs.declared.on_threads.TheConstants.{MOST_CHUNKS}
 use Rattle.suit_question.specs.declared.values.TheConstants.{MOST_DIGITS}
 use Rattle.suit_table.specs.declared.judging.TheConstants.{BATCH}
 use Rattle.suit_table.specs.declared.outcomes.TheConstants.{MOST_BITS}
@@ -82,5 +83,6 @@ pub record Limits : Type 0 where
   pub questions : MOST_QUESTIONS ≡ 10000
   pub made_nodes : MADE_NODES ≡ 2000
   pub made_pivots : MADE_PIVOTS ≡ 200
-  -- tasks that stand at once
+  -- tasks that stand at once, and threads of a best reply
   pub tasks : BATCH ≡ 4
+  pub chunks : MOST_CHUNKS ≡ 4
