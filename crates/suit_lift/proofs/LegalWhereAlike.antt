@@ -143,7 +143,8 @@ module _ (question : Question) (west other : Cards) (two : AreTwo question west 
       alike_more place.gone (step_in question place trick move).gone card later
       (both_have turn place.gone card theirs held
       (follow_held (hand question other place turn) card
-      (subst (λ (m : Move). Contains (follows_of (hand question other place turn)) m) is (Contains-same move (lists other) too)))) alike
+      (subst (λ (m : Move). Contains (follows_of (hand question other place turn)) m) is
+      (Contains-same move (lists other) too)))) alike
   alike_after place trick move alike too (TheirOut turn waits theirs lists is none later) =
       alike_same place.gone (step_in question place trick move).gone later alike
 

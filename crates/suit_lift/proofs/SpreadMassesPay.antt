@@ -435,7 +435,8 @@ module _ (question : Question) (declarer : Way) (defence : Defence) (valid : IsV
           let hands : Hands = hands_of question in
           let reply : Reply = reply_to_defence question defence in
           let class : ClassMove = merge hands choice.1 in
-          let legal_start : Contains (legal question start history) choice.1 = Contains-same choice.1 (sym (same_legal start)) (pick_legal choice found) in
+          let legal_start : Contains (legal question start history) choice.1 =
+          Contains-same choice.1 (sym (same_legal start)) (pick_legal choice found) in
           let low = counted_least (worth reply (here_line ++ class ∷ [])) (worth reply here_line)
           (subst (λ (z : ℤ). worth reply (here_line ++ class ∷ []) ≤ℤ z) (sym (most_by start live true own))
           (most_of (λ move. worth reply (here_line ++ move ∷ [])) replies_at class
@@ -448,7 +449,8 @@ module _ (question : Question) (declarer : Way) (defence : Defence) (valid : IsV
       pick_bound choice found =
           let next : History = history ++ choice.1 ∷ [] in
           let share : Fraction = parts_of choice.0 picks_weight in
-          let legal_start : Contains (legal question start history) choice.1 = Contains-same choice.1 (sym (same_legal start)) (pick_legal choice found) in
+          let legal_start : Contains (legal question start history) choice.1 =
+          Contains-same choice.1 (sym (same_legal start)) (pick_legal choice found) in
           let alive : IsLive question start next =
           record {
             play = play_more question start history choice.1 live.play legal_start;
@@ -646,7 +648,8 @@ module _ (question : Question) (declarer : Way) (defence : Defence) (valid : IsV
       unfolding next_worth
       bound_among move [] is = omega arith
       bound_among move (west ∷ wests) is =
-          let found : Contains (live_layouts question (history ++ move ∷ [])) west = Contains-same west (sym is) (Contains-first west wests) in
+          let found : Contains (live_layouts question (history ++ move ∷ [])) west =
+          Contains-same west (sym is) (Contains-first west wests) in
           let before = live_before west move found in
           let class : ClassMove = merge (hands_of question) move in
           let among : is_among replies_at class ≡ true = among_contained replies_at class (reply_has west move
@@ -663,7 +666,8 @@ module _ (question : Question) (declarer : Way) (defence : Defence) (valid : IsV
           then card_share question gone_now replies_at next_worth card else 0)
       bound_left card [] is = omega arith
       bound_left card (west ∷ wests) is =
-          let found : Contains (live_layouts question (history ++ Follow card ∷ [])) west = Contains-same west (sym is) (Contains-first west wests) in
+          let found : Contains (live_layouts question (history ++ Follow card ∷ [])) west =
+          Contains-same west (sym is) (Contains-first west wests) in
           let before = live_before west (Follow card) found in
           let held = their_left question west history card
           (live_is question west history valid before.0).play theirs before.1 in

@@ -39,7 +39,8 @@ pub common_divided : (among : ℕ) → 0 < among → among ≤ HAND_SIZE → com
 unfolding common divided
 common_divided zero some few = absurd (omega arith)
 common_divided (suc among) some few =
-    eqb-true (360360 / suc among * suc among) 360360 (agree_below_at divided (λ n. true) HAND_SIZE among refl (omega arith))
+    eqb-true (360360 / suc among * suc among) 360360
+    (agree_below_at divided (λ n. true) HAND_SIZE among refl (omega arith))
 
 -- a move is among its fellows
 pub fellows_some : (hands : Hands) (moves : List Move) (move : Move) → Contains moves move

@@ -23,7 +23,8 @@ at_some reply history [] some = absurd (cc)
 at_some reply history (first ∷ worths) some = refl
 
 -- with a move it is worth the best, or the sum
-pub worth_on : (reply : Reply) (history moves : ClassHistory) → length history < MOST_MOVES → reply.moves history ≡ moves
+pub worth_on : (reply : Reply) (history moves : ClassHistory) → length history < MOST_MOVES
+    → reply.moves history ≡ moves
     → HasFirst moves
     → worth reply history
     ≡ (if reply.replies history then best_of reply.best (map (λ move. worth reply (history ++ move ∷ [])) moves)

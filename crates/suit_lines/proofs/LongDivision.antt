@@ -41,7 +41,8 @@ digit_next num den power whole rest some most so_far =
 power_next : (k : ℕ) → 10 ^ k * 10 ≡ 10 ^ (k + 1)
 power_next k = rw (add-one) (sym (pow-suc 10 k))
 
-pub digit_more : (num den digit whole rest : ℕ) → 0 < den → num ≤ MOST_VALUE * den → Divides num den (10 ^ digit) whole rest
+pub digit_more : (num den digit whole rest : ℕ) → 0 < den → num ≤ MOST_VALUE * den
+    → Divides num den (10 ^ digit) whole rest
     → Divides num den (10 ^ (digit + 1)) (whole * 10 + rest * 10 / den) (rest * 10 % den)
 digit_more num den digit whole rest some most so_far =
     subst (λ (power : ℕ). Divides num den power (whole * 10 + rest * 10 / den) (rest * 10 % den)) (power_next digit)

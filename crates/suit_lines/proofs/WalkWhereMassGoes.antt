@@ -81,7 +81,8 @@ have_allows : (question : Question) (history : ClassHistory) (move : ClassMove)
 unfolding allowing_counts some_allows
 have_allows question history move =
     let layouts : List (ClassLayout × ℕ) = class_layouts question (sizes_of question) in
-    any_map_kept (λ (layout : ClassLayout × ℕ). allows question layout.0 history) (λ (layout : ClassLayout × ℕ). layout.0)
+    any_map_kept (λ (layout : ClassLayout × ℕ). allows question layout.0 history)
+    (λ (layout : ClassLayout × ℕ). layout.0)
     (λ counts. is_among (class_moves (class_after question history) counts) move) layouts
     ∙ any_alike (λ (layout : ClassLayout × ℕ). allows question layout.0 history
     && is_among (class_moves (class_after question history) layout.0) move)

@@ -46,7 +46,8 @@ use Rattle.suit_plans.specs.declared.plan.TheConstants.{MOST_DEN, MOST_MASS}
 -- ---- the class layouts of a question
 
 -- their weights are small
-pub layouts_weigh : (question : Question) → IsValid question → All (λ layout. layout.1 ≤ MOST_TOTAL) (layouts_of question)
+pub layouts_weigh : (question : Question) → IsValid question
+    → All (λ layout. layout.1 ≤ MOST_TOTAL) (layouts_of question)
 layouts_weigh question valid = λ k d below.
     let layout : ClassLayout × ℕ = get_or (layouts_of question) k d in
     let exact =
@@ -106,7 +107,8 @@ module _ (question : Question) (defence : Defence) (valid : IsValid question)
       subst (λ (z : ℤ). z ≤ℤ pos MOST_MASS) (sym (sum_first question defence valid proper))
       (bounded (all_weights question) defence.den (total_at_most question valid) den.0 den.1)
     where
-      product : (weight : ℕ) (den : ℤ) → weight ≤ MOST_TOTAL → pos 1 ≤ℤ den → (pos weight *ℤ den) ≤ℤ (pos MOST_TOTAL *ℤ den)
+      product : (weight : ℕ) (den : ℤ) → weight ≤ MOST_TOTAL → pos 1 ≤ℤ den
+          → (pos weight *ℤ den) ≤ℤ (pos MOST_TOTAL *ℤ den)
       product weight den few least =
           le-mul_right (pos weight) (pos MOST_TOTAL) den (omega (arith, ints)) (omega (arith, ints))
 

@@ -235,7 +235,8 @@ module _ (question : Question) (defence : Defence) where
       product_paid (payoff_at node) held.1 (node_pays more history node is stands) (live_positive history held found) in
       let within : held.1 ≤ℤ mass_sum question defence history =
       within_sum (λ (other : ℕ × ℤ). other.1) masses held (λ other there. live_positive history other there) found in
-      within_bounds (pos (payoff_at node) *ℤ held.1) (pos HAND_SIZE *ℤ held.1) (mass_sum question defence history) one.some
+      within_bounds (pos (payoff_at node) *ℤ held.1) (pos HAND_SIZE *ℤ held.1) (mass_sum question defence history)
+      one.some
       one.few (thirteen held.1 (mass_sum question defence history) within)
     where
       thirteen : (a b : ℤ) → a ≤ℤ b → (pos HAND_SIZE *ℤ a) ≤ℤ (pos HAND_SIZE *ℤ b)

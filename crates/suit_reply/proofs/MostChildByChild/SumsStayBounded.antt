@@ -48,7 +48,8 @@ first_earned payoff masses i few positive within =
           first.1 whole.few within,
     )
   where
-    bounded : (a b mass : ℤ) → a ≤ℤ b → b ≤ℤ (pos HAND_SIZE *ℤ mass) → mass ≤ℤ pos MOST_MASS → a ≤ℤ pos (HAND_SIZE * MOST_MASS)
+    bounded : (a b mass : ℤ) → a ≤ℤ b → b ≤ℤ (pos HAND_SIZE *ℤ mass) → mass ≤ℤ pos MOST_MASS
+        → a ≤ℤ pos (HAND_SIZE * MOST_MASS)
     bounded a b mass p q r = omega (arith, ints)
 
 -- a number within these bounds fits

@@ -23,7 +23,8 @@ whole_masses-requires c =
     let listed = c.layouts.ensures ∙ is.grown.layouts in
     let den : SFits w128 c.args.defence.now.den = search rules in
     record {
-      few = subst (λ (l : List (ClassLayout × ℕ)). length l ≤ MOST_CLASS_LAYOUTS) (sym listed) (layouts_few is.question);
+      few = subst (λ (l : List (ClassLayout × ℕ)). length l ≤ MOST_CLASS_LAYOUTS) (sym listed)
+          (layouts_few is.question);
       weights =
           subst (λ (l : List (ClassLayout × ℕ)). All (λ layout. layout.1 ≤ MOST_TOTAL) l) (sym listed)
           (layouts_weigh is.question is.valid);
