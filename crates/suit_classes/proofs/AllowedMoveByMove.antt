@@ -5,8 +5,8 @@ use Rattle.std.specs.Prelude.{fold, map, filter, Contains, ◌↔◌, if◌then�
 use Rattle.std.specs.List.{AllByRecursion}
 use Rattle.std.proofs.lemmas.Bool.{cases_lt}
 use Rattle.std.proofs.lemmas.List.{map-append}
-use Rattle.suit_lists.proofs.Elements.{Contains-cons_cases, Contains-first, Contains-later, Contains-nil, each_at}
-use Rattle.suit_lists.proofs.Elements.{each_gives}
+use Rattle.suit_lists.proofs.Elements.{Contains-cons_cases, Contains-first, Contains-later, Contains-nil, Contains-same}
+use Rattle.suit_lists.proofs.Elements.{each_at, each_gives}
 use Rattle.suit_lists.proofs.Filters.{Contains-filter, each_filter}
 use Rattle.suit_lists.proofs.Maps.{Contains-map, Contains-map_from}
 use Rattle.suit_game.specs.Histories.{History}
@@ -90,7 +90,7 @@ allows_more question counts history move allows found =
     ∙ ap (class_moves (class_after question (merged hands allows.cards))) (sym allows.counted) ∙ agrees.moves in
     let card = Contains-map_from (merge hands) (legal question allows.west allows.cards) move
     (Contains-each_once (map (merge hands) (legal question allows.west allows.cards)) move
-    (subst (λ (l : List ClassMove). Contains l move) moves found)) in
+    (Contains-same move moves found)) in
     record {
       west = allows.west;
       cards = allows.cards ++ card.0 ∷ [];
@@ -153,7 +153,7 @@ allows_back question counts history move allows =
     ap (λ (h : ClassHistory). class_moves (class_after question h) counts) (sym last.fronts)
     ∙ ap (class_moves (class_after question (merged hands last.before))) (sym allows.counted) ∙ agrees.moves in (
       record { west = allows.west; cards = last.before; play = play; counted = allows.counted; merges = last.fronts },
-      subst (λ (l : List ClassMove). Contains l move) (sym moves)
+      Contains-same move (sym moves)
           (each_once-Contains (map (merge hands) (legal question allows.west last.before)) move
           (subst (λ (m : ClassMove). Contains (map (merge hands) (legal question allows.west last.before)) m) last.lasts
           (Contains-map (merge hands) (legal question allows.west last.before) last.move parts.1))),

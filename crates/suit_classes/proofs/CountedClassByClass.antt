@@ -4,12 +4,13 @@ use Rattle.std.proofs.Common.{length, get_or, refl, sym, ap, ◌∙◌, subst, i
 use Rattle.std.specs.Prelude.{map, filter, nat_lt, nat_eq, slice_index, if◌then◌else◌}
 use Rattle.std.specs.List.{range_with_len}
 use Rattle.std.proofs.Math.ListN.{set, length-set}
-use Rattle.std.proofs.lemmas.Bool.{cases_lt, cases_eq, ltb-true, lt-ltb, le-ltb, eq-eqb, ne_eqb}
+use Rattle.std.proofs.lemmas.Bool.{cases_lt, cases_eq, ltb-true, lt-ltb, le-ltb, eq-eqb, ne_eqb, false≢true}
 use Rattle.std.proofs.lemmas.List.{map-append, length-map, get_or-set_same, get_or-set_other, get_or_past}
 use Rattle.std.proofs.lemmas.List.Sums.{length-filter, count_by-le-length}
 use Rattle.std.proofs.lemmas.List.Edits.{fill_by_more}
 use Rattle.std.proofs.lemmas.List.FromFn.{fill_by_all, get_or-map-range_with_len, length-map-range_with_len}
 use Rattle.std.proofs.lemmas.List.FromFn.{length-range_with_len}
+use Rattle.suit_lists.proofs.Filters.{kept_apart, length_filter-most}
 use Rattle.suit_cards.specs.Cards.{ClassLayout}
 use Rattle.suit_cards.specs.Holdings.{suit, IsHolding}
 use Rattle.suit_cards.proofs.SuitRuns.{IsHolding-filter_suit}
@@ -229,19 +230,6 @@ counts_some n some = lt-ltb 0 n some
 pub counts_none : (n : ℕ) → n ≤ 0 → nat_lt 0 n ≡ false
 counts_none n none = le-ltb 0 n none
 
-disjoint_kept : (a b : Bool) (x : ℕ) (xs ys : List ℕ) (n : ℕ) → (a ≡ true → b ≡ false) → length xs + length ys ≤ n
-    → length (cond a (x ∷ xs) xs) + length (cond b (x ∷ ys) ys) ≤ suc n
-disjoint_kept true true x xs ys n apart fit = absurd (let wrong : true ≡ false = apart refl in cc)
-disjoint_kept true false x xs ys n apart fit = omega arith
-disjoint_kept false true x xs ys n apart fit = omega arith
-disjoint_kept false false x xs ys n apart fit = omega arith
-
-disjoint_fit : (p q : ℕ → Bool) (xs : List ℕ) → ((x : ℕ) → p x ≡ true → q x ≡ false)
-    → length (filter p xs) + length (filter q xs) ≤ length xs
-disjoint_fit p q [] apart = omega arith
-disjoint_fit p q (x ∷ xs) apart =
-    disjoint_kept (p x) (q x) x (filter p xs) (filter q xs) (length xs) (apart x) (disjoint_fit p q xs apart)
-
 length-class_numbers : length class_numbers ≡ MOST_CLASSES
 unfolding class_numbers
 length-class_numbers = refl
@@ -257,8 +245,9 @@ pub apart_fit : (north south : List ℕ) → AreApart north south
 apart_fit north south apart =
     omega (
       arith,
-      disjoint_fit (λ class. nat_lt 0 (get_or north class 0)) (λ class. nat_lt 0 (get_or south class 0)) class_numbers
-          (λ class some. one_is_none (get_or north class 0) (get_or south class 0) (apart class) some),
+      kept_apart (λ class. nat_lt 0 (get_or north class 0)) (λ class. nat_lt 0 (get_or south class 0)) class_numbers
+          (λ class here there.
+          false≢true (sym (one_is_none (get_or north class 0) (get_or south class 0) (apart class) here) ∙ there)),
       length-class_numbers,
     )
 
@@ -268,7 +257,7 @@ counted_classes-most counts =
     omega (
       arith,
       length-class_numbers,
-      disjoint_fit (λ class. nat_lt 0 (get_or counts class 0)) (λ class. false) class_numbers (λ class some. refl),
+      length_filter-most (λ class. nat_lt 0 (get_or counts class 0)) class_numbers,
     )
 
 -- with no class a hand shows out

@@ -1,11 +1,11 @@
 -- What counts are told to allow is what they allow.
-use Rattle.std.proofs.Common.{◌≡◌, ℕ, ◌≤◌, Bool, true, cond, List, [], ◌∷◌, ◌++◌, length, map, take, drop, refl, sym}
+use Rattle.std.proofs.Common.{◌≡◌, ℕ, ◌≤◌, Bool, true, cond, List, [], ◌∷◌, ◌++◌, length, map, drop, refl, sym}
 use Rattle.std.proofs.Common.{ap, ◌∙◌, subst, arith}
 use Rattle.std.specs.Prelude.{◌↔◌, ◌==◌, Contains}
 use Rattle.std.specs.List.{AllByRecursion, count_by, flat_map}
 use Rattle.std.proofs.lemmas.Bool.{and_from, and_parts}
 use Rattle.std.proofs.lemmas.Simd.{map-map}
-use Rattle.std.proofs.lemmas.List.{append-nil, append_assoc}
+use Rattle.std.proofs.lemmas.List.{append-nil, append_assoc, take_at, drop_at}
 use Rattle.std.proofs.lemmas.List.Sums.{length-filter}
 use Rattle.suit_lists.proofs.Elements.{each_gives}
 use Rattle.suit_lists.proofs.Maps.{map_same}
@@ -78,17 +78,10 @@ blocks-joined piece [] = refl
 blocks-joined piece (x ∷ xs) =
     let later : List ℕ = flat_map piece xs in
     let sizes : List ℕ = map (λ y. length (piece y)) xs in
-    ap (λ (l : List ℕ). l ∷ blocks_of (drop (length (piece x)) (piece x ++ later)) sizes) (taken (piece x) later)
-    ∙ ap (λ (l : List ℕ). piece x ∷ blocks_of l sizes) (dropped (piece x) later)
+    ap (λ (l : List ℕ). l ∷ blocks_of (drop (length (piece x)) (piece x ++ later)) sizes)
+    (take_at (piece x) later (length (piece x)) refl)
+    ∙ ap (λ (l : List ℕ). piece x ∷ blocks_of l sizes) (drop_at (piece x) later (length (piece x)) refl)
     ∙ ap (λ (l : List (List ℕ)). piece x ∷ l) (blocks-joined piece xs)
-  where
-    taken : (ys zs : List ℕ) → take (length ys) (ys ++ zs) ≡ ys
-    taken [] zs = refl
-    taken (y ∷ ys) zs = ap (λ (l : List ℕ). y ∷ l) (taken ys zs)
-
-    dropped : (ys zs : List ℕ) → drop (length ys) (ys ++ zs) ≡ zs
-    dropped [] zs = refl
-    dropped (y ∷ ys) zs = dropped ys zs
 
 ranks_told : (hands : Hands) (class top : ℕ) (west : Cards) → top ≤ 15 → FallsBelow top west
     → AllByRecursion (λ card. holds (class_ranks hands class) card ≡ (class_of hands card == class)) west

@@ -1,9 +1,9 @@
 -- Past a decided position no play changes what the tricks are worth, and class histories are short.
-use Rattle.std.proofs.Common.{◌≡◌, ℕ, ◌+◌, ◌<◌, ◌≤◌, max, true, List, [], ◌∷◌, length, refl, ap, subst, inl, inr, arith}
+use Rattle.std.proofs.Common.{◌≡◌, ℕ, ◌+◌, ◌<◌, ◌≤◌, max, true, List, [], ◌∷◌, length, refl, ap, inl, inr, arith}
 use Rattle.std.specs.Prelude.{fold, nat_lt, nat_le, Contains}
 use Rattle.std.proofs.lemmas.Bool.{or_cases, ltb-true, leb-true, le-leb, lt-leb, false≢true}
 use Rattle.std.proofs.lemmas.List.{length-map}
-use Rattle.suit_lists.proofs.Elements.{Contains-nil}
+use Rattle.suit_lists.proofs.Elements.{Contains-nil, Contains-same}
 use Rattle.suit_game.specs.Histories.{History}
 use Rattle.suit_cards.specs.Cards.{Cards, ClassLayout}
 use Rattle.suit_cards.specs.declared.seats.Seat.TheVariants.{N, S}
@@ -45,7 +45,7 @@ none_legal : (question : Question) (west : Cards) (place : Position) (trick : Tr
     → Contains (legal_in question west place trick) move → ⊥
 unfolding legal_in
 none_legal question west place Closed move closed none found =
-    Contains-nil move (subst (λ (l : List Move). Contains l move) (nothing_left (leads_at question place) none) found)
+    Contains-nil move (Contains-same move (nothing_left (leads_at question place) none) found)
 none_legal question west place (Open turn after winner highest) move closed none found = absurd (cc)
 
 ended_stays : (question : Question) (west : Cards) (place : Position) (moves : List Move) → place.trick ≡ Closed

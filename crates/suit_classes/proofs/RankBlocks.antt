@@ -1,5 +1,5 @@
 -- Cards that fall stand in blocks of their classes.
-use Rattle.std.proofs.Common.{◌≡◌, ℕ, zero, suc, ◌+◌, ◌-◌, ◌<◌, ◌≤◌, Bool, true, false, cond, List, [], ◌∷◌, ◌++◌, refl}
+use Rattle.std.proofs.Common.{◌≡◌, ℕ, zero, suc, ◌+◌, ◌-◌, ◌<◌, ◌≤◌, Bool, true, false, List, [], ◌∷◌, ◌++◌, refl}
 use Rattle.std.proofs.Common.{sym, ap, ◌∙◌, subst, inl, inr, arith}
 use Rattle.std.specs.Prelude.{filter, ◌==◌, ◌&&◌, if◌then◌else◌}
 use Rattle.std.specs.List.{range_with_len, flat_map}
@@ -8,7 +8,8 @@ use Rattle.suit_cards.specs.Cards.{Cards}
 use Rattle.suit_cards.specs.Holdings.{FallsBelow, IsHolding, suit, others_of}
 use Rattle.suit_cards.proofs.HoldingIsWhatItHolds.{IsHolding-others_of}
 use Rattle.suit_cards.proofs.SuitRuns.{filter_suit-agree}
-use Rattle.suit_lists.proofs.Filters.{filter-filter}
+use Rattle.suit_lists.proofs.Filters.{filter-filter, filter_none}
+use Rattle.suit_lists.proofs.FlatMaps.{flat_map_alike, flat_map_kept}
 use Rattle.suit_classes.specs.declared.classes.Owner.{Owner}
 use Rattle.suit_classes.specs.declared.classes.Owner.TheVariants as owners
 use Rattle.suit_classes.specs.Classes.{Hands, holder, same_owner, class_of, class_count, class_owner, class_ranks}
@@ -115,18 +116,10 @@ falling_stays hands top (card ∷ cards) falls =
 pub holding_rises : (hands : Hands) (cards : Cards) → IsHolding cards → Rises (class_of hands) 0 cards
 holding_rises hands cards falls = falling_rises hands 15 0 cards falls (λ rank low. omega arith)
 
-kept_block : (h : ℕ → List ℕ) (x : ℕ) (xs : List ℕ) (b : Bool)
-    → (if b then h x else []) ++ flat_map h xs ≡ flat_map h (cond b (x ∷ xs) xs)
-kept_block h x xs true = refl
-kept_block h x xs false = refl
-
 flat_map-filter : (g h : ℕ → List ℕ) (p : ℕ → Bool) (xs : List ℕ) → ((x : ℕ) → g x ≡ (if p x then h x else []))
     → flat_map g xs ≡ flat_map h (filter p xs)
-flat_map-filter g h p [] chosen = refl
-flat_map-filter g h p (x ∷ xs) chosen =
-    ap (λ (l : List ℕ). l ++ flat_map g xs) (chosen x)
-    ∙ ap (λ (l : List ℕ). (if p x then h x else []) ++ l) (flat_map-filter g h p xs chosen)
-    ∙ kept_block h x (filter p xs) (p x)
+flat_map-filter g h p xs chosen =
+    flat_map_alike g (λ x. if p x then h x else []) xs chosen ∙ sym (flat_map_kept h p xs)
 
 both_tests : (defence number class_defence : Bool) → (number ≡ true → class_defence ≡ defence)
     → (defence && number) ≡ (class_defence && number)
@@ -137,13 +130,9 @@ both_tests false true class_defence same = rw (same refl) refl
 both_tests false false true same = refl
 both_tests false false false same = refl
 
-filter-neither : (p : ℕ → Bool) (xs : List ℕ) → filter (λ x. false && p x) xs ≡ []
-filter-neither p [] = refl
-filter-neither p (x ∷ xs) = filter-neither p xs
-
 chosen_or_none : (b : Bool) (p : ℕ → Bool) (xs : List ℕ) → filter (λ x. b && p x) xs ≡ (if b then filter p xs else [])
 chosen_or_none true p xs = refl
-chosen_or_none false p xs = filter-neither p xs
+chosen_or_none false p xs = filter_none xs
 
 -- the ranks of a class that a side held are all its ranks, or none
 pub held_of_class : (hands : Hands) (owner : Owner) (class : ℕ)

@@ -1,8 +1,9 @@
 -- How many moves a history can have.
-use Rattle.std.proofs.Common.{◌≡◌, ℕ, suc, ◌+◌, ◌*◌, ◌≤◌, Bool, true, false, cond, List, [], ◌∷◌, length, refl, ap}
+use Rattle.std.proofs.Common.{◌≡◌, ℕ, ◌+◌, ◌*◌, ◌≤◌, Bool, true, List, [], ◌∷◌, length, ap}
 use Rattle.std.proofs.Common.{subst, arith, IsTrue}
-use Rattle.std.specs.Prelude.{not, filter, fold}
+use Rattle.std.specs.Prelude.{not, fold}
 use Rattle.std.specs.List.{list_any}
+use Rattle.suit_lists.proofs.Filters.{kept_apart}
 use Rattle.suit_cards.specs.Holdings.{IsHolding, holds, suit}
 use Rattle.suit_cards.proofs.WhetherARankIsHeld.{holds_tells, shares_tells}
 use Rattle.suit_cards.proofs.HoldingIsWhatItHolds.{filter_suit-holds}
@@ -36,30 +37,6 @@ histories_use_room question west history legal =
       ap length (without-none question.south),
     )
 
-count_apart : (p q : Bool) (m n k : ℕ) → (p ≡ true → q ≡ true → ⊥) → m + n ≤ k
-    → cond p (suc m) m + cond q (suc n) n ≤ suc k
-count_apart true true m n k apart fits = absurd (apart refl refl)
-count_apart true false m n k apart fits = omega arith
-count_apart false true m n k apart fits = omega arith
-count_apart false false m n k apart fits = omega arith
-
-length_if : (b : Bool) (x : ℕ) (xs : List ℕ) → length (cond b (x ∷ xs) xs) ≡ cond b (suc (length xs)) (length xs)
-length_if true x xs = refl
-length_if false x xs = refl
-
--- two tests that no card passes both keep no more cards than there are
-apart_fit : (here there : ℕ → Bool) (cards : List ℕ) → ((card : ℕ) → here card ≡ true → there card ≡ true → ⊥)
-    → length (filter here cards) + length (filter there cards) ≤ length cards
-apart_fit here there [] apart = omega arith
-apart_fit here there (card ∷ cards) apart =
-    omega (
-      arith,
-      length_if (here card) card (filter here cards),
-      length_if (there card) card (filter there cards),
-      count_apart (here card) (there card) (length (filter here cards)) (length (filter there cards)) (length cards)
-          (apart card) (apart_fit here there cards apart),
-    )
-
 -- a card of both hands is shared
 shared_card : (here there : List ℕ) (card : ℕ) → holds here card ≡ true → holds there card ≡ true
     → list_any (holds there) here ≡ true
@@ -83,7 +60,7 @@ unfolding suit
 holdings_fit north south is_north is_south apart =
     omega (
       arith,
-      apart_fit (holds north) (holds south) suit (none_shared north south apart),
+      kept_apart (holds north) (holds south) suit (none_shared north south apart),
       ap length (filter_suit-holds north is_north),
       ap length (filter_suit-holds south is_south),
     )

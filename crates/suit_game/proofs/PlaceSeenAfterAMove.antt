@@ -1,8 +1,7 @@
 -- What a place is seen as after each kind of move.
-use Rattle.std.proofs.Common.{◌≡◌, ℕ, suc, ◌<◌, ◌≤◌, Bool, true, false, cond, not, ◌||◌, nat_eq, List, [], ◌∷◌, ◌++◌}
+use Rattle.std.proofs.Common.{◌≡◌, ℕ, ◌<◌, ◌≤◌, Bool, true, false, not, ◌||◌, nat_eq, List, [], ◌∷◌, ◌++◌}
 use Rattle.std.proofs.Common.{length, refl, sym, ap, ◌∙◌, subst, inl, inr, arith}
 use Rattle.std.specs.Prelude.{◌&&◌, Contains}
-use Rattle.std.specs.List.{filter}
 use Rattle.std.proofs.lemmas.Bool.{cases_eq, eq-eqb, ne_eqb}
 use Rattle.suit_cards.specs.declared.seats.Seat.{Seat}
 use Rattle.suit_cards.specs.Holdings.{IsHolding, holds, without_rank, others_of}
@@ -22,11 +21,8 @@ use Rattle.suit_game.proofs.WhatAHandHolds.{without-none}
 use Rattle.suit_game.proofs.LayoutCards.{layouts_are_deals}
 use Rattle.suit_game.proofs.LegalPlays.{legal_moves_extend}
 use Rattle.suit_game.proofs.EachPlaceIsReached.{thirteen_tricks}
-use Rattle.suit_lists.proofs.Filters.{filter-filter}
-
-filter_same : (p q : ℕ → Bool) (cards : List ℕ) → ((card : ℕ) → p card ≡ q card) → filter p cards ≡ filter q cards
-filter_same p q [] same = refl
-filter_same p q (first ∷ cards) same = rw (same first, filter_same p q cards same) refl
+use Rattle.std.proofs.lemmas.List.Elements.{filter_agree}
+use Rattle.suit_lists.proofs.Filters.{filter-filter, length_filter-most}
 
 neither_test : (same gone : Bool) → (not gone && not same) ≡ not (same || gone)
 neither_test true true = refl
@@ -46,19 +42,12 @@ pub without_rank-without : (cards gone : List ℕ) (card : ℕ)
 unfolding without
 without_rank-without cards gone card =
     filter-filter (λ (x : ℕ). not (holds gone x)) (λ (x : ℕ). not (nat_eq card x)) cards
-    ∙ filter_same _ _ cards (λ x. rw (eqb_turned card x) (neither_test (nat_eq x card) (holds gone x)))
-
-length-filter_most : (test : ℕ → Bool) (cards : List ℕ) → length (filter test cards) ≤ length cards
-length-filter_most test [] = omega arith
-length-filter_most test (first ∷ cards) =
-    elim (test first) as (λ b. length (cond b (first ∷ filter test cards) (filter test cards)) ≤ suc (length cards)) [
-      | true ↦ omega (arith, length-filter_most test cards)
-      | false ↦ omega (arith, length-filter_most test cards)
-    ]
+    ∙ filter_agree (λ x. not (holds gone x) && not (nat_eq card x)) (λ x. not (nat_eq x card || holds gone x))
+    (λ x. rw (eqb_turned card x) (neither_test (nat_eq x card) (holds gone x))) cards
 
 -- a hand has no more cards once a rank is taken from it
 pub length-without_rank_most : (cards : List ℕ) (rank : ℕ) → length (without_rank cards rank) ≤ length cards
-length-without_rank_most cards rank = length-filter_most (λ (held : ℕ). not (nat_eq rank held)) cards
+length-without_rank_most cards rank = length_filter-most (λ (held : ℕ). not (nat_eq rank held)) cards
 
 -- what is seen once a rank is taken from each hand
 abbrev pub taken_from : PlaceView → ℕ → PlaceView

@@ -1,15 +1,11 @@
 -- Joined lists, and choices between two lists.
-use Rattle.std.proofs.Common.{Bool, List, [], ap, arith, cond, false, get_or, length, refl, subst, suc, sym, true}
+use Rattle.std.proofs.Common.{Bool, List, [], arith, cond, false, get_or, length, refl, subst, suc, sym, true}
 use Rattle.std.proofs.Common.{zero, ℕ, ◌++◌, ◌+◌, ◌<◌, ◌∷◌, ◌≡◌}
 use Rattle.std.specs.Prelude.{if◌then◌else◌}
 
 unfoldable pub is_none : {X : Type 0} → List X → Bool
 is_none [] = true
 is_none (x ∷ xs) = false
-
-pub append_nothing : {X : Type 0} (xs : List X) → xs ++ [] ≡ xs
-append_nothing [] = refl
-append_nothing {X} (x ∷ xs) = ap (λ (l : List X). x ∷ l) (append_nothing xs)
 
 pub length_kept : {X : Type 0} (b : Bool) (x : X) (xs : List X) → length (cond b (x ∷ xs) xs) ≡ cond b 1 0 + length xs
 length_kept true x xs = omega arith

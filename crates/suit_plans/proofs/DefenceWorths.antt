@@ -3,7 +3,7 @@ use Rattle.std.proofs.Common.{◌≡◌, ℕ, zero, suc, ◌-◌, ◌<◌, Bool,
 use Rattle.std.proofs.Common.{sym, ap, ◌∙◌, subst, arith}
 use Rattle.std.specs.Prelude.{Contains, filter, if◌then◌else◌, ℤ, pos, ◌*ℤ◌, ◌≤ℤ◌}
 use Rattle.std.proofs.lemmas.List.{length-append}
-use Rattle.suit_lists.proofs.Elements.{Contains-first}
+use Rattle.suit_lists.proofs.Elements.{Contains-first, Contains-same}
 use Rattle.suit_lists.proofs.Firsts.{HasFirst, HasFirst-map}
 use Rattle.suit_lists.proofs.Maps.{map_same}
 use Rattle.suit_cards.specs.Cards.{ClassLayout}
@@ -55,7 +55,7 @@ module _ (question : Question) (defence : Defence) (valid : IsValid question) wh
     room =
         let first : ClassMove = some_there.first in
         let found : Contains (public_moves question history) first =
-        subst (λ (l : List ClassMove). Contains l first) (sym some_there.parts)
+        Contains-same first (sym some_there.parts)
         (Contains-first first some_there.more) in
         omega (arith, public_short question valid history first found, length-append history (first ∷ []))
 

@@ -4,7 +4,7 @@ use Rattle.std.proofs.Common.{sym, ap, ◌∙◌, subst, arith}
 use Rattle.std.specs.Prelude.{Contains, if◌then◌else◌, ℤ}
 use Rattle.std.specs.Int.{int_min}
 use Rattle.std.proofs.lemmas.List.{length-append}
-use Rattle.suit_lists.proofs.Elements.{Contains-first}
+use Rattle.suit_lists.proofs.Elements.{Contains-first, Contains-same}
 use Rattle.suit_lists.proofs.Firsts.{HasFirst, HasFirst-map}
 use Rattle.suit_cards.specs.Cards.{ClassLayout}
 use Rattle.suit_game.specs.declared.question.Question.{Question}
@@ -58,7 +58,7 @@ module _ (question : Question) (plan : Plan) (counts : ClassLayout) where
     room =
         let first : ClassMove = some_legal.first in
         let found : Contains (legal history) first =
-        subst (λ (l : List ClassMove). Contains l first) (sym some_legal.parts)
+        Contains-same first (sym some_legal.parts)
         (Contains-first first some_legal.more) in
         let short = class_histories_are_short question counts (history ++ first
         ∷ []) ((allowed_moves question counts history first).1 (allows, found)) in

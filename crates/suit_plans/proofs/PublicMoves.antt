@@ -1,7 +1,7 @@
 -- The moves with which a class history goes on for declarer, against the class moves in a class layout that allows it
 -- (`held_moves`, `own_moves_on`).
 use Rattle.std.proofs.Common.{◌≡◌, ℕ, ◌<◌, ◌≤◌, Bool, true, false, List, [], ◌∷◌, ◌++◌, length, refl, sym, ap}
-use Rattle.std.proofs.Common.{◌∙◌, subst, arith}
+use Rattle.std.proofs.Common.{◌∙◌, arith}
 use Rattle.std.specs.Prelude.{◌&&◌, Contains, filter, if◌then◌else◌}
 use Rattle.std.specs.Bool.{Decides}
 use Rattle.std.proofs.lemmas.Bool.Decides.{same_from_decides}
@@ -18,7 +18,7 @@ use Rattle.suit_classes.specs.ClassPlaces.{class_after, class_decided, class_mov
 use Rattle.suit_classes.proofs.AllowedMoveByMove.{allowed_moves}
 use Rattle.suit_classes.proofs.CountsAllowAsTold.{allows_tells}
 use Rattle.suit_classes.proofs.DefenceSizes.{sum-defence_sizes}
-use Rattle.suit_lists.proofs.Elements.{Contains-first, Contains-nil}
+use Rattle.suit_lists.proofs.Elements.{Contains-first, Contains-same, Contains-unless}
 use Rattle.suit_lists.proofs.Filters.{Contains-filter, filter-filter, kept_parts}
 use Rattle.suit_lists.proofs.Firsts.{HasFirst, HasFirst-found}
 use Rattle.suit_lists.proofs.Tests.{passing_some, some_passing}
@@ -144,18 +144,13 @@ module _ (question : Question) (valid : IsValid question) where
       ap (λ (b : Bool). if b then []
       else filter (λ move. some_allows question (history ++ move ∷ [])) every_move) decided
 
-  public_case : (b : Bool) (moves : List ClassMove) (move : ClassMove) → Contains (if b then [] else moves) move
-      → Contains moves move
-  public_case true moves move found = absurd (Contains-nil move found)
-  public_case false moves move found = found
-
   -- each is allowed by some class layout
   pub public_allowed : (history : ClassHistory) (move : ClassMove) → Contains (public_moves question history) move
       → some_allows question (history ++ move ∷ []) ≡ true
   public_allowed history move found =
       let all : List ClassMove = filter (λ other. some_allows question (history ++ other ∷ [])) every_move in
       (kept_parts (λ other. some_allows question (history ++ other ∷ [])) every_move move
-      (public_case (class_decided (class_after question history)) all move found)).1
+      (Contains-unless (class_decided (class_after question history)) all move found)).1
 
   -- so a history with one of them more has at most 52 moves
   pub public_short : (history : ClassHistory) (move : ClassMove) → Contains (public_moves question history) move
@@ -191,14 +186,14 @@ module _ (question : Question) (valid : IsValid question) where
     Contains-public move found =
         (kept_parts (is_among (class_moves (class_after question history) layout.0)) (public_moves question history)
         move
-        (subst (λ (l : List ClassMove). Contains l move) (sym held_moves) found)).0
+        (Contains-same move (sym held_moves) found)).0
 
     -- and there is one
     pub some_public : HasFirst (public_moves question history)
     some_public =
         let first = some_move question layout.0 history (allowing_parts history layout held).1 going in
         HasFirst-found (public_moves question history) first.first
-        (Contains-public first.first (subst (λ (l : List ClassMove). Contains l first.first) (sym first.parts)
+        (Contains-public first.first (Contains-same first.first (sym first.parts)
         (Contains-first first.first first.more)))
 
     -- at a turn of declarer's they are his class moves
@@ -213,7 +208,7 @@ module _ (question : Question) (valid : IsValid question) where
         (λ move. same_from_decides (some move) (is_among moves move) (
           λ told.
               let other = some_layout (history ++ move ∷ []) told in
-              subst (λ (l : List ClassMove). Contains l move) (declarers_moves view other.0.0 layout.0 own)
+              Contains-same move (declarers_moves view other.0.0 layout.0 own)
               (allowing_before history move other.0 other.1).1,
           λ found. move_allowed move (among_contained moves move found),
         ) (among_decides moves move))
@@ -231,7 +226,7 @@ module _ (question : Question) (valid : IsValid question) where
       let goes = (allowing_before history move other.0 other.1).1 in
       let among : (counts : ClassLayout) → is_among (class_moves view counts) move ≡ true =
       λ counts. among_contained (class_moves view counts) move
-      (subst (λ (l : List ClassMove). Contains l move) (declarers_moves view other.0.0 counts own) goes) in
+      (Contains-same move (declarers_moves view other.0.0 counts own) goes) in
       filter_agree (λ (layout : ClassLayout × ℕ). allows question layout.0 (history ++ move ∷ []))
       (λ (layout : ClassLayout × ℕ). allows question layout.0 history)
       (λ layout. allows-push question layout.0 history move

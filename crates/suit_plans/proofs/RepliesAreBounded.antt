@@ -1,14 +1,15 @@
 -- The least that a proper plan earns and the most that a proper defence lets declarer earn stay below their bound
 -- (`leasts_bounded`, `mosts_bounded`).
-use Rattle.std.proofs.Common.{◌≡◌, ℕ, ◌+◌, ◌*◌, ◌<◌, ◌≤◌, true, List, [], ◌∷◌, map, sum_by, refl, sym, ap, ◌∙◌}
+use Rattle.std.proofs.Common.{◌≡◌, ℕ, ◌+◌, ◌*◌, ◌≤◌, true, List, [], ◌∷◌, map, sum_by, refl, sym, ap, ◌∙◌}
 use Rattle.std.proofs.Common.{subst, arith}
 use Rattle.std.specs.Prelude.{Contains, ◌^◌, ℤ, pos, ◌+ℤ◌, ◌*ℤ◌, ◌≤ℤ◌, ◌<ℤ◌}
 use Rattle.std.proofs.lemmas.Int.{ints}
 use Rattle.std.proofs.lemmas.List.Sums.{sum_by-cons}
 use Rattle.std.proofs.Math.IntN.{*ℤ_comm, zero-*ℤ}
-use Rattle.suit_lists.proofs.Elements.{Contains-first}
+use Rattle.suit_lists.proofs.Elements.{Contains-same}
 use Rattle.suit_lists.proofs.Filters.{filter_all}
 use Rattle.suit_lists.proofs.Maps.{map_same}
+use Rattle.suit_lists.proofs.Sums.{some_term}
 use Rattle.suit_cards.specs.Cards.{ClassLayout}
 use Rattle.suit_num.proofs.IntegerLaws.{le-mul_right, mul-add_right, mul_left_comm, mul_not_negative, int_le-true}
 use Rattle.suit_game.specs.declared.question.Question.{Question}
@@ -85,18 +86,12 @@ module _ (question : Question) where
   unfolding allows allows_from
   allowing_none = filter_all (λ (layout : ClassLayout × ℕ). allows question layout.0 []) layouts (λ layout. refl)
 
-  first_weighed : (all : List (ClassLayout × ℕ)) → 0 < sum_by (λ (layout : ClassLayout × ℕ). layout.1) all
-      → (layout : ClassLayout × ℕ)
-      × Contains all layout
-  first_weighed [] some = absurd (omega (arith, some))
-  first_weighed (layout ∷ all) some = (layout, Contains-first layout all)
-
   -- and there is one
   pub some_allow_none : IsValid question → some_allows question [] ≡ true
   some_allow_none valid =
-      let one = first_weighed layouts (omega (arith, valid.has_weight, weights_add)) in
-      allows_some question valid [] one.0
-      (subst (λ (l : List (ClassLayout × ℕ)). Contains l one.0) (sym allowing_none) one.1)
+      let one = some_term (λ (layout : ClassLayout × ℕ). layout.1) layouts
+      (omega (arith, valid.has_weight, weights_add)) in
+      allows_some question valid [] one.0 (Contains-same one.0 (sym allowing_none) one.1)
 
 -- the masses of a defence at the start add up to the part of all weights
 pub first_masses : (question : Question) (defence : Defence)

@@ -8,7 +8,7 @@ use Rattle.std.specs.Ordering.{int_eq}
 use Rattle.std.proofs.lemmas.Bool.{and_parts, false≢true, ltb-true}
 use Rattle.std.proofs.lemmas.Bool.Decides.{Decides-int_eq}
 use Rattle.std.proofs.lemmas.List.Elements.{All-contains, Contains-get_or}
-use Rattle.suit_lists.proofs.Elements.{Contains-cons_cases, Contains-first, Contains-later, Contains-nil}
+use Rattle.suit_lists.proofs.Elements.{Contains-cons_cases, Contains-first, Contains-later, Contains-nil, Contains-same}
 use Rattle.suit_lists.proofs.Elements.{Contains-unless, each_at, each_in}
 use Rattle.suit_lists.proofs.Filters.{kept_parts}
 use Rattle.suit_lists.proofs.Firsts.{HasFirst, HasFirst-many}
@@ -136,7 +136,7 @@ plan_choice question plan counts history starts found =
       going = going;
       turn = chosen.0;
       many = subst (λ (l : List ClassMove). 1 < length l) same many;
-      legal = subst (λ (l : List ClassMove). Contains l (reply_move reply history)) same
+      legal = Contains-same (reply_move reply history) same
           (reply_move_found reply history min_picks (plan_room question plan counts history parts.0 going)
           (HasFirst-many (reply.moves history) many) chosen.0);
       live = int_lt-true (pos 0) (plan_mass question plan history) reached.0;

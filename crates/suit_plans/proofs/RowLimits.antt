@@ -1,11 +1,9 @@
 -- Bounds of what the rows speak of: class histories that are allowed are short, and class layouts weigh little.
-use Rattle.std.proofs.Common.{◌≡◌, ℕ, ◌<◌, ◌≤◌, true, List, [], ◌∷◌, length, sum_by, refl, sym, ◌∙◌, subst, inl, inr}
+use Rattle.std.proofs.Common.{◌≡◌, ℕ, ◌<◌, ◌≤◌, true, List, [], ◌∷◌, length, refl, sym, ◌∙◌, inl, inr}
 use Rattle.std.proofs.Common.{arith}
-use Rattle.std.specs.Prelude.{Contains}
 use Rattle.std.specs.List.{AllByRecursion}
 use Rattle.std.proofs.lemmas.Bool.{cases_lt, false≢true, or_cases}
-use Rattle.std.proofs.lemmas.List.Sums.{sum_by-cons}
-use Rattle.suit_lists.proofs.Elements.{Contains-cons_cases, Contains-nil}
+use Rattle.suit_lists.proofs.Sums.{term_small}
 use Rattle.suit_cards.specs.Cards.{ClassLayout}
 use Rattle.suit_game.specs.declared.question.Question.{Question}
 use Rattle.suit_game.specs.Validity.{IsValid}
@@ -51,18 +49,6 @@ some_allowed_short question history valid told =
     let come = all_to_come question history in
     short_if_any question history (class_layouts question (sizes_of question)) valid come.weigh (come.left ∙ sym told)
 
-one_of_sum : (layouts : List (ClassLayout × ℕ)) (layout : ClassLayout × ℕ) → Contains layouts layout
-    → layout.1 ≤ sum_by (λ (other : ClassLayout × ℕ). other.1) layouts
-one_of_sum [] layout found = absurd (Contains-nil layout found)
-one_of_sum (first ∷ layouts) layout found =
-    let whole = sum_by-cons (λ (other : ClassLayout × ℕ). other.1) first layouts in
-    elim (Contains-cons_cases first layouts layout found) [
-      | inl here ↦ subst (λ (l : ClassLayout × ℕ). l.1 ≤ sum_by (λ (other : ClassLayout × ℕ). other.1)
-          (first ∷ layouts)) here
-          (omega (arith, whole))
-      | inr there ↦ omega (arith, whole, one_of_sum layouts layout there)
-    ]
-
 -- no class layout weighs more than all do
 pub weight_at_most : (question : Question) (counts : ClassLayout) → IsValid question
     → weight_of question counts ≤ 10400600
@@ -72,7 +58,7 @@ weight_at_most question counts valid =
       | inl weighs ↦
           omega (
             arith,
-            one_of_sum (class_layouts question sizes) (
+            term_small (λ (layout : ClassLayout × ℕ). layout.1) (class_layouts question sizes) (
               counts,
               weight_of question counts,
             )

@@ -9,6 +9,7 @@ use Rattle.suit_lists.proofs.Elements.{Contains-cons_cases, Contains-first, Cont
 use Rattle.suit_lists.proofs.Elements.{each_gives}
 use Rattle.suit_lists.proofs.Maps.{map_same}
 use Rattle.suit_lists.proofs.Once.{IsOnce}
+use Rattle.suit_plans.proofs.NumberSums.{sum_nothing}
 use Rattle.suit_classes.specs.declared.class_moves.ClassMove.{ClassMove}
 use Rattle.suit_classes.specs.WhatIsAllowed.{is_among}
 use Rattle.suit_classes.specs.ClassMoves.{same_class_move}
@@ -45,11 +46,6 @@ count_none move (count ∷ shares) after =
     (λ same. false≢true (sym (IsStrict-moves.never move)
     ∙ subst (λ (m : ClassMove). stands_before move m ≡ true) (same_move_is count.0 move same) after.0)) in
     cond-false (same_class_move count.0 move) count.1 (count_of shares move) other ∙ count_none move shares after.1
-
-sum_none : (moves : List ClassMove) → sum_of (map (λ (move : ClassMove). pos 0) moves) ≡ pos 0
-unfolding sum_of
-sum_none [] = refl
-sum_none (move ∷ moves) = let rest = sum_none moves in omega (arith, ints, rest)
 
 -- a move that is none of some is the same as none of them
 apart_from : (move : ClassMove) (moves : List ClassMove) (other : ClassMove)
@@ -94,7 +90,7 @@ pub sum_counts : (shares : Shares) (legal : List ClassMove) → IsOnce legal
     → list_all (is_among legal) (moves_of shares) ≡ true → are_rising (moves_of shares) ≡ true
     → sum_of (map (count_of shares) legal) ≡ sum_of (map (λ (count : ClassMove × ℤ). count.1) shares)
 unfolding sum_of count_of
-sum_counts [] legal once among rising = sum_none legal
+sum_counts [] legal once among rising = sum_nothing (λ move. pos 0) legal (λ move found. refl)
 sum_counts (count ∷ shares) legal once among rising =
     let parts = and_parts (is_among legal count.0) (list_all (is_among legal) (moves_of shares)) among in
     let rises = rising_parts count.0 (moves_of shares) rising in
@@ -113,7 +109,7 @@ sum_first mass first moves once =
     map_same (λ move. share None (same_class_move first move) mass move) (λ move. pos 0) moves
     (λ move later. ap (λ (b : Bool). share None b mass move) (apart_from first moves move once.0 later)) in
     let tail : sum_of (map (λ move. share None (same_class_move first move) mass move) moves) ≡ pos 0 = ap sum_of same
-    ∙ sum_none moves in
+    ∙ sum_nothing (λ move. pos 0) moves (λ move found. refl) in
     omega (arith, ints, head, tail)
 
 -- a choice of two numbers that are not negative is not negative

@@ -4,8 +4,8 @@ use Rattle.std.proofs.Common.{refl, sym, ap, ◌∙◌, subst, arith}
 use Rattle.std.specs.Prelude.{All, Contains, ℤ, pos, negsuc, ◌*ℤ◌, ◌<ℤ◌, ◌≤ℤ◌, int_le}
 use Rattle.std.proofs.Math.IntN.{*ℤ_comm}
 use Rattle.std.proofs.lemmas.Int.{ints}
+use Rattle.std.proofs.lemmas.List.{append-nil}
 use Rattle.std.proofs.lemmas.List.Elements.{All-from_recursion}
-use Rattle.suit_lists.proofs.Basics.{append_nothing}
 use Rattle.suit_lists.proofs.Elements.{each_in}
 use Rattle.suit_lists.proofs.Maps.{Contains-map}
 use Rattle.suit_lists.proofs.Tests.{all_at, some_passing}
@@ -89,7 +89,7 @@ weighed_number den weight some most few =
 mass_within : (question : Question) (side : Side) (counts : ClassLayout) (before moves : ClassHistory)
     → AreRealised question side counts → Allows question counts (before ++ moves)
     → mass_of question side (before ++ moves) ≤ℤ mass_of question side before
-mass_within question side counts before [] realised allowed = same_history (append_nothing before)
+mass_within question side counts before [] realised allowed = same_history (append-nil before)
   where
     same_history : before ++ [] ≡ before → mass_of question side (before ++ []) ≤ℤ mass_of question side before
     same_history same =
