@@ -6,6 +6,8 @@ use Rattle.std.specs.List.{range_with_len}
 use Rattle.std.proofs.lemmas.Bool.{cases_lt, eq-eqb, ne_eqb, false≢true}
 use Rattle.std.proofs.lemmas.List.Sums.{length-filter, count_by-le-length}
 use Rattle.std.proofs.lemmas.List.FromFn.{get_or-map-range_with_len, length-map-range_with_len, fill_by_all}
+use Rattle.suit_classes.specs.declared.classes.TheConstants.{MOST_CLASSES}
+use Rattle.suit_game.specs.declared.limits.TheConstants.{HAND_SIZE}
 use Rattle.suit_cards.specs.Holdings.{suit}
 use Rattle.suit_cards.specs.Ranks.{IsRank}
 use Rattle.suit_classes.specs.declared.classes.Owner.{Owner}
@@ -105,21 +107,22 @@ class_below-reached hands (suc n) class few = elim (cases_lt class (class_below 
 ]
 
 -- the list of numbers, by places
-pub numbers_of-at : (hands : Hands) (place : ℕ) → place < 13
+pub numbers_of-at : (hands : Hands) (place : ℕ) → place < HAND_SIZE
     → get_or (numbers_of hands) place 0 ≡ class_below hands place
 unfolding numbers_of
-numbers_of-at hands place small = get_or-map-range_with_len (class_below hands) 0 13 place place 0 small (omega arith)
+numbers_of-at hands place small =
+    get_or-map-range_with_len (class_below hands) 0 HAND_SIZE place place 0 small (omega arith)
 
-pub length-numbers_of : (hands : Hands) → length (numbers_of hands) ≡ 13
+pub length-numbers_of : (hands : Hands) → length (numbers_of hands) ≡ HAND_SIZE
 unfolding numbers_of
-length-numbers_of hands = length-map-range_with_len (class_below hands) 0 13
+length-numbers_of hands = length-map-range_with_len (class_below hands) 0 HAND_SIZE
 
 -- a list of thirteen numbers that are right at each place is the list of numbers
-pub numbers_of-filled : (hands : Hands) (numbers : List ℕ) → length numbers ≡ 13
-    → ((place : ℕ) → place < 13 → get_or numbers place 0 ≡ class_below hands place)
+pub numbers_of-filled : (hands : Hands) (numbers : List ℕ) → length numbers ≡ HAND_SIZE
+    → ((place : ℕ) → place < HAND_SIZE → get_or numbers place 0 ≡ class_below hands place)
     → numbers ≡ numbers_of hands
 unfolding numbers_of
-numbers_of-filled hands numbers long right = fill_by_all (class_below hands) numbers 13 0 long right
+numbers_of-filled hands numbers long right = fill_by_all (class_below hands) numbers HAND_SIZE 0 long right
 
 -- the list of numbers goes with the suit
 pub numbers_of-suit : (hands : Hands) → numbers_of hands ≡ map (class_of hands) suit
@@ -130,7 +133,7 @@ numbers_of-suit hands = refl
 pub class_of-below : (hands : Hands) (rank : ℕ) → IsRank rank → class_of hands rank < class_count hands
 class_of-below hands rank is = let least = is.0 in omega (arith, class_below-rises hands (14 - rank) 12 (omega arith))
 
-pub class_count-most : (hands : Hands) → class_count hands ≤ 13
+pub class_count-most : (hands : Hands) → class_count hands ≤ MOST_CLASSES
 class_count-most hands = omega (arith, class_below-most hands 12)
 
 find_first : (p : ℕ → Bool) (f : ℕ → ℕ) (from count place : ℕ) → place < count → p (f (from + place)) ≡ true
@@ -151,20 +154,20 @@ find_first p f from (suc count) (suc place) small passes before =
     )
 
 -- the suit, by places from the ace down
-pub suit_is_ranks : suit ≡ map (λ place. 14 - place) (range_with_len 0 13)
+pub suit_is_ranks : suit ≡ map (λ place. 14 - place) (range_with_len 0 HAND_SIZE)
 unfolding suit
 suit_is_ranks = refl
 
-place_back : (place : ℕ) → place < 13 → 14 - (14 - place) ≡ place
+place_back : (place : ℕ) → place < HAND_SIZE → 14 - (14 - place) ≡ place
 place_back place small = omega arith
 
 -- the first place with a class has its highest rank
-pub class_top-first : (hands : Hands) (class place rank : ℕ) → place < 13 → rank + place ≡ 14
+pub class_top-first : (hands : Hands) (class place rank : ℕ) → place < HAND_SIZE → rank + place ≡ 14
     → class_below hands place ≡ class
     → ((k : ℕ) → k < place → class_below hands k ≡ class → ⊥) → class_top hands class ≡ Some rank
 class_top-first hands class place rank small is here before =
     ap (find (λ r. class_of hands r == class)) suit_is_ranks
-    ∙ find_first (λ r. class_of hands r == class) (λ place. 14 - place) 0 13 place small
+    ∙ find_first (λ r. class_of hands r == class) (λ place. 14 - place) 0 HAND_SIZE place small
     (let same : 14 - (14 - (0 + place)) ≡ place = omega arith in rw same (eq-eqb (class_below hands place) class here))
     (λ k low. let same : 14 - (14 - (0 + k)) ≡ k = omega arith in
     rw same (ne_eqb (class_below hands k) class (before k low)))
@@ -172,7 +175,7 @@ class_top-first hands class place rank small is here before =
 
 -- the number that is read at a place, where the numbers are those of some hands
 pub number_read : (numbers : List ℕ) (inside hands : Hands) (place : ℕ) → numbers ≡ numbers_of inside → inside ≡ hands
-    → place < 13
+    → place < HAND_SIZE
     → get_or numbers place 0 ≡ class_below hands place
 number_read numbers inside hands place are same small =
     ap (λ (l : List ℕ). get_or l place 0) are ∙ numbers_of-at inside place small
@@ -221,7 +224,7 @@ class_size-some hands class few =
     (eq-eqb (get_or (numbers_of hands) place.0 0) class is))
 
 -- how many ranks a class has is a small number
-pub class_size-most : (hands : Hands) (class : ℕ) → class_size hands class ≤ 13
+pub class_size-most : (hands : Hands) (class : ℕ) → class_size hands class ≤ HAND_SIZE
 class_size-most hands class =
     omega (
       arith,

@@ -8,6 +8,7 @@ use Rattle.std.proofs.lemmas.Bool.{cases_lt, eqb-true, eq-eqb}
 use Rattle.std.proofs.lemmas.List.{length-append}
 use Rattle.std.proofs.lemmas.List.Elements.{filter-append, filter_agree}
 use Rattle.std.proofs.lemmas.List.FromFn.{get_or-map-range_with_len}
+use Rattle.suit_game.specs.declared.limits.TheConstants.{MOST_MISSING_AND_BLOCKS, HAND_SIZE}
 use Rattle.suit_cards.specs.Holdings.{holds, suit, others_of}
 use Rattle.suit_cards.specs.Ranks.{IsRank}
 use Rattle.suit_classes.specs.declared.classes.Owner.{Owner}
@@ -46,12 +47,12 @@ found_in p (x ∷ xs) zero small passes =
 found_in p (x ∷ xs) (suc place) small passes =
     found_more p x xs (p x) refl (λ no. found_in p xs place (omega arith) passes)
 
-rank_at : (place : ℕ) → place < 13 → get_or suit place 0 ≡ 14 - place
+rank_at : (place : ℕ) → place < HAND_SIZE → get_or suit place 0 ≡ 14 - place
 rank_at place small =
     ap (λ (l : List ℕ). get_or l place 0) suit_is_ranks
-    ∙ get_or-map-range_with_len (λ (p : ℕ). 14 - p) 0 13 place place 0 small (omega arith)
+    ∙ get_or-map-range_with_len (λ (p : ℕ). 14 - p) 0 HAND_SIZE place place 0 small (omega arith)
 
-length-suit : length suit ≡ 13
+length-suit : length suit ≡ HAND_SIZE
 unfolding suit
 length-suit = refl
 
@@ -63,7 +64,8 @@ held_at_places hands n m same = elim (cases_lt n m) [
 ]
 
 -- who held the class of a rank is who held the rank
-pub class_owner_is : (hands : Hands) (n : ℕ) → n < 13 → class_owner hands (class_below hands n) ≡ holder hands (14 - n)
+pub class_owner_is : (hands : Hands) (n : ℕ) → n < HAND_SIZE
+    → class_owner hands (class_below hands n) ≡ holder hands (14 - n)
 class_owner_is hands n small =
     let class : ℕ = class_below hands n in
     let back : 14 - (14 - n) ≡ n = omega arith in
@@ -71,7 +73,7 @@ class_owner_is hands n small =
     eq-eqb (class_below hands (14 - get_or suit n 0)) class
     (ap (λ (r : ℕ). class_below hands (14 - r)) (rank_at n small) ∙ ap (class_below hands) back) in
     let found = found_in (λ r. class_of hands r == class) suit n (omega (arith, length-suit)) here in
-    let place : found.place < 13 = omega (arith, found.within, length-suit) in
+    let place : found.place < HAND_SIZE = omega (arith, found.within, length-suit) in
     let rank : found.element ≡ 14 - found.place = sym found.stands ∙ rank_at found.place place in
     let same : class_below hands found.place ≡ class =
     ap (class_below hands) (omega (arith, rank)) ∙ eqb-true (class_of hands found.element) class found.passes in
@@ -156,7 +158,7 @@ next_number : (hands : Hands) (n : ℕ) (same : Bool)
 unfolding class_below
 next_number hands n same is = ap (λ (b : Bool). class_below hands n + (if b then 0 else 1)) is
 
-classes_next : (hands : Hands) (n : ℕ) (same : Bool) → suc n < 13
+classes_next : (hands : Hands) (n : ℕ) (same : Bool) → suc n < HAND_SIZE
     → same_owner (holder hands (14 - n)) (holder hands (14 - suc n)) ≡ same
     → classes_to hands (suc n) ≡
     (if same then classes_to hands n else classes_to hands n + one (is_defence (holder hands (14 - suc n))))
@@ -170,7 +172,7 @@ classes_next hands n false small is =
     ∙ ap (λ (o : Owner). classes_to hands n + one (is_defence o))
     (ap (class_owner hands) (sym next) ∙ class_owner_is hands (suc n) small)
 
-counted_to : (hands : Hands) (n : ℕ) → n < 13
+counted_to : (hands : Hands) (n : ℕ) → n < HAND_SIZE
     → Counted (classes_to hands n) (ranks_to hands n) n (is_defence (holder hands (14 - n)))
 counted_to hands zero small =
     let owner : class_owner hands 0 ≡ holder hands (14 - 0) =
@@ -217,7 +219,7 @@ missing_are hands =
 
 ranks_are : (hands : Hands) → ranks_to hands 12 ≡ length (others_of hands.north hands.south)
 ranks_are hands =
-    sym (length-filter_map (λ rank. is_defence (holder hands rank)) (λ place. 14 - place) (range_with_len 0 13))
+    sym (length-filter_map (λ rank. is_defence (holder hands rank)) (λ place. 14 - place) (range_with_len 0 HAND_SIZE))
     ∙ ap (λ (l : List ℕ). length (filter (λ rank. is_defence (holder hands rank)) l)) (sym suit_is_ranks)
     ∙ ap length (missing_are hands)
 
@@ -229,7 +231,7 @@ classes_are hands =
 -- the defenders have no more classes than cards, and a card of declarer's stands between each two of them
 pub defence_classes-few : (hands : Hands)
     → (length (defence_classes hands) ≤ length (others_of hands.north hands.south))
-    × (length (others_of hands.north hands.south) + length (defence_classes hands) ≤ 14)
+    × (length (others_of hands.north hands.south) + length (defence_classes hands) ≤ MOST_MISSING_AND_BLOCKS)
 defence_classes-few hands =
     let counted = counted_to hands 12 (omega arith) in (
       omega (arith, counted.fewer, ranks_are hands, classes_are hands),

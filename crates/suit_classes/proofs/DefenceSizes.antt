@@ -7,6 +7,7 @@ use Rattle.std.proofs.lemmas.List.Concat.{length-flat_map}
 use Rattle.std.proofs.lemmas.List.Elements.{All-filter, All-map, All-weaker}
 use Rattle.std.proofs.lemmas.List.FromFn.{length-range_with_len, get_or-range_with_len}
 use Rattle.std.proofs.lemmas.List.Sums.{sum-map}
+use Rattle.suit_game.specs.declared.limits.TheConstants.{MOST_MISSING_AND_BLOCKS}
 use Rattle.suit_cards.specs.Holdings.{others_of}
 use Rattle.suit_classes.specs.declared.classes.Owner.TheVariants as owners
 use Rattle.suit_classes.specs.Classes.{Hands, same_owner, class_count, class_owner, class_ranks, class_size}
@@ -43,6 +44,6 @@ sum-defence_sizes hands =
     ∙ ap length (missing_in_blocks hands)
 
 pub length-defence_sizes : (hands : Hands)
-    → length (others_of hands.north hands.south) + length (defence_sizes hands) ≤ 14
+    → length (others_of hands.north hands.south) + length (defence_sizes hands) ≤ MOST_MISSING_AND_BLOCKS
 length-defence_sizes hands =
     omega (arith, length-map (defence_classes hands) (class_size hands), (defence_classes-few hands).1)

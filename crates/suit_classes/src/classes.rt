@@ -2,9 +2,10 @@
 ghost use Rattle.std.specs.Prelude.{◌≡◌, ◌+◌, ◌<◌, ◌≤◌, ◌==◌, ◌-◌, ℕ, not, Some, IfOk, All, count_by, sum, length};
 ghost use Rattle.std.specs.List.{flat_map};
 ghost use Rattle.suit_classes.specs.declared.classes.Owner.{Owner};
-ghost use Rattle.suit_classes.specs.declared.classes.TheConstants.{MOST_CLASSES, MOST_MISSING_AND_CLASSES};
+ghost use Rattle.suit_classes.specs.declared.classes.TheConstants.{MOST_CLASSES};
 ghost use Rattle.suit_cards.specs.Holdings.{others_of};
 ghost use Rattle.suit_cards.specs.Ranks.{IsRank};
+ghost use Rattle.suit_game.specs.declared.limits.TheConstants.{MOST_MISSING_AND_BLOCKS};
 ghost use Rattle.suit_classes.specs.ClassMoves.{merge, merged};
 ghost use Rattle.suit_classes.specs.Classes.{Hands, hands_of, holder, class_below, class_count, class_of, class_owner};
 ghost use Rattle.suit_classes.specs.Classes.{class_ranks, class_size, class_top, defence_classes, defence_sizes};
@@ -25,11 +26,6 @@ pub const MOST_CLASSES: usize = 13;
 
 /// The most classes that the defenders have: a card of declarer's stands between any two.
 pub const MOST_DEFENCE_CLASSES: usize = 7;
-
-/// The most missing cards and classes of the defenders together: the cards of the suit, and one more class than there
-/// are
-/// cards of declarer's to part them.
-pub const MOST_MISSING_AND_CLASSES: usize = 14;
 
 /// Who held a class at the start.
 #[derive(Clone, Copy, Debug, PartialEq, Eq)]
@@ -161,7 +157,7 @@ impl Classes {
         ensures some { All (λ size. 1 ≤ size) result.items }
         ensures sum { sum result.items ≡ length (others_of self.now.north self.now.south) }
         ensures few { length (others_of self.now.north self.now.south) + length result.items
-            ≤ MOST_MISSING_AND_CLASSES }
+            ≤ MOST_MISSING_AND_BLOCKS }
     {
         let mut sizes = ArrayVec::new();
         for class in self.defence().as_slice() {

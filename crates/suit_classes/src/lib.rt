@@ -18,7 +18,5 @@ pub use class_place::ClassPlace;
 pub use class_trick::ClassTrick;
 pub use class_turn::ClassTurn;
 pub use class_view::ClassView;
-pub use classes::{
-    Classes, MOST_CLASSES, MOST_DEFENCE_CLASSES, MOST_MISSING_AND_CLASSES, Memory, Owner,
-};
+pub use classes::{Classes, MOST_CLASSES, MOST_DEFENCE_CLASSES, Memory, Owner};
 pub use history::History;

@@ -15,6 +15,7 @@ use Rattle.suit_game.proofs.WhatAHandHolds.{without-none}
 use Rattle.suit_game.proofs.LongestPlay.{holdings_fit}
 use Rattle.suit_game.proofs.MovesCounted.{Counted, tricks_later, counted_later, held_later}
 use Rattle.suit_game.proofs.TricksReached.{own_at, once_later, from_hands_later, trick_later}
+use Rattle.suit_game.specs.declared.limits.TheConstants.{HAND_SIZE}
 use Rattle.suit_lists.proofs.Elements.{Contains-nil}
 
 -- the facts, after so many moves and finished tricks
@@ -134,7 +135,7 @@ won_tricks_fit question west history deal legal =
 -- declarer wins thirteen tricks at most
 pub thirteen_tricks : (question : Question) (west : List ℕ) (history : List Move) → IsDeal question west
     → IsLegal question west history
-    → (after question history).won ≤ 13
+    → (after question history).won ≤ HAND_SIZE
 thirteen_tricks question west history deal legal =
     omega (
       arith,

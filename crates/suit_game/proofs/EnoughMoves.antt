@@ -18,6 +18,7 @@ use Rattle.suit_game.proofs.ChosenIsLegal.{chosen_from}
 use Rattle.suit_game.proofs.LegalPlays.{leads_at-none, after_move}
 use Rattle.suit_game.proofs.LongestPlay.{holdings_fit, histories_use_room}
 use Rattle.suit_game.proofs.Room.{room_falls}
+use Rattle.suit_game.specs.declared.limits.TheConstants.{MOST_MOVES}
 use Rattle.suit_lists.proofs.Maps.{map_same}
 
 ended_in_no_room : (question : Question) (place : Position) (trick : Trick)
@@ -93,7 +94,7 @@ pub pay_where_ended : (question : Question) (declarer : Way) (defence : DefenceW
     (history : List Move)
     → has_ended question (after question history) ≡ true
     → pay question declarer defence west history ≡ whole (payoff question.goal (after question history).won)
-pay_where_ended = pay_at_end 52
+pay_where_ended = pay_at_end MOST_MOVES
 
 pay_step : (n : ℕ) (question : Question) (declarer : Way) (defence : DefenceWay) (west : List ℕ) (history : List Move)
     → has_ended question (after question history) ≡ false
@@ -115,5 +116,5 @@ pub pay_where_on : (question : Question) (declarer : Way) (defence : DefenceWay)
 pay_where_on question declarer defence west history north south apart legal goes_on =
     let used = histories_use_room question west history legal in
     let fits = holdings_fit question.north question.south north south apart in
-    enough_moves 52 53 question declarer defence west history (omega arith) (omega arith)
-    ∙ pay_step 52 question declarer defence west history goes_on
+    enough_moves MOST_MOVES (suc MOST_MOVES) question declarer defence west history (omega arith) (omega arith)
+    ∙ pay_step MOST_MOVES question declarer defence west history goes_on

@@ -3,6 +3,7 @@ use Rattle.std.proofs.Common.{◌≡◌, ℕ, ◌+◌, ◌*◌, ◌≤◌, Bool,
 use Rattle.std.proofs.Common.{subst, arith, IsTrue}
 use Rattle.std.specs.Prelude.{not, fold}
 use Rattle.std.specs.List.{list_any}
+use Rattle.suit_game.specs.declared.limits.TheConstants.{HAND_SIZE, MOST_MOVES}
 use Rattle.suit_lists.proofs.Filters.{kept_apart}
 use Rattle.suit_cards.specs.Holdings.{IsHolding, holds, suit}
 use Rattle.suit_cards.proofs.WhetherARankIsHeld.{holds_tells, shares_tells}
@@ -55,7 +56,7 @@ none_shared here there apart card in_here in_there =
 -- two hands that share no card have thirteen at most
 pub holdings_fit : (north south : List ℕ) → IsHolding north → IsHolding south
     → IsTrue (not (list_any (holds south) north))
-    → length north + length south ≤ 13
+    → length north + length south ≤ HAND_SIZE
 unfolding suit
 holdings_fit north south is_north is_south apart =
     omega (
@@ -68,7 +69,7 @@ holdings_fit north south is_north is_south apart =
 pub histories_are_short : (question : Question) (west : List ℕ) (history : List Move)
     → IsHolding question.north → IsHolding question.south
     → IsTrue (not (list_any (holds question.south) question.north))
-    → IsLegal question west history → length history ≤ 52
+    → IsLegal question west history → length history ≤ MOST_MOVES
 histories_are_short question west history north south apart legal =
     omega (
       arith,

@@ -3,6 +3,7 @@
 use Rattle.std.proofs.Common.{◌≡◌, ℕ, ◌<◌, ◌≤◌, Bool, true, false, cond, not, ◌&&◌, ◌||◌, List, [], ◌∷◌, length, refl}
 use Rattle.std.proofs.Common.{sym, ◌∙◌, ◌⊎◌, inl, inr, arith}
 use Rattle.std.proofs.lemmas.Bool.{true≢false, cases_Bool, or_cases, or_parts, cases_eq, false_from_ne_true}
+use Rattle.suit_game.specs.declared.limits.TheConstants.{MOST_MOVES}
 use Rattle.suit_cards.specs.declared.seats.Seat.{Seat}
 use Rattle.suit_cards.specs.declared.seats.Seat.TheVariants.{N, E, S, W}
 use Rattle.suit_cards.specs.Holdings.{IsHolding, holds}
@@ -186,7 +187,7 @@ pub pay-least : (question : Question) (declarer : Way) (defence : DefenceWay) (w
 pay-least question declarer defence west one part =
     pay_within_holds false (λ won. sure_tricks question ≤ won)
     (λ fraction. IsAtLeast fraction (one_trick_value question) 1)
-    question declarer defence west (carries_least question) tt 52 4 [] (omega arith)
+    question declarer defence west (carries_least question) tt MOST_MOVES 4 [] (omega arith)
     (one_trick_ends false (λ won. sure_tricks question ≤ won) question west (are_small question west one part)
     (λ over. rw (sure-over question over) (omega arith))
     (lower_n question west one part)
@@ -284,7 +285,7 @@ pub pay-most : (question : Question) (declarer : Way) (west : List ℕ) → IsOn
 pay-most question declarer west one part =
     pay_within_holds true (λ won. won ≤ sure_tricks question)
     (λ fraction. IsAtMost fraction (one_trick_value question) 1)
-    question declarer (by_defence_rows []) west (carries_most question) plays_first 52 4 [] (omega arith)
+    question declarer (by_defence_rows []) west (carries_most question) plays_first MOST_MOVES 4 [] (omega arith)
     (one_trick_ends true (λ won. won ≤ sure_tricks question) question west (are_small question west one part)
     (λ over. omega arith)
     (upper_led question west N one part one.north (λ north _. north) refl refl)

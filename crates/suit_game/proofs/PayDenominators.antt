@@ -15,6 +15,7 @@ use Rattle.suit_game.specs.Strategies.{Way, DefenceWay, Weighed, chosen}
 use Rattle.suit_game.specs.Gains.{is_declarer_turn, played, pay_within, pay, gain}
 use Rattle.suit_game.proofs.MeansLieBetween.{mean-den}
 use Rattle.suit_game.proofs.ChosenIsLegal.{chosen-weight}
+use Rattle.suit_game.specs.declared.limits.TheConstants.{MOST_MOVES}
 use Rattle.suit_lists.proofs.Elements.{each_of}
 use Rattle.suit_lists.proofs.Maps.{each_map}
 
@@ -74,7 +75,7 @@ pay_within-den (suc n) question declarer defence west history =
 
 pub pay-den : (question : Question) (declarer : Way) (defence : DefenceWay) (west : List ℕ) (history : List Move)
     → 0 < (pay question declarer defence west history).den
-pay-den question declarer defence west history = pay_within-den 52 question declarer defence west history
+pay-den question declarer defence west history = pay_within-den MOST_MOVES question declarer defence west history
 
 total_weight-map : (value : List ℕ → Fraction) (weight_of : List ℕ → ℕ) (wests : List (List ℕ))
     → total_weight (map (λ (west : List ℕ). (weight_of west, value west)) wests) ≡ sum_by weight_of wests

@@ -14,6 +14,7 @@ use Rattle.suit_game.proofs.LegalPlays.{after_move, legal_moves_extend}
 use Rattle.suit_game.proofs.EachPlaceIsReached.{thirteen_tricks}
 use Rattle.suit_game.proofs.MeansLieBetween.{mean-least, mean-most}
 use Rattle.suit_game.proofs.ChosenIsLegal.{chosen_each}
+use Rattle.suit_game.specs.declared.limits.TheConstants.{HAND_SIZE, MOST_MOVES}
 use Rattle.suit_lists.proofs.Elements.{each_in}
 use Rattle.suit_lists.proofs.Maps.{each_map}
 
@@ -65,15 +66,16 @@ come_to_later question west place move come found = record {
 }
 
 thirteen_at : (question : Question) (west : List ℕ) (place : Position) → IsDeal question west
-    → IsComeTo question west place → place.won ≤ 13
+    → IsComeTo question west place → place.won ≤ HAND_SIZE
 thirteen_at question west place deal come =
-    subst (λ (p : Position). p.won ≤ 13) come.there (thirteen_tricks question west come.history deal come.legal_history)
+    subst (λ (p : Position). p.won ≤ HAND_SIZE) come.there
+    (thirteen_tricks question west come.history deal come.legal_history)
 
 -- a pay after a legal history lies between bounds of the payoffs for thirteen tricks at most
 pub pays_are_between : (question : Question) (declarer : Way) (defence : DefenceWay) (west : List ℕ)
     (history : List Move) (least most : ℕ)
     → IsDeal question west → IsLegal question west history
-    → ((won : ℕ) → won ≤ 13 → (least ≤ payoff question.goal won) × (payoff question.goal won ≤ most))
+    → ((won : ℕ) → won ≤ HAND_SIZE → (least ≤ payoff question.goal won) × (payoff question.goal won ≤ most))
     → IsAtLeast (pay question declarer defence west history) least 1
     × IsAtMost (pay question declarer defence west history) most 1
 pays_are_between question declarer defence west history least most deal legal_history bounds = (
@@ -82,11 +84,11 @@ pays_are_between question declarer defence west history least most deal legal_hi
         payoffs = λ place come. omega (arith, (bounds place.won (thirteen_at question west place deal come)).0);
         moves = come_to_later question west;
         means = mean-least least 1;
-      }) 52 history (record { history = history; legal_history = legal_history; there = refl }),
+      }) MOST_MOVES history (record { history = history; legal_history = legal_history; there = refl }),
   pay_within-kept question declarer defence west (IsComeTo question west) (λ fraction. IsAtMost fraction most 1)
       (record {
         payoffs = λ place come. omega (arith, (bounds place.won (thirteen_at question west place deal come)).1);
         moves = come_to_later question west;
         means = mean-most most 1;
-      }) 52 history (record { history = history; legal_history = legal_history; there = refl }),
+      }) MOST_MOVES history (record { history = history; legal_history = legal_history; there = refl }),
 )

@@ -14,6 +14,7 @@ use Rattle.suit_game.specs.Layouts.{choices_of, is_west_length, layouts, weight,
 use Rattle.suit_game.specs.Validity.{IsValid}
 use Rattle.suit_game.specs.Weights.{weight_in_range, HasPlaces}
 use Rattle.suit_game.proofs.ChoiceSums.{range_sum_more, choices_split, choices_summed}
+use Rattle.suit_game.specs.declared.limits.TheConstants.{MOST_TOTAL, HAND_SIZE}
 use Rattle.suit_lists.proofs.Sums.{sum_by_filter, sum_by_none, sum_by_same}
 
 -- the ways to choose so many among the others that the whole is made
@@ -162,11 +163,11 @@ binomial-more_left n k (suc more) =
     let next : n + suc more ≡ suc (n + more) = omega arith in
     rw next (omega (arith, binomial-more_left n k more, binomial-next (n + more) k))
 
-most_ways : binomial 26 13 ≡ 10400600
+most_ways : binomial 26 13 ≡ MOST_TOTAL
 unfolding binomial binomial_row next_row
 most_ways = refl
 
-places_le : (a b : ℕ) → a ≤ 13 → b ≤ 13 → binomial (a + b) a ≤ 10400600
+places_le : (a b : ℕ) → a ≤ HAND_SIZE → b ≤ HAND_SIZE → binomial (a + b) a ≤ MOST_TOTAL
 places_le a b few_w few_e =
     let chosen : a + (13 - a) ≡ 13 = omega arith in
     let places : a + b + (13 - a) + (13 - b) ≡ 26 = omega arith in
@@ -174,7 +175,7 @@ places_le a b few_w few_e =
     let later = rw places at (binomial-more_left (a + b + (13 - a)) 13 (13 - b)) in
     omega (arith, first, later, most_ways)
 
-pub total_at_most : (question : Question) → IsValid question → total question ≤ 10400600
+pub total_at_most : (question : Question) → IsValid question → total question ≤ MOST_TOTAL
 total_at_most question valid =
     omega (
       arith,
@@ -197,7 +198,7 @@ weight-small question count places =
     )
 
 -- what one length adds to the total
-pub term-small : (question : Question) (cards count ways deals : ℕ) → cards ≤ 13 → HasPlaces question
+pub term-small : (question : Question) (cards count ways deals : ℕ) → cards ≤ HAND_SIZE → HasPlaces question
     → ways ≡ binomial cards count → deals ≡ weight_in_range question count → ways * deals ≤ 2 ^ 39
 term-small question cards count ways deals few places is_ways is_deals =
     let most : 2 ^ cards ≤ 2 ^ 13 = pow-le-pow_right (omega arith) few in

@@ -2,6 +2,7 @@
 use Rattle.std.specs.Prelude.{◌≡◌, ◌+◌, ◌≤◌, List, [], ◌∷◌, length, map, take, drop, sum, count_by, All}
 use Rattle.suit_cards.specs.Holdings.{holds}
 use Rattle.suit_cards.specs.Cards.{Cards, ClassLayout, Sizes}
+use Rattle.suit_game.specs.declared.limits.TheConstants.{MOST_MISSING_AND_BLOCKS}
 use Rattle.suit_game.specs.declared.question.Question.{Question}
 use Rattle.suit_game.specs.Question.{missing}
 
@@ -23,4 +24,4 @@ counts_of question sizes west = counts_in (blocks_of (missing question) sizes) w
 pub record AreSizes (question : Question) (sizes : Sizes) : Type 0 where
   pub some : All (λ size. 1 ≤ size) sizes
   pub filled : sum sizes ≡ length (missing question)
-  pub few : length (missing question) + length sizes ≤ 14
+  pub few : length (missing question) + length sizes ≤ MOST_MISSING_AND_BLOCKS

@@ -18,8 +18,8 @@ mod weights;
 
 pub use gate::{Gate, OpenGate};
 pub use limits::{
-    DEFAULT_NODES, DEFAULT_PIVOTS, HAND_SIZE, MOST_MOVES, MOST_NODES, MOST_PIVOTS, MOST_SUPPORT,
-    MOST_TOTAL,
+    DEFAULT_NODES, DEFAULT_PIVOTS, HAND_SIZE, MOST_MISSING_AND_BLOCKS, MOST_MOVES, MOST_NODES,
+    MOST_PIVOTS, MOST_SUPPORT, MOST_TOTAL,
 };
 pub use moves::Move;
 pub use place::Place;

@@ -7,6 +7,10 @@ pub const HAND_SIZE: u8 = 13;
 /// The most moves of a legal history: thirteen tricks of four.
 pub const MOST_MOVES: u8 = 52;
 
+/// The most missing cards and blocks of them together, where a card of declarer's lies between any two blocks: the
+/// cards of the suit, and one more block than there are cards of declarer's to part them.
+pub const MOST_MISSING_AND_BLOCKS: u8 = 14;
+
 /// The most deals that the layouts of a question can stand for: the ways to choose 13 of 26 vacant places.
 pub const MOST_TOTAL: u64 = 10_400_600;
 

@@ -3,6 +3,7 @@ ghost use Rattle.std.specs.Prelude.{◌≡◌, ℕ, ◌+◌, ◌<◌, ◌≤◌,
 ghost use Rattle.std.specs.Prelude.{false};
 ghost use Rattle.suit_cards.specs.Cards.{Cards};
 ghost use Rattle.suit_cards.specs.declared.seats.Seat.{Seat};
+ghost use Rattle.suit_game.specs.declared.limits.TheConstants.{HAND_SIZE};
 ghost use Rattle.suit_game.specs.declared.moves.Move.{Move};
 ghost use Rattle.suit_game.specs.declared.moves.Move.TheVariants.{Lead};
 ghost use Rattle.suit_game.specs.declared.question.Question.{Question};
@@ -40,6 +41,7 @@ pub struct Place {
 
 impl Model for Place {
     ghost use Rattle.std.specs.Prelude.{◌+◌, ◌≤◌, length};
+    ghost use Rattle.suit_game.specs.declared.limits.TheConstants.{HAND_SIZE};
     ghost use Rattle.suit_game.specs.PlaceViews.{PlaceView, trick_seen, trick_behind, trick_behind-seen};
 
     ghost Value = { PlaceView };
@@ -57,7 +59,7 @@ impl Model for Place {
     } };
 
     // Declarer's hands share no card of the suit.
-    ghost invariant = { λ place. length place.north + length place.south ≤ 13 };
+    ghost invariant = { λ place. length place.north + length place.south ≤ HAND_SIZE };
 
     ghost inverse = { λ view. record {
       north = view.north;
@@ -373,7 +375,7 @@ fn follows_from(held: Holding) -> ArrayVec<Move, 13>
 
 // Adds the leads of a hand, with ranks falling.
 fn add_leads(leads: &mut ArrayVec<Move, 13>, seat: Seat, held: Holding)
-    requires { length leads.old.items + length held ≤ 13 }
+    requires { length leads.old.items + length held ≤ HAND_SIZE }
     ensures { leads.new.items ≡ leads.old.items ++ map (Lead seat) held }
 {
     for rank in held.ranks().as_slice() {

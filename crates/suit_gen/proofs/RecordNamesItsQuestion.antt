@@ -18,14 +18,16 @@ use Rattle.suit_game.specs.Layouts.{total}
 use Rattle.suit_game.specs.Validity.{IsValid}
 use Rattle.suit_game.specs.declared.question.Goal.TheVariants.{AtLeast}
 use Rattle.suit_game.proofs.WhatAllLayoutsWeigh.{total_of_all}
-use Rattle.suit_question.proofs.ValuesBack.{holding_back, goal_back}
+use Rattle.suit_question.proofs.ValuesBack.{count_back, goal_back, holding_back, number_within_back}
 use Rattle.suit_gen.proofs.Dealing.{north_some}
+use Rattle.suit_game.specs.declared.limits.TheConstants.{HAND_SIZE, MOST_NODES, MOST_PIVOTS}
 use Rattle.suit_game.specs.declared.question.Question.{Question}
 use Rattle.suit_gen.specs.Deals.{deal_at, deals_from, dealt_to, place_of, question_of}
 use Rattle.suit_gen.specs.Draws.{state_after}
 use Rattle.suit_gen.specs.Naming.{question_named}
 use Rattle.suit_gen.specs.Records.{fields_of, record_text}
 use Rattle.suit_gen.specs.declared.deals.Deal.{Deal}
+use Rattle.suit_gen.specs.declared.deals.TheConstants.{MADE_NODES, MADE_PIVOTS}
 use Rattle.suit_question.specs.declared.faults.QuestionKind.{QuestionKind}
 
 -- the deals that are left begin with the next one
@@ -145,7 +147,10 @@ names_valid deal valid =
     rw (
       holding_back deal.north valid.north,
       holding_back deal.south valid.south,
+      count_back HAND_SIZE (omega arith),
       goal_back (AtLeast deal.goal) valid.goal,
+      number_within_back 1 MOST_NODES MADE_NODES (omega arith) (omega arith) (omega arith),
+      number_within_back 0 MOST_PIVOTS MADE_PIVOTS (omega arith) (omega arith) (omega arith),
       not_true (list_any (holds deal.south) deal.north) valid.apart,
       some,
       places,

@@ -3,7 +3,9 @@ use Rattle.std.specs.Prelude.{List, [], ◌∷◌, ◌++◌, codes, decimal}
 use Rattle.std.specs.List.{flat_map}
 use Rattle.suit_cards.specs.Cards.{Text}
 use Rattle.suit_cards.specs.Holdings.{text_of}
+use Rattle.suit_game.specs.declared.limits.TheConstants.{HAND_SIZE}
 use Rattle.suit_gen.specs.declared.deals.Deal.{Deal}
+use Rattle.suit_gen.specs.declared.deals.TheConstants.{MADE_NODES, MADE_PIVOTS}
 
 -- the thirteen fields of the record of a deal
 abbrev pub fields_of : Deal → List Text
@@ -14,13 +16,13 @@ fields_of deal =
     ∷ codes "either"
     ∷ codes "0"
     ∷ codes "0"
-    ∷ codes "13"
-    ∷ codes "13"
+    ∷ decimal HAND_SIZE
+    ∷ decimal HAND_SIZE
     ∷ codes "0"
-    ∷ codes "13"
+    ∷ decimal HAND_SIZE
     ∷ decimal deal.goal
-    ∷ codes "2000"
-    ∷ codes "200"
+    ∷ decimal MADE_NODES
+    ∷ decimal MADE_PIVOTS
     ∷ []
 
 -- fields with a comma between any two

@@ -7,11 +7,11 @@ ghost use Rattle.suit_gen.specs.Naming.{question_named};
 ghost use Rattle.suit_gen.specs.Records.{fields_of, record_text};
 
 use crate::Memory;
-use crate::deals::Deal;
+use crate::deals::{Deal, MADE_NODES, MADE_PIVOTS};
 use crate::draws::Draws;
 use std::alloc::Global;
 use std::fmt::Write;
-use suit_game::Question;
+use suit_game::{HAND_SIZE, Question};
 
 /// The table of a number with so many records, as a text: a line for each, with the fields of a question's thirteen
 /// columns and a comma between any two. The ace is North's; each lower card goes to North or South, or is missing, as
@@ -39,7 +39,7 @@ fn write_record(text: &mut String, deal: &Deal) -> Result<(), Memory>
     let (north, south) = (deal.north.text(), deal.south.text());
     writeln!(
         text,
-        "{north},{south},either,either,0,0,13,13,0,13,{},2000,200",
+        "{north},{south},either,either,0,0,{HAND_SIZE},{HAND_SIZE},0,{HAND_SIZE},{},{MADE_NODES},{MADE_PIVOTS}",
         deal.goal
     )
 }

@@ -9,6 +9,7 @@ use Rattle.std.proofs.lemmas.List.Concat.{length-flat_map}
 use Rattle.std.proofs.lemmas.List.FromFn.{length-range_with_len}
 use Rattle.std.proofs.lemmas.List.Sums.{length-filter, count_by-le-length}
 use Rattle.std.proofs.Math.Nat.{mul-le-mul_left}
+use Rattle.suit_game.specs.declared.limits.TheConstants.{MOST_MISSING_AND_BLOCKS}
 use Rattle.suit_lists.proofs.Sums.{sum_by_each}
 use Rattle.suit_cards.specs.Cards.{Sizes}
 use Rattle.suit_game.specs.declared.question.Question.{Question}
@@ -43,7 +44,8 @@ unfolding best
 all_fit = refl
 
 -- one factor more keeps below the greatest product
-best_more : (factor others : ℕ) → factor + others ≤ 14 → factor * best others ≤ best (factor + others)
+best_more : (factor others : ℕ) → factor + others ≤ MOST_MISSING_AND_BLOCKS
+    → factor * best others ≤ best (factor + others)
 best_more factor others few =
     let fits : fits_at factor ≡ true = agree_below_at fits_at (λ n. true) 15 factor all_fit (omega arith) in
     leb-true (factor * best others) (best (factor + others))
@@ -51,7 +53,7 @@ best_more factor others few =
     (omega arith))
 
 -- the greatest products are at most 162
-whole_fits : agree_below (λ n. nat_le (best n) 162) (λ n. true) 15 ≡ true
+whole_fits : agree_below (λ n. nat_le (best n) MOST_CLASS_LAYOUTS) (λ n. true) 15 ≡ true
 unfolding best
 whole_fits = refl
 
@@ -61,7 +63,7 @@ unfolding best
 none_left = omega arith
 
 -- there are no more counts than the greatest product
-up_to_best : (sizes : Sizes) → sum sizes + length sizes ≤ 14
+up_to_best : (sizes : Sizes) → sum sizes + length sizes ≤ MOST_MISSING_AND_BLOCKS
     → length (counts_up_to sizes) ≤ best (sum sizes + length sizes)
 unfolding counts_up_to
 up_to_best [] few = none_left
@@ -74,10 +76,11 @@ up_to_best (size ∷ sizes) few =
     rw parts (omega (arith, length-up_to size sizes, product, more))
 
 -- no blocks that the rules allow have more than 162 counts
-pub up_to_few : (sizes : Sizes) → sum sizes + length sizes ≤ 14 → length (counts_up_to sizes) ≤ MOST_CLASS_LAYOUTS
+pub up_to_few : (sizes : Sizes) → sum sizes + length sizes ≤ MOST_MISSING_AND_BLOCKS
+    → length (counts_up_to sizes) ≤ MOST_CLASS_LAYOUTS
 up_to_few sizes few =
-    let fits = leb-true (best (sum sizes + length sizes)) 162
-    (agree_below_at (λ n. nat_le (best n) 162) (λ n. true) 15 (sum sizes + length sizes) whole_fits
+    let fits = leb-true (best (sum sizes + length sizes)) MOST_CLASS_LAYOUTS
+    (agree_below_at (λ n. nat_le (best n) MOST_CLASS_LAYOUTS) (λ n. true) 15 (sum sizes + length sizes) whole_fits
     (omega arith)) in
     omega (arith, up_to_best sizes few, fits)
 

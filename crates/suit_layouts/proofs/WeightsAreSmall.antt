@@ -5,6 +5,7 @@ use Rattle.std.proofs.lemmas.List.{take_all}
 use Rattle.std.specs.List.{sum}
 use Rattle.std.proofs.lemmas.Nat.{pow-add}
 use Rattle.std.proofs.Math.Nat.{mul-le-mul, pow-le-pow_right}
+use Rattle.suit_game.specs.declared.limits.TheConstants.{HAND_SIZE}
 use Rattle.suit_cards.specs.Cards.{ClassLayout, Sizes}
 use Rattle.suit_cards.proofs.WhetherARankIsHeld.{length-IsHolding}
 use Rattle.suit_cards.proofs.HoldingIsWhatItHolds.{IsHolding-others_of}
@@ -30,15 +31,15 @@ ways_small size count sum_of here others is small =
     omega (arith, product, pow-add 2 size sum_of)
 
 -- the ways of thirteen cards are at most 2 ^ 13
-pub small_fits : (sum_of ways : ℕ) → sum_of ≤ 13 → ways ≤ 2 ^ sum_of → ways ≤ 2 ^ 13
+pub small_fits : (sum_of ways : ℕ) → sum_of ≤ HAND_SIZE → ways ≤ 2 ^ sum_of → ways ≤ 2 ^ 13
 small_fits sum_of ways few small =
     let most : 2 ^ sum_of ≤ 2 ^ 13 = pow-le-pow_right (omega arith) few in
     omega arith
 
 -- a suit has no more cards than thirteen
-pub sizes_few : (question : Question) (sizes : Sizes) → AreSizes question sizes → sum sizes ≤ 13
+pub sizes_few : (question : Question) (sizes : Sizes) → AreSizes question sizes → sum sizes ≤ HAND_SIZE
 sizes_few question sizes are =
-    let missing_few : length (missing question) ≤ 13 =
+    let missing_few : length (missing question) ≤ HAND_SIZE =
     length-IsHolding (missing question) (IsHolding-others_of question.north question.south) in
     omega (arith, are.filled)
 
@@ -54,7 +55,7 @@ none_weighs question sizes counts ways are is none =
 -- where West can hold so many of each block, these are few
 pub counts_few : (question : Question) (sizes : Sizes) (counts : ClassLayout) (ways : ℕ) → AreSizes question sizes
     → ways ≡ ways_of sizes counts → (ways ≡ 0 → ⊥)
-    → sum counts ≤ 13
+    → sum counts ≤ HAND_SIZE
 counts_few question sizes counts ways are is some =
     let positive : 0 < ways_of sizes counts = omega arith in
     omega (arith, (Contains-up_to sizes counts positive).1, sizes_few question sizes are)

@@ -7,10 +7,12 @@ mod divisors;
 mod fraction;
 mod halving;
 pub mod laws;
+mod limits;
 mod narrow;
 mod sharing;
 
 pub use binomials::choose;
 pub use divisors::{gcd, lcm};
 pub use fraction::Frac;
+pub use limits::MOST_BITS;
 pub use narrow::{mul, sub};

@@ -45,10 +45,10 @@ paid_most question counts history allows =
 pub product_paid : (payoff : ℕ) (mass : ℤ) → payoff ≤ HAND_SIZE → pos 0 ≤ℤ mass → IsPaid mass (pos payoff *ℤ mass)
 product_paid payoff mass few positive =
     let some : pos 0 ≤ℤ pos payoff = omega (arith, ints) in
-    let most : pos payoff ≤ℤ pos 13 = omega (arith, ints) in
+    let most : pos payoff ≤ℤ pos HAND_SIZE = omega (arith, ints) in
     record {
       some = mul_not_negative (pos payoff) mass some positive;
-      few = le-mul_right (pos payoff) (pos 13) mass most positive;
+      few = le-mul_right (pos payoff) (pos HAND_SIZE) mass most positive;
     }
 
 summed : (a b c d : ℤ) → a ≤ℤ c → b ≤ℤ d → (a +ℤ b) ≤ℤ (c +ℤ d)
@@ -63,12 +63,14 @@ sum_paid worths masses [] paid = record { some = omega (arith, ints); few = omeg
 sum_paid {X} worths masses (x ∷ xs) paid =
     let first = paid x (Contains-first x xs) in
     let later = sum_paid worths masses xs (λ y found. paid y (Contains-later x xs y found)) in
-    let all : pos 13 *ℤ (masses x +ℤ sum_of (map masses xs)) ≡ pos 13 *ℤ masses x +ℤ pos 13 *ℤ sum_of (map masses xs) =
-    mul-add_left (pos 13) (masses x) (sum_of (map masses xs)) in
+    let all : pos HAND_SIZE *ℤ (masses x +ℤ sum_of (map masses xs))
+    ≡ pos HAND_SIZE *ℤ masses x +ℤ pos HAND_SIZE *ℤ sum_of (map masses xs) =
+    mul-add_left (pos HAND_SIZE) (masses x) (sum_of (map masses xs)) in
     record {
       some = omega (arith, ints, first.some, later.some);
       few = subst (λ (z : ℤ). (worths x +ℤ sum_of (map worths xs)) ≤ℤ z) (sym all)
-          (summed (worths x) (sum_of (map worths xs)) (pos 13 *ℤ masses x) (pos 13 *ℤ sum_of (map masses xs)) first.few
+          (summed (worths x) (sum_of (map worths xs)) (pos HAND_SIZE *ℤ masses x)
+          (pos HAND_SIZE *ℤ sum_of (map masses xs)) first.few
           later.few);
     }
 

@@ -57,7 +57,7 @@ key-chain a b c x y z first then =
                 or_right (counts_before a c) (bytes_eq a c && history_before x z)
                 (and_from (bytes_eq a c) (history_before x z)
                 (subst (λ (w : ClassLayout). bytes_eq w c ≡ true) (sym one) rest.0)
-                    (history-chain x y z parts.1 rest.1))
+                (history-chain x y z parts.1 rest.1))
           ]
     ]
 

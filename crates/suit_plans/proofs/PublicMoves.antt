@@ -125,7 +125,7 @@ module _ (question : Question) (valid : IsValid question) where
       ≡ allowing_layouts question (history ++ move ∷ [])
   going_with history move =
       let goes : ClassLayout × ℕ → Bool = λ layout. is_among
-          (class_moves (class_after question history) layout.0) move in
+      (class_moves (class_after question history) layout.0) move in
       let before : ClassLayout × ℕ → Bool = λ layout. allows question layout.0 history in
       filter-filter before goes (class_layouts question (sizes_of question))
       ∙ filter_agree (λ layout. before layout

@@ -36,7 +36,7 @@ use Rattle.suit_plans.proofs.PlanWorths.{plans_paid}
 use Rattle.suit_plans.proofs.ProperDefences.{proper_defence}
 use Rattle.suit_plans.proofs.ProperPlans.{proper_plan}
 use Rattle.suit_plans.proofs.PublicMoves.{allows_some, layout_weighs}
-use Rattle.suit_game.specs.declared.limits.TheConstants.{MOST_TOTAL}
+use Rattle.suit_game.specs.declared.limits.TheConstants.{MOST_TOTAL, HAND_SIZE}
 
 -- ---- the masses at the start
 
@@ -111,23 +111,23 @@ first_masses question defence =
 -- ---- the bounds
 
 most_of_all : (weights : ℕ) (den : ℤ) → weights ≤ MOST_TOTAL → pos 1 ≤ℤ den → den ≤ℤ MOST_DEN
-    → (pos 13 *ℤ (pos weights *ℤ den)) <ℤ WORTH_BOUND
+    → (pos HAND_SIZE *ℤ (pos weights *ℤ den)) <ℤ WORTH_BOUND
 most_of_all weights den few some within =
-    let light : pos weights ≤ℤ pos 10400600 = omega (arith, ints, few) in
+    let light : pos weights ≤ℤ pos MOST_TOTAL = omega (arith, ints, few) in
     let positive : pos 0 ≤ℤ den = omega (arith, ints, some) in
-    let first : (pos weights *ℤ den) ≤ℤ (pos 10400600 *ℤ den) =
-    le-mul_right (pos weights) (pos 10400600) den light positive in
-    let second : (den *ℤ pos 10400600) ≤ℤ (pos (2 ^ 90) *ℤ pos 10400600) =
-    le-mul_right den (pos (2 ^ 90)) (pos 10400600) within (omega (arith, ints)) in
-    let both : (pos weights *ℤ den) ≤ℤ pos (10400600 * 2 ^ 90) =
-    chain (pos weights *ℤ den) (pos 10400600 *ℤ den) (pos (10400600 * 2 ^ 90)) first
-    (subst (λ (z : ℤ). z ≤ℤ pos (10400600 * 2 ^ 90)) (*ℤ_comm den (pos 10400600)) second) in
+    let first : (pos weights *ℤ den) ≤ℤ (pos MOST_TOTAL *ℤ den) =
+    le-mul_right (pos weights) (pos MOST_TOTAL) den light positive in
+    let second : (den *ℤ pos MOST_TOTAL) ≤ℤ (MOST_DEN *ℤ pos MOST_TOTAL) =
+    le-mul_right den MOST_DEN (pos MOST_TOTAL) within (omega (arith, ints)) in
+    let both : (pos weights *ℤ den) ≤ℤ (pos MOST_TOTAL *ℤ MOST_DEN) =
+    chain (pos weights *ℤ den) (pos MOST_TOTAL *ℤ den) (pos MOST_TOTAL *ℤ MOST_DEN) first
+    (subst (λ (z : ℤ). z ≤ℤ (pos MOST_TOTAL *ℤ MOST_DEN)) (*ℤ_comm den (pos MOST_TOTAL)) second) in
     thirteen (pos weights *ℤ den) both
   where
     chain : (a b c : ℤ) → a ≤ℤ b → b ≤ℤ c → a ≤ℤ c
     chain a b c p q = omega (arith, ints)
 
-    thirteen : (a : ℤ) → a ≤ℤ pos (10400600 * 2 ^ 90) → (pos 13 *ℤ a) <ℤ pos (2 ^ 118)
+    thirteen : (a : ℤ) → a ≤ℤ (pos MOST_TOTAL *ℤ MOST_DEN) → (pos HAND_SIZE *ℤ a) <ℤ WORTH_BOUND
     thirteen a le = omega (arith, ints)
 
 -- what is paid for the part of all weights
@@ -136,7 +136,7 @@ bounded : (question : Question) (den number : ℤ) → IsValid question → pos 
     → (pos 0 ≤ℤ number) × (number <ℤ WORTH_BOUND)
 bounded question den number valid some within paid = (
   paid.some,
-  through number (pos 13 *ℤ (pos (total question) *ℤ den)) WORTH_BOUND paid.few
+  through number (pos HAND_SIZE *ℤ (pos (total question) *ℤ den)) WORTH_BOUND paid.few
       (most_of_all (total question) den (total_at_most question valid) some within),
 )
   where
@@ -158,13 +158,14 @@ weighed_paid question plan layout valid proper found =
   where
     times : (weight den value : ℤ) → pos 0 ≤ℤ weight → IsPaid den value → IsPaid (weight *ℤ den) (weight *ℤ value)
     times weight den value some paid =
-        let most : (value *ℤ weight) ≤ℤ ((pos 13 *ℤ den) *ℤ weight) =
-        le-mul_right value (pos 13 *ℤ den) weight paid.few some in
-        let turned : (pos 13 *ℤ den) *ℤ weight ≡ pos 13 *ℤ (weight *ℤ den) = *ℤ_comm (pos 13 *ℤ den) weight
+        let most : (value *ℤ weight) ≤ℤ ((pos HAND_SIZE *ℤ den) *ℤ weight) =
+        le-mul_right value (pos HAND_SIZE *ℤ den) weight paid.few some in
+        let turned : (pos HAND_SIZE *ℤ den) *ℤ weight ≡ pos HAND_SIZE *ℤ (weight *ℤ den) =
+        *ℤ_comm (pos HAND_SIZE *ℤ den) weight
         ∙ mul_left_comm weight (pos 13) den in
         record {
           some = mul_not_negative weight value some paid.some;
-          few = subst (λ (z : ℤ). z ≤ℤ (pos 13 *ℤ (weight *ℤ den))) (*ℤ_comm value weight)
+          few = subst (λ (z : ℤ). z ≤ℤ (pos HAND_SIZE *ℤ (weight *ℤ den))) (*ℤ_comm value weight)
               (subst (λ (z : ℤ). (value *ℤ weight) ≤ℤ z) turned most);
         }
 
@@ -173,7 +174,7 @@ unfolding least
 leasts_bounded question plan valid proper =
     let layouts : List (ClassLayout × ℕ) = class_layouts question (sizes_of question) in
     let value : ℤ = sum_of (map (λ (layout : ClassLayout × ℕ). pos layout.1 *ℤ worth
-        (reply_to_plan question plan layout.0)
+    (reply_to_plan question plan layout.0)
     []) layouts) in
     let parts = proper_plan question plan proper in
     bounded question plan.den value valid (int_le-true (pos 1) plan.den parts.0) (int_le-true plan.den MOST_DEN parts.1)

@@ -217,7 +217,7 @@ defence_choice question defence history valid found =
     let many : 1 < length (public_moves question history) =
     ltb-true 1 (length (public_moves question history)) chosen.1 in
     let some = some_passing (λ (layout : ClassLayout × ℕ). int_lt (pos 0)
-        (defence_mass question defence layout.0 history))
+    (defence_mass question defence layout.0 history))
     (allowing_layouts question history) reached.0 in
     record {
       allowed = parts.0;

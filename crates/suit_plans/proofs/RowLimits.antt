@@ -21,7 +21,7 @@ use Rattle.suit_plans.specs.Masses.{weight_of}
 use Rattle.suit_plans.specs.Properness.{some_allows}
 use Rattle.suit_plans.proofs.AllowedSoFar.{start_allows}
 use Rattle.suit_plans.proofs.SomeLayoutAllows.{any_allows, all_to_come}
-use Rattle.suit_game.specs.declared.limits.TheConstants.{MOST_MOVES}
+use Rattle.suit_game.specs.declared.limits.TheConstants.{MOST_MOVES, MOST_TOTAL}
 use Rattle.suit_classes.specs.ClassMoves.{ClassHistory}
 
 -- a class history that a class layout of positive weight allows has at most 52 moves
@@ -51,7 +51,7 @@ some_allowed_short question history valid told =
 
 -- no class layout weighs more than all do
 pub weight_at_most : (question : Question) (counts : ClassLayout) → IsValid question
-    → weight_of question counts ≤ 10400600
+    → weight_of question counts ≤ MOST_TOTAL
 weight_at_most question counts valid =
     let sizes = defence_sizes (hands_of question) in
     elim (cases_lt 0 (weight_of question counts)) [

@@ -39,7 +39,7 @@ has_turn question side history = goes_undecided (class_start question) history
 unfoldable pub some_allows : Question → ClassHistory → Bool
 some_allows question history =
     list_any (λ (layout : ClassLayout × ℕ). allows question layout.0 history)
-        (class_layouts question (sizes_of question))
+    (class_layouts question (sizes_of question))
 
 -- whether some moves stand in strictly rising order
 unfoldable pub are_rising : List ClassMove → Bool

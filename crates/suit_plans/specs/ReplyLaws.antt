@@ -5,7 +5,7 @@ use Rattle.std.specs.Prelude.{length, map, get_or, Contains, ℤ, pos, ◌*ℤ�
 use Rattle.suit_cards.specs.Cards.{ClassLayout}
 use Rattle.suit_game.specs.declared.question.Question.{Question}
 use Rattle.suit_game.specs.Validity.{IsValid}
-use Rattle.suit_game.specs.declared.limits.TheConstants.{MOST_MOVES}
+use Rattle.suit_game.specs.declared.limits.TheConstants.{HAND_SIZE, MOST_MOVES}
 use Rattle.suit_classes.specs.declared.class_moves.ClassMove.{ClassMove}
 use Rattle.suit_classes.specs.Classes.{sizes_of}
 use Rattle.suit_classes.specs.ClassGame.{Allows}
@@ -73,7 +73,7 @@ PlansAtDefences = (question : Question) (plan : Plan) (counts : ClassLayout) (hi
 abbrev pub masses_of : Question → Defence → ClassHistory → List ℤ
 masses_of question defence history =
     map (λ (layout : ClassLayout × ℕ). defence_mass question defence layout.0 history)
-        (allowing_layouts question history)
+    (allowing_layouts question history)
 
 -- against a defence: where play is decided, the payoff for the masses that came
 abbrev pub DefencesAtDecided : Type 0
@@ -103,7 +103,7 @@ DefencesAtDefences = (question : Question) (defence : Defence) (history : ClassH
 -- a worth lies between nothing and thirteen tricks of a mass
 pub record IsPaid (mass worth : ℤ) : Type 0 where
   pub some : pos 0 ≤ℤ worth
-  pub few : worth ≤ℤ (pos 13 *ℤ mass)
+  pub few : worth ≤ℤ (pos HAND_SIZE *ℤ mass)
 
 -- against a proper plan each class history that is allowed is worth no more than thirteen tricks of its mass
 abbrev pub PlansArePaid : Type 0

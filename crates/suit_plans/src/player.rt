@@ -6,7 +6,7 @@ ghost use Rattle.suit_plans.specs.declared.plan.TheConstants.{MOST_DEN};
 ghost use Rattle.suit_plans.specs.Masses.{declarer, defenders, mass_of, let_through, weight_of};
 ghost use Rattle.suit_plans.specs.Orders.{InOrder, defence_row_before, plan_row_before};
 ghost use Rattle.suit_plans.specs.Players.{AreOrdered, side_of};
-ghost use Rattle.suit_game.specs.declared.limits.TheConstants.{MOST_MOVES};
+ghost use Rattle.suit_game.specs.declared.limits.TheConstants.{MOST_MOVES, MOST_TOTAL};
 
 use super::turns::{is_declarers, is_defences, is_first};
 use super::{Counts, DefenceRow, Row, defence_shares_at, plan_shares_at, share};
@@ -51,7 +51,7 @@ impl<'a> Player<'a> {
         rows: &'a [DefenceRow],
         counts: &'a [u8],
     ) -> Player<'a>
-        requires weight { weight ≤ 10400600 }
+        requires weight { weight ≤ MOST_TOTAL }
         requires den { (pos 1 ≤ℤ den) × (den ≤ℤ MOST_DEN) }
         requires order { InOrder defence_row_before rows.now }
         ensures side { (question : Question) → weight ≡ weight_of question counts.now

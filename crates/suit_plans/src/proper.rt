@@ -7,7 +7,7 @@ ghost use Rattle.suit_plans.specs.Orders.{InOrder, defence_row_before, plan_row_
 ghost use Rattle.suit_plans.specs.Players.{AreOrdered, side_of};
 ghost use Rattle.suit_plans.specs.Properness.{defence_row_fault, defence_verdict, last_passes, plan_row_fault};
 ghost use Rattle.suit_plans.specs.Properness.{plan_verdict, row_fault};
-ghost use Rattle.suit_game.specs.declared.limits.TheConstants.{MOST_MOVES};
+ghost use Rattle.suit_game.specs.declared.limits.TheConstants.{MOST_MOVES, MOST_TOTAL};
 
 use super::allowed::{allows, some_allows, undecided_place};
 use super::lookup::is_row_before;
@@ -163,7 +163,7 @@ fn defence_stands_after(before: &[DefenceRow], row: &DefenceRow) -> bool
 fn weight_of(question: &Question, counts: &[u8]) -> u64
     requires { IsValid question.now }
     ensures value { result ≡ weight_of question.now counts.now }
-    ensures few { result ≤ 10400600 }
+    ensures few { result ≤ MOST_TOTAL }
 {
     class_weight(question, Classes::of(question).sizes().as_slice(), counts)
 }

@@ -16,6 +16,7 @@ use Rattle.suit_game.specs.Question.{missing}
 use Rattle.suit_game.specs.Validity.{AreEntries, IsGoal}
 use Rattle.suit_question.specs.Results.{◌>>=◌, found_as, told_as}
 use Rattle.suit_question.specs.Values.{number_within, holding_named, lead_named, entries_named, goal_named}
+use Rattle.suit_question.specs.declared.column.TheConstants.{COLUMNS}
 use Rattle.suit_question.specs.declared.column.Column.{Column}
 use Rattle.suit_question.specs.declared.column.Column.TheVariants.{North, South, Start, Regain, EntriesN, EntriesS}
 use Rattle.suit_question.specs.declared.column.Column.TheVariants.{VacantW, VacantE, WestLeast}
@@ -28,7 +29,7 @@ use Rattle.suit_question.specs.declared.faults.QuestionKind.TheVariants.{Empty, 
 
 -- a column's number
 abbrev pub IsColumn : ℕ → Type 0
-IsColumn column = (1 ≤ column) × (column ≤ 13)
+IsColumn column = (1 ≤ column) × (column ≤ COLUMNS)
 
 -- the column of a number
 abbrev pub column_numbered : ℕ → Column

@@ -2,6 +2,9 @@
 ghost use Rattle.std.specs.Prelude.{◌≡◌};
 ghost use Rattle.suit_question.specs.Columns.{IsColumn, column_numbered};
 
+/// How many columns a question has.
+pub const COLUMNS: u8 = 13;
+
 /// One of the thirteen values that make a question, in the order of their numbers, from 1 on.
 #[derive(Clone, Copy, Debug, PartialEq, Eq)]
 pub enum Column {

@@ -12,6 +12,7 @@ mod reading;
 mod values;
 mod writing;
 
+pub use column::COLUMNS;
 pub use draft::Draft;
 pub use faults::{QuestionFault, QuestionKind};
 pub use reading::{question_end, read_question};

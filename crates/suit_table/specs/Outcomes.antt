@@ -3,13 +3,13 @@ use Rattle.std.specs.Prelude.{ℕ, [], ◌∷◌, ◌++◌, codes, decimal}
 use Rattle.std.specs.Fmt.{signed_decimal}
 use Rattle.csv.specs.Writing.{default_writer, row_text}
 use Rattle.suit_cards.specs.Cards.{Text}
+use Rattle.suit_num.specs.declared.limits.TheConstants.{MOST_BITS}
 use Rattle.suit_game.specs.declared.limits.TheConstants.{MOST_SUPPORT}
 use Rattle.suit_game.specs.declared.question.Question.{Question}
 use Rattle.suit_question.specs.Faults.{fault_number}
 use Rattle.suit_question.specs.declared.faults.QuestionKind.{QuestionKind}
 use Rattle.suit_table.specs.declared.outcomes.Outcome.{Outcome}
 use Rattle.suit_table.specs.declared.outcomes.Outcome.TheVariants.{Value, Nodes, Support, Pivots, Wide, Memory}
-use Rattle.suit_table.specs.declared.outcomes.TheConstants.{MOST_BITS}
 
 -- which outcomes fit which questions
 abbrev pub Fit : Type 1

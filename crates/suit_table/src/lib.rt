@@ -11,7 +11,7 @@ mod tables;
 
 pub use judging::{BATCH, Entry, Finding, Judge, Told, judge_all};
 pub use lines::{detail_of, word_of};
-pub use outcomes::{MOST_BITS, Outcome};
+pub use outcomes::Outcome;
 pub use records::{FIELDS, MOST_TABLE};
 pub use summaries::{MOST_QUESTIONS, summary};
 pub use tables::{TableEnd, table};

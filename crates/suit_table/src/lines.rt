@@ -7,10 +7,11 @@ ghost use Rattle.suit_table.specs.Outcomes.{detail_of, line, outcome_line, word_
 
 use crate::Memory;
 use crate::judging::{Finding, Told};
-use crate::outcomes::{MOST_BITS, Outcome};
+use crate::outcomes::Outcome;
 use csv::{Error, WriterBuilder};
 use std::alloc::{AllocError, Global};
 use suit_game::{MOST_SUPPORT, Question};
+use suit_num::MOST_BITS;
 
 /// The line of a record.
 pub(crate) fn told_line(alloc: Global, told: &Told) -> Result<Vec<u8>, Memory>

@@ -2,9 +2,6 @@
 
 use suit_num::Frac;
 
-/// In how many bits the numbers of a run are kept, which the line of `Wide` tells.
-pub const MOST_BITS: u32 = 128;
-
 /// What a judge finds of a question.
 #[derive(Clone, Copy, Debug, PartialEq, Eq)]
 pub enum Outcome {

@@ -6,13 +6,14 @@ ghost use Rattle.suit_table.specs.Records.{first_misfit, is_misfit, records_of};
 use crate::Memory;
 use csv::{ByteRecord, ReaderBuilder};
 use std::alloc::{AllocError, Global};
+use suit_question::COLUMNS;
 use suit_text::MOST_TEXT;
 
 /// The most bytes of a table: as many as of any text.
 pub const MOST_TABLE: usize = MOST_TEXT;
 
 /// How many fields a record has: one for each column of a question.
-pub const FIELDS: usize = 13;
+pub const FIELDS: usize = COLUMNS as usize;
 
 /// Reads the records of a table that has no header.
 pub(crate) fn read_records(alloc: Global, bytes: &[u8]) -> Result<Vec<ByteRecord>, Memory>

@@ -1,19 +1,21 @@
 -- What some runs owe, and the limits as numbers, written down by hand.
 use Rattle.std.specs.Prelude.{◌≡◌, ◌^◌, ◌-◌, [], ◌∷◌, codes, pos}
 use Rattle.suit_num.specs.Narrow.{IsNarrow}
+use Rattle.suit_num.specs.declared.limits.TheConstants.{MOST_BITS}
 use Rattle.suit_cards.specs.Cards.{Text}
 use Rattle.suit_text.specs.declared.limits.TheConstants.{MOST_TEXT}
-use Rattle.suit_game.specs.declared.limits.TheConstants.{DEFAULT_NODES, DEFAULT_PIVOTS, HAND_SIZE, MOST_MOVES}
-use Rattle.suit_game.specs.declared.limits.TheConstants.{MOST_NODES, MOST_PIVOTS, MOST_SUPPORT, MOST_TOTAL}
+use Rattle.suit_game.specs.declared.limits.TheConstants.{DEFAULT_NODES, DEFAULT_PIVOTS, HAND_SIZE}
+use Rattle.suit_game.specs.declared.limits.TheConstants.{MOST_MISSING_AND_BLOCKS, MOST_MOVES, MOST_NODES}
+use Rattle.suit_game.specs.declared.limits.TheConstants.{MOST_PIVOTS, MOST_SUPPORT, MOST_TOTAL}
 use Rattle.suit_classes.specs.declared.classes.TheConstants.{MOST_CLASSES, MOST_DEFENCE_CLASSES}
 use Rattle.suit_gen.specs.declared.deals.TheConstants.{MADE_NODES, MADE_PIVOTS}
 use Rattle.suit_layouts.specs.declared.class_list.TheConstants.{MOST_CLASS_LAYOUTS}
 use Rattle.suit_linear.specs.declared.limits.TheConstants.{MOST_SMALL}
 use Rattle.suit_plans.specs.declared.plan.TheConstants.{MOST_DEN, MOST_MASS, WORTH_BOUND}
 use Rattle.suit_reply.specs.declared.on_threads.TheConstants.{MOST_CHUNKS}
+use Rattle.suit_question.specs.declared.column.TheConstants.{COLUMNS}
 use Rattle.suit_question.specs.declared.values.TheConstants.{MOST_DIGITS}
 use Rattle.suit_table.specs.declared.judging.TheConstants.{BATCH}
-use Rattle.suit_table.specs.declared.outcomes.TheConstants.{MOST_BITS}
 use Rattle.suit_table.specs.declared.records.TheConstants.{FIELDS, MOST_TABLE}
 use Rattle.suit_table.specs.declared.summaries.TheConstants.{MOST_QUESTIONS}
 use Rattle.suit_answer.specs.declared.parts.TheConstants.{MOST_LINES, MOST_ROWS}
@@ -46,7 +48,8 @@ pub record Limits : Type 0 where
   pub text : MOST_TEXT ≡ 16777216
   pub table : MOST_TABLE ≡ 16777216
   pub input : MOST_INPUT ≡ 2097152
-  -- digits of a question's numbers, rows that a line of an answer may tell of, and lines of an answer
+  -- columns of a question, digits of its numbers, rows that a line of an answer may tell of, and lines of an answer
+  pub question_columns : COLUMNS ≡ 13
   pub digits : MOST_DIGITS ≡ 9
   pub rows : MOST_ROWS ≡ 4294967295
   pub lines : MOST_LINES ≡ 16777217
@@ -65,9 +68,11 @@ pub record Limits : Type 0 where
   pub value : MOST_VALUE ≡ 1000
   pub decimals : MOST_DECIMALS ≡ 4
   pub hundredths : MOST_HUNDREDTHS ≡ 10000000
-  -- classes, those of the defenders, class layouts, moves of a history, cards of a hand, and what all layouts weigh
+  -- classes, those of the defenders, these with the missing cards, class layouts, moves of a history, cards of a hand,
+  -- and what all layouts weigh
   pub classes : MOST_CLASSES ≡ 13
   pub defence_classes : MOST_DEFENCE_CLASSES ≡ 7
+  pub missing_and_blocks : MOST_MISSING_AND_BLOCKS ≡ 14
   pub class_layouts : MOST_CLASS_LAYOUTS ≡ 162
   pub moves : MOST_MOVES ≡ 52
   pub hand : HAND_SIZE ≡ 13

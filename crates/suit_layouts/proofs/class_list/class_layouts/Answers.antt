@@ -3,6 +3,7 @@ use Rattle.std.specs.Prelude.{IfOk, vec_len}
 use Rattle.std.specs.List.{sum_by}
 use Rattle.std.proofs.lemmas.Iterator.{items_from_collect}
 use Rattle.std.proofs.lemmas.Iterator.Consumers.{YieldsList-from_first}
+use Rattle.suit_layouts.specs.declared.class_list.TheConstants.{MOST_CLASS_LAYOUTS}
 use Rattle.suit_game.specs.Layouts.{total}
 use Rattle.suit_layouts.specs.ClassLayouts.{class_layouts}
 use Rattle.suit_layouts.proofs.ClassWeights.{class_weights_add_up}
@@ -21,7 +22,8 @@ returns-clause-few c =
     let value = items_from_collect c.collect.result c.collect.ensures.ran
     (YieldsList-from_first (λ (layout : List ℕ × ℕ). layout) (λ (walk : List (List ℕ × ℕ)). walk) all
     c.new.ensures.value) in
-    if_ok_gives (λ list. list.items ≡ all) (λ list. vec_len list ≤ 162) c.collect.result value (λ list is. omega (
+    if_ok_gives (λ list. list.items ≡ all) (λ list. vec_len list ≤ MOST_CLASS_LAYOUTS) c.collect.result value
+    (λ list is. omega (
       arith,
       ap length is,
       few,

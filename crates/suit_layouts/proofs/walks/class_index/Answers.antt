@@ -2,6 +2,7 @@ use Rattle.std.proofs.Common.{◌≤◌, ◌<◌, length, ℕ, List, Option, Som
 use Rattle.std.specs.Prelude.{IfSome}
 use Rattle.std.proofs.lemmas.Iterator.Consumers.{YieldsList-from_first}
 use Rattle.std.proofs.lemmas.Iterator.Search.{position_from_yields_List}
+use Rattle.suit_layouts.specs.declared.class_list.TheConstants.{MOST_CLASS_LAYOUTS}
 use Rattle.suit_layouts.specs.ClassLayouts.{class_layouts, same_counts}
 use Rattle.suit_layouts.proofs.walks.class_index.Goals as goal
 
@@ -24,4 +25,4 @@ if_below most least (Some index) is few = omega (arith, is)
 
 pub returns-clause-few : goal.returns-clause-few
 returns-clause-few c =
-    if_below 162 (length c.new.result) c.position.result c.position.ensures.bound c.new.ensures.few
+    if_below MOST_CLASS_LAYOUTS (length c.new.result) c.position.result c.position.ensures.bound c.new.ensures.few
