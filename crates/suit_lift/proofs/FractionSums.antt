@@ -36,7 +36,7 @@ no_more_itself a some = record { here_some = some; there_some = some; least = om
 pub no_more_same : (a b : Fraction) → 0 < a.den → 0 < b.den → a.num * b.den ≡ b.num * a.den → IsNoMore a b
 no_more_same a b here there same = record { here_some = here; there_some = there; least = omega (arith, same) }
 
-chained : (an ad bn bd cn cd : ℕ) → 0 < bd → an * bd ≤ bn * ad → bn * cd ≤ cn * bd → an * cd ≤ cn * ad
+pub chained : (an ad bn bd cn cd : ℕ) → 0 < bd → an * bd ≤ bn * ad → bn * cd ≤ cn * bd → an * cd ≤ cn * ad
 chained an ad bn bd cn cd some first later =
     let both : bd * (an * cd) ≤ bd * (cn * ad) = omega (arith, mul-le-mul_left cd first, mul-le-mul_left ad later) in
     le_of_mul-le-mul_left both some

@@ -13,12 +13,8 @@ use Rattle.suit_plans.specs.BestReplies.{least, most}
 use Rattle.suit_lift.specs.Certified.{MetIsCertified, OneCertifiedValue, OneValue}
 use Rattle.suit_lift.specs.Lifts.{defence_way, plan_way}
 use Rattle.suit_lift.proofs.DefenceGains.{defences_hold}
+use Rattle.suit_lift.proofs.FractionSums.{chained}
 use Rattle.suit_lift.proofs.PlanGains.{plans_earn}
-
-between : (gn gd a b c d : ℕ) → 0 < gd → a * gd ≤ gn * b → gn * d ≤ c * gd → a * d ≤ c * b
-between gn gd a b c d some low high =
-    let both : gd * (a * d) ≤ gd * (c * b) = omega (arith, mul-le-mul_left d low, mul-le-mul_left b high) in
-    le_of_mul-le-mul_left both some
 
 both_ways : (m n : ℕ) → m ≤ n → n ≤ m → m ≡ n
 both_ways m n up down = omega (arith, up, down)
@@ -28,9 +24,9 @@ one_value question plan other_plan defence other_defence num den other_num other
     let forth : Fraction = gain question plan other_defence in
     let back : Fraction = gain question other_plan defence in
     both_ways (num * other_den) (other_num * den)
-    (between forth.num forth.den num den other_num other_den (here.dens plan other_defence)
+    (chained num den forth.num forth.den other_num other_den (here.dens plan other_defence)
     (here.earns other_defence) (there.holds plan))
-    (between back.num back.den other_num other_den num den (here.dens other_plan defence) (there.earns defence)
+    (chained other_num other_den back.num back.den num den (here.dens other_plan defence) (there.earns defence)
     (here.holds other_plan))
 
 positive : (n : ℕ) → 0 < n → pos 0 <ℤ pos n

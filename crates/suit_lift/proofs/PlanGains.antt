@@ -34,7 +34,7 @@ use Rattle.suit_plans.proofs.RepliesAreBounded.{first_mass}
 use Rattle.suit_lift.specs.LiftLaws.{PlansEarn}
 use Rattle.suit_lift.specs.Lifts.{plan_way}
 use Rattle.suit_lift.proofs.LiftPaysItsWorth.{plans_pay}
-use Rattle.suit_lift.proofs.WorthsAreNotNegative.{worth_positive}
+use Rattle.suit_lift.proofs.WorthsAreNotNegative.{number_positive, worth_positive}
 use Rattle.suit_lift.proofs.SharesAreMasses.{counted_mul, counted_total, total_positive}
 
 least_step : (w b fn fd mass sum d num : ℕ) → b * fd ≤ fn * mass → sum * d ≤ num * mass → (w * b + sum) * (fd
@@ -72,9 +72,6 @@ grouped_by_classes question worth_of valid =
 pub den_some : (den : ℤ) → int_le (pos 1) den ≡ true → 0 < counted den
 den_some (pos n) told = omega (arith, ints, int_le-true (pos 1) (pos n) told)
 den_some (negsuc n) told = absurd (omega (arith, ints, int_le-true (pos 1) (negsuc n) told))
-
-number_positive : (number : ℕ) → pos 0 ≤ℤ pos number
-number_positive number = omega (arith, ints)
 
 module _ (question : Question) (plan : Plan) (valid : IsValid question) (proper : IsProperPlan question plan) where
   worth_of : List ℕ × ℕ → ℤ

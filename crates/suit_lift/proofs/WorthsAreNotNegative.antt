@@ -29,7 +29,7 @@ unfolding sum_of
 sum_positive [] each = omega (arith, ints)
 sum_positive (worth ∷ worths) each = omega (arith, ints, each.0, sum_positive worths each.1)
 
-number_positive : (number : ℕ) → pos 0 ≤ℤ pos number
+pub number_positive : (number : ℕ) → pos 0 ≤ℤ pos number
 number_positive number = omega (arith, ints)
 
 module _ (reply : Reply) (best : (a b : ℤ) → pos 0 ≤ℤ a → pos 0 ≤ℤ b

@@ -17,6 +17,7 @@ use Rattle.suit_classes.specs.declared.class_moves.ClassMove.TheVariants.{Lead, 
 use Rattle.suit_classes.specs.MoveOrder.{class_named, kind_of}
 use Rattle.suit_classes.specs.declared.class_trick.ClassTrick.TheVariants.{Closed, Open}
 use Rattle.suit_classes.specs.declared.class_view.ClassView.{ClassView}
+use Rattle.suit_classes.specs.declared.classes.TheConstants.{MOST_CLASSES}
 use Rattle.suit_classes.specs.declared.class_trick.ClassTrick.{ClassTrick}
 use Rattle.suit_classes.specs.ClassPlaces.{class_after, class_decided, class_moves, class_moves_in, class_numbers}
 use Rattle.suit_classes.specs.ClassPlaces.{class_start, class_step, classes_left, counted_classes, left, may_lead}
@@ -115,7 +116,7 @@ each_kind P move all = each_map (λ other. P (kind_of other)) move class_numbers
 once_named : (move : ℕ → ClassMove) → ((class number : ℕ) → move class ≡ move number → class ≡ number)
     → IsOnce (map move class_numbers)
 unfolding class_numbers
-once_named move tells = once_map move (range_with_len 0 13) tells (once_range 0 13)
+once_named move tells = once_map move (range_with_len 0 MOST_CLASSES) tells (once_range 0 MOST_CLASSES)
 
 -- no move comes twice among all moves
 pub once_every_move : IsOnce every_move

@@ -103,7 +103,8 @@ few_moves_on : (question : Question) (history : ClassHistory) → length (moves_
 unfolding moves_on
 few_moves_on question history =
     let some : ClassMove → Bool = λ move. nat_lt 0 (length (allowing question (history ++ move ∷ []))) in
-    unless_few (class_decided (class_after question history)) (filter some every_move) (length_filter-most some every_move)
+    unless_few (class_decided (class_after question history)) (filter some every_move)
+    (length_filter-most some every_move)
 
 -- a node has few children
 pub few_children : (more : ℕ) (question : Question) (history : ClassHistory) (node : Node)
