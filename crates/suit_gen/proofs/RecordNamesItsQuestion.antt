@@ -22,7 +22,7 @@ use Rattle.suit_question.proofs.ValuesBack.{count_back, goal_back, holding_back,
 use Rattle.suit_gen.proofs.Dealing.{north_some}
 use Rattle.suit_game.specs.declared.limits.TheConstants.{HAND_SIZE, MOST_NODES, MOST_PIVOTS}
 use Rattle.suit_game.specs.declared.question.Question.{Question}
-use Rattle.suit_gen.specs.Deals.{deal_at, deals_from, dealt_to, place_of, question_of}
+use Rattle.suit_gen.specs.Deals.{deal_at, deals_from, dealt_to, place_of, question_about}
 use Rattle.suit_gen.specs.Draws.{state_after}
 use Rattle.suit_gen.specs.Naming.{question_named}
 use Rattle.suit_gen.specs.Records.{fields_of, record_text}
@@ -59,16 +59,16 @@ texts_done count counter state text whole past left =
 
 pub more_questions : (count counter state after : ℕ) (questions longer : List Question) (question : Question)
     (deal : Deal) {whole : List Question} → counter < count
-    → longer ≡ questions ++ question ∷ [] → question ≡ question_of deal → deal ≡ deal_at state
+    → longer ≡ questions ++ question ∷ [] → question ≡ question_about deal → deal ≡ deal_at state
     → after ≡ state_after 13 state
-    → questions ++ map question_of (deals_from (count - counter) state) ≡ whole
-    → longer ++ map question_of (deals_from (count - (counter + 1)) after) ≡ whole
+    → questions ++ map question_about (deals_from (count - counter) state) ≡ whole
+    → longer ++ map question_about (deals_from (count - (counter + 1)) after) ≡ whole
 more_questions count counter state after questions longer question deal within pushed is is_deal on left =
     rw (pushed, is, is_deal, on) (append_assoc questions _ _
     ∙ rw (deals_left count counter state within) at left)
 
 pub all_questions : (count counter state : ℕ) (questions whole : List Question) → count ≤ counter
-    → questions ++ map question_of (deals_from (count - counter) state) ≡ whole → questions ≡ whole
+    → questions ++ map question_about (deals_from (count - counter) state) ≡ whole → questions ≡ whole
 all_questions count counter state questions whole past left =
     sym (append-nil questions) ∙ rw (no_deals count counter state past) at left
 
@@ -84,13 +84,13 @@ some_binomial : 0 < binomial 26 13
 unfolding binomial binomial_row next_row
 some_binomial = lit< tt
 
-length_deals : (count state : ℕ) → length (map question_of (deals_from count state)) ≡ count
+length_deals : (count state : ℕ) → length (map question_about (deals_from count state)) ≡ count
 unfolding deals_from
 length_deals zero state = refl
 length_deals (suc count) state = omega (arith, length_deals count (state_after 13 state))
 
 pub questions_count : (count number : ℕ) (questions : List Question)
-    → questions ≡ map question_of (deals_from count number) → length questions ≡ count
+    → questions ≡ map question_about (deals_from count number) → length questions ≡ count
 questions_count count number questions are = ap length are ∙ length_deals count number
 
 no_card_in_both : (state : ℕ) → list_any (holds (dealt_to 1 state)) (dealt_to 0 state) ≡ false
@@ -107,7 +107,7 @@ no_card_in_both state = elim (cases_Bool (list_any (holds (dealt_to 1 state)) (d
 ]
 
 -- the question about the deal of a state is valid
-pub question_valid : (state : ℕ) → IsValid (question_of (deal_at state))
+pub question_valid : (state : ℕ) → IsValid (question_about (deal_at state))
 question_valid state =
     let north = dealt_holding 0 state in
     let south = dealt_holding 1 state in
@@ -131,19 +131,19 @@ question_valid state =
       nodes_least = omega arith;
       nodes_most = omega arith;
       pivots = omega arith;
-      has_weight = rw (total_of_all (question_of (deal_at state)) (omega (arith, missing_few)) refl missing_few)
+      has_weight = rw (total_of_all (question_about (deal_at state)) (omega (arith, missing_few)) refl missing_few)
           some_binomial;
     }
 
 -- a question that is valid is named by its record
-names_valid : (deal : Deal) → IsValid (question_of deal) → question_named (fields_of deal) ≡ Ok (question_of deal)
+names_valid : (deal : Deal) → IsValid (question_about deal) → question_named (fields_of deal) ≡ Ok (question_about deal)
 unfolding question_named
 names_valid deal valid =
     let some : (length deal.north + length deal.south == 0) ≡ false =
     (let h = valid.some_card in grind (arith, nat_tests)) in
     let places : nat_lt 26 (length (others_of deal.north deal.south)) ≡ false =
     (let h = valid.places in grind (arith, nat_tests)) in
-    let weight : (total (question_of deal) == 0) ≡ false = (let h = valid.has_weight in grind (arith, nat_tests)) in
+    let weight : (total (question_about deal) == 0) ≡ false = (let h = valid.has_weight in grind (arith, nat_tests)) in
     rw (
       holding_back deal.north valid.north,
       holding_back deal.south valid.south,
@@ -157,30 +157,30 @@ names_valid deal valid =
       weight,
     ) refl
 
-record_names : (state : ℕ) → question_named (fields_of (deal_at state)) ≡ Ok (question_of (deal_at state))
+record_names : (state : ℕ) → question_named (fields_of (deal_at state)) ≡ Ok (question_about (deal_at state))
 record_names state = names_valid (deal_at state) (question_valid state)
 
 named_all : (count number : ℕ)
     → map {B = Result Question QuestionKind} (λ (question : Question). Ok question)
-    (map question_of (deals_from count number))
+    (map question_about (deals_from count number))
     ≡ map (λ deal. question_named (fields_of deal)) (deals_from count number)
 unfolding deals_from
 named_all zero number = refl
 named_all (suc count) number = rw (record_names number, named_all count (state_after 13 number)) refl
 
-valid_all : (count number : ℕ) → AllByRecursion IsValid (map question_of (deals_from count number))
+valid_all : (count number : ℕ) → AllByRecursion IsValid (map question_about (deals_from count number))
 unfolding deals_from
 valid_all zero number = tt
 valid_all (suc count) number = (question_valid number, valid_all count (state_after 13 number))
 
 pub questions_named : (count number : ℕ) (questions : List Question)
-    → questions ≡ map question_of (deals_from count number)
+    → questions ≡ map question_about (deals_from count number)
     → map {B = Result Question QuestionKind} (λ (question : Question). Ok question) questions
     ≡ map (λ deal. question_named (fields_of deal)) (deals_from count number)
 questions_named count number questions are = rw are (named_all count number)
 
 pub questions_valid : (count number : ℕ) (questions : List Question)
-    → questions ≡ map question_of (deals_from count number)
+    → questions ≡ map question_about (deals_from count number)
     → (k : ℕ) (d : Question) → k < length questions → IsValid (slice_index_or questions k d)
 questions_valid count number questions are =
     rw are (All-from_recursion IsValid _ (valid_all count number))

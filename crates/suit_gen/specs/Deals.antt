@@ -39,8 +39,8 @@ deals_from (suc count) state = deal_at state ∷ deals_from count (state_after 1
 
 -- the question about a deal: either hand leads, no entry is left, nothing is known of West's hand, and the
 -- budgets are small
-abbrev pub question_of : Deal → Question
-question_of deal = record {
+abbrev pub question_about : Deal → Question
+question_about deal = record {
   north = deal.north;
   south = deal.south;
   start = Either;

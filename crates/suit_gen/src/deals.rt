@@ -1,7 +1,7 @@
 //! What is drawn for one record: declarer's hands and the goal.
 ghost use Rattle.std.specs.Prelude.{◌≡◌, ◌/◌, ◌%◌, ◌==◌, if◌then◌else◌};
 ghost use Rattle.suit_cards.specs.Holdings.{without_rank};
-ghost use Rattle.suit_gen.specs.Deals.{dealt_to, deal_at, question_of};
+ghost use Rattle.suit_gen.specs.Deals.{dealt_to, deal_at, question_about};
 ghost use Rattle.suit_gen.specs.Draws.{next, state_after};
 
 use crate::draws::Draws;
@@ -94,7 +94,7 @@ impl Deal {
 
     /// The question about a deal.
     pub fn question(&self) -> Question
-        ensures { result ≡ question_of self.now }
+        ensures { result ≡ question_about self.now }
     {
         Question {
             north: self.north,

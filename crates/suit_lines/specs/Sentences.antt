@@ -53,11 +53,11 @@ abbrev pub part_words : ℤ → ℤ → Text
 part_words mass count = codes " " ++ signed_decimal count ++ codes " of " ++ signed_decimal mass
 
 -- the words of a move with its share of the mass at a turn, which are told where the mass is split
-abbrev pub share_words : Text → ClassTurn → ℤ → Bool → ClassMove × ℤ → Text
-share_words letters turn mass split share =
+abbrev pub move_share_words : Text → ClassTurn → ℤ → Bool → ClassMove × ℤ → Text
+move_share_words letters turn mass split share =
     move_words letters turn share.0 ++ (if split then part_words mass share.1 else [])
 
 -- the words of all shares of the mass at a turn
 abbrev pub choice_words : Text → ClassTurn → ℤ → Shares → Text
 choice_words letters turn mass shares =
-    joined (codes "; ") (map (share_words letters turn mass (nat_lt 1 (length shares))) shares)
+    joined (codes "; ") (map (move_share_words letters turn mass (nat_lt 1 (length shares))) shares)

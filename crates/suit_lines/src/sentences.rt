@@ -3,7 +3,8 @@ ghost use Rattle.std.specs.Prelude.{◌≡◌, ◌++◌, ◌<◌, ◌≤◌, nat
 ghost use Rattle.suit_answer.specs.Writable.{IsWritableMove};
 ghost use Rattle.suit_classes.specs.ClassPlaces.{class_start};
 ghost use Rattle.suit_game.specs.declared.limits.TheConstants.{MOST_MOVES};
-ghost use Rattle.suit_lines.specs.Sentences.{choice_words, move_words, opening, part_words, seat_name, share_words};
+ghost use Rattle.suit_lines.specs.Sentences.{choice_words, move_words, opening, part_words, seat_name};
+ghost use Rattle.suit_lines.specs.Sentences.{move_share_words};
 ghost use Rattle.suit_lines.specs.Sentences.{turn_name};
 
 use super::Memory;
@@ -121,7 +122,7 @@ fn write_share(
     share: (ClassMove, i128),
 ) -> Result<(), Memory>
     requires { IsWritableMove (length letters.now) share.0 }
-    ensures { OnOk result (text.new.items ≡ text.old.items ++ share_words letters.now turn mass split share) }
+    ensures { OnOk result (text.new.items ≡ text.old.items ++ move_share_words letters.now turn mass split share) }
 {
     write_move(text, letters, turn, share.0)?;
     if split {

@@ -16,7 +16,7 @@ use Rattle.suit_table.specs.Fields.{question_named}
 use Rattle.suit_table.specs.Judging.{IsFound, IsTold, finding_line, told_line}
 use Rattle.suit_table.specs.Outcomes.{Fit, fault_line, outcome_line}
 use Rattle.suit_table.specs.Records.{Record, first_misfit, records_of}
-use Rattle.suit_table.specs.Tables.{AreLines, IsLine, IsTable}
+use Rattle.suit_table.specs.Tables.{AreLines, IsRecordLine, IsTable}
 
 -- the line of what is found of a record that was read so
 found_line : (Fits : Fit) (number : ℕ) (read : Result Question QuestionFault) (finding : Finding)
@@ -31,7 +31,7 @@ found_line Fits number (Err fault) (Judged asked outcome) found = absurd found
 found_line Fits number (Err fault) (Faulty kind) found = ap (fault_line number) found
 
 told_first : (Fits : Fit) (number : ℕ) (fields : Record) (told : Told) → IsTold Fits (entry_of number fields) told
-    → IsLine Fits number fields (told_line told)
+    → IsRecordLine Fits number fields (told_line told)
 told_first Fits number fields told is =
     rw is.number (found_line Fits number (question_named number fields) told.finding is.found)
 

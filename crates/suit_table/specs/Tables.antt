@@ -9,8 +9,8 @@ use Rattle.suit_table.specs.Outcomes.{Fit, fault_line, outcome_line}
 use Rattle.suit_table.specs.Records.{Record, first_misfit, records_of}
 
 -- the line of a record: of an outcome that fits the question that it names, or of its own fault
-abbrev pub IsLine : Fit → ℕ → Record → Text → Type 0
-IsLine Fits number fields line = MatchResult (question_named number fields)
+abbrev pub IsRecordLine : Fit → ℕ → Record → Text → Type 0
+IsRecordLine Fits number fields line = MatchResult (question_named number fields)
     (λ question. (outcome : Outcome) × Fits question outcome × (line ≡ outcome_line number question outcome))
     (λ fault. line ≡ fault_line number fault.kind)
 
@@ -18,7 +18,7 @@ IsLine Fits number fields line = MatchResult (question_named number fields)
 unfoldable pub AreLines : Fit → ℕ → List Record → Text → Type 0
 AreLines Fits number [] text = text ≡ []
 AreLines Fits number (fields ∷ records) text =
-    (line : Text) × (rest : Text) × IsLine Fits number fields line × AreLines Fits (suc number) records rest
+    (line : Text) × (rest : Text) × IsRecordLine Fits number fields line × AreLines Fits (suc number) records rest
     × (text ≡ line ++ rest)
 
 -- the answer to a text: each record has as many fields as a question has columns, and these are their lines

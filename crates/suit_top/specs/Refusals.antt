@@ -21,12 +21,12 @@ plan_fault_number plans.Sum = 6
 plan_fault_number plans.Layout = 7
 
 -- the line of a numbered fault: what has it, its number, and where it stands
-abbrev pub fault_line : Text → ℕ → Text → ℕ → Text
-fault_line what number place at = what ++ decimal number ++ place ++ decimal at ++ codes "\n"
+abbrev pub numbered_line : Text → ℕ → Text → ℕ → Text
+numbered_line what number place at = what ++ decimal number ++ place ++ decimal at ++ codes "\n"
 
 -- the line that is written of a question text with a fault
 abbrev pub malformed_line : QuestionFault → Text
-malformed_line fault = fault_line (codes "malformed ") (fault_number fault.kind) (codes " at line ") fault.line
+malformed_line fault = numbered_line (codes "malformed ") (fault_number fault.kind) (codes " at line ") fault.line
 
 -- the number of a fault of an answer text, and its line; no text has the fault that memory ran out
 abbrev pub answer_fault_number : AnswerFault → ℕ
@@ -52,17 +52,18 @@ answer_fault_place answers.Memory = 0
 -- the line that is written of an answer text with a fault
 abbrev pub answer_line : AnswerFault → Text
 answer_line fault =
-    fault_line (codes "not valid: answer ") (answer_fault_number fault) (codes " at line ") (answer_fault_place fault)
+    numbered_line (codes "not valid: answer ") (answer_fault_number fault) (codes " at line ")
+        (answer_fault_place fault)
 
 -- the line that is written of an answer whose plan is not proper
 abbrev pub plan_line : PlanFault → Text
 plan_line fault =
-    fault_line (codes "not valid: plan ") (plan_fault_number fault.kind) (codes " at row ") fault.row
+    numbered_line (codes "not valid: plan ") (plan_fault_number fault.kind) (codes " at row ") fault.row
 
 -- and of one whose defence is not
 abbrev pub defence_line : PlanFault → Text
 defence_line fault =
-    fault_line (codes "not valid: defence ") (plan_fault_number fault.kind) (codes " at row ") fault.row
+    numbered_line (codes "not valid: defence ") (plan_fault_number fault.kind) (codes " at row ") fault.row
 
 -- the line of a fraction that is not negative
 abbrev pub fraction_line : Text → Parts → Text

@@ -2,7 +2,7 @@
 ghost use Rattle.std.specs.Prelude.{◌≡◌, ◌+◌, ◌≤◌, length};
 ghost use Rattle.suit_check.specs.Verdicts.{parts_of};
 ghost use Rattle.suit_top.specs.Refusals.{answer_fault_number, answer_fault_place, answer_line};
-ghost use Rattle.suit_top.specs.Refusals.{defence_line, fault_line, fraction_line, least_line};
+ghost use Rattle.suit_top.specs.Refusals.{defence_line, numbered_line, fraction_line, least_line};
 ghost use Rattle.suit_top.specs.Refusals.{malformed_line, misfit_line, most_line, nodes_line, plan_fault_number};
 ghost use Rattle.suit_top.specs.Refusals.{pivots_line, plan_line, size_line, width_line};
 
@@ -131,7 +131,7 @@ pub fn misfit(at: u32) -> Refusal
 // The line of a numbered fault: what has it, its number, and where it stands.
 fn line_of_fault(what: &str, number: u8, place: &str, at: u32) -> Refusal
     requires { length what.now + length place.now ≤ 40 }
-    ensures { result.bytes ≡ fault_line what.now number place.now at }
+    ensures { result.bytes ≡ numbered_line what.now number place.now at }
 {
     let mut text = Refusal::new();
     text.push_str(what);

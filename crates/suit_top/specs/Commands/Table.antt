@@ -43,14 +43,15 @@ abbrev pub Fits : Question → Outcome → Type 0
 Fits question outcome = (outcome ≡ own_outcome question) ⊎ (outcome ≡ Memory)
 
 -- the line of what a record names: its question's own outcome, or its fault
-abbrev pub own_line : ℕ → Result Question QuestionFault → Text
-own_line number (Ok question) = outcome_line number question (own_outcome question)
-own_line number (Err fault) = fault_line number fault.kind
+abbrev pub record_line : ℕ → Result Question QuestionFault → Text
+record_line number (Ok question) = outcome_line number question (own_outcome question)
+record_line number (Err fault) = fault_line number fault.kind
 
 -- the lines of records, numbered on from this number
 unfoldable pub own_lines : ℕ → List Record → Text
 own_lines number [] = []
-own_lines number (fields ∷ records) = own_line number (question_named number fields) ++ own_lines (suc number) records
+own_lines number (fields ∷ records) =
+    record_line number (question_named number fields) ++ own_lines (suc number) records
 
 -- what is due for records, of which this is the first that has more or fewer fields than a question has columns
 abbrev pub due_of_records : List Record → Option ℕ → Due
