@@ -11,11 +11,12 @@ from front.program import HOME, Program, goal_in_words, is_built, rounded, say, 
 from front.unproved import can_be_built, run_cases
 
 LOWER = ("1 1", "0 1", "1 0", "0 0")
+FIRST_LEADS = {"S": "the first lead in South", "N": "the first lead in North"}
 WORDS_OF_BOUNDS = {
-    "1 1": "with one entry to each hand",
-    "0 1": "with no entry but one to South",
-    "1 0": "with no entry but one to North",
-    "0 0": "with no entry",
+    "1 1": "one entry to each hand",
+    "0 1": "no entry but one to South",
+    "1 0": "no entry but one to North",
+    "0 0": "no entry",
 }
 
 
@@ -34,31 +35,45 @@ def refusal_in_words(told):
     return f"the program said '{line}'" if line else f"the program ended with status {told[1]}"
 
 
+def narrower_lines(asked):
+    """Lines that ask the same with fewer entries or with the first lead in one hand, those that leave declarer most first."""
+    entries = [{"entries": few} for few in LOWER] if asked.are_entries_free() else [{}]
+    starts = [{"start": hand} for hand in FIRST_LEADS] if asked.is_start_free() else []
+    found = [few for few in entries if few]
+    return found + [{**few, **start} for few in entries for start in starts]
+
+
+def narrower_in_words(lines):
+    words = [FIRST_LEADS[lines["start"]]] if "start" in lines else []
+    words += [WORDS_OF_BOUNDS[lines["entries"]]] if "entries" in lines else []
+    return "with " + " and ".join(words)
+
+
 class Bounds:
-    """The same question with fewer entries, solved beside it: fewer entries never earn more, which is known, not proved here."""
+    """The same question with narrower lines, solved beside it: they never earn more, which is known, not proved here."""
 
     def __init__(self, program, asked, goal):
         self.program, self.asked, self.goal = program, asked, goal
-        self.waiting = list(LOWER) if asked.are_entries_free() else []
+        self.waiting = narrower_lines(asked)
         self.running, self.best = [], None
 
     def go_on(self):
-        for entries, process, written in list(self.running):
+        for lines, process, written in list(self.running):
             if process.poll() is not None:
-                self.running.remove((entries, process, written))
-                self.note(entries, written, process)
+                self.running.remove((lines, process, written))
+                self.note(lines, written, process)
         places = max(1, len(os.sched_getaffinity(0)) - 1)
         while self.waiting and len(self.running) < places:
-            entries = self.waiting.pop(0)
-            self.running.append((entries, *started(self.program, self.asked.question(self.goal, entries))))
+            lines = self.waiting.pop(0)
+            self.running.append((lines, *started(self.program, self.asked.question(self.goal, lines))))
 
-    def note(self, entries, written, process):
+    def note(self, lines, written, process):
         if process in self.program.running:
             self.program.running.remove(process)
         written.seek(0)
         answer = written.read().decode("ascii", "replace")
         if process.returncode == 0 and (self.best is None or value_in(answer) > self.best[0]):
-            self.best = value_in(answer), entries, answer
+            self.best = value_in(answer), lines, answer
 
     def is_over(self):
         return not self.waiting and not self.running
@@ -121,7 +136,7 @@ def tell_goal(program, asked, goal, deadline, answer_file):
         return True
     if best:
         print(f"{goal_in_words(goal)}: at least {rounded(best[0], goal)}, exactly {best[0].numerator}/{best[0].denominator}: "
-              f"{WORDS_OF_BOUNDS[best[1]]}")
+              f"{narrower_in_words(best[1])}")
         print(f"    of the question itself {refusal_in_words(told)}")
         return True
     print(f"{goal_in_words(goal)}: no value: {refusal_in_words(told)}")

@@ -106,12 +106,14 @@ class Asked:
         if not self.goals:
             raise Mistake("a goal is due behind the hands: a number of tricks, or tricks, as in ./ask AKJT xxx 4")
 
-    def question(self, goal, entries=None):
-        lines = {"nodes": "4000000", "pivots": "1000000", **self.lines}
-        if entries:
-            lines["entries"] = entries
+    def question(self, goal, narrower=None):
+        """The text of the question, or of the same with narrower lines."""
+        lines = {"nodes": "4000000", "pivots": "1000000", **self.lines, **(narrower or {})}
         text = f"north {self.north or '-'}\nsouth {self.south or '-'}\ngoal {goal}\n"
         return text + "".join(f"{keyword} {value}\n" for keyword, value in lines.items()) + "end\n"
 
     def are_entries_free(self):
         return self.lines.get("entries", "free free") == "free free"
+
+    def is_start_free(self):
+        return self.lines.get("start", "either") == "either"

@@ -53,7 +53,7 @@ answer_fault_place answers.Memory = 0
 abbrev pub answer_line : AnswerFault → Text
 answer_line fault =
     numbered_line (codes "not valid: answer ") (answer_fault_number fault) (codes " at line ")
-        (answer_fault_place fault)
+    (answer_fault_place fault)
 
 -- the line that is written of an answer whose plan is not proper
 abbrev pub plan_line : PlanFault → Text
