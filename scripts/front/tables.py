@@ -18,7 +18,8 @@ class Row:
     """A row of the table: its fields as they stand, and the record that it asks, or what is wrong with it."""
 
     def __init__(self, fields, columns):
-        self.fields, self.record, self.goal, self.wrong = fields, None, None, None
+        padded = [*fields, *[""] * len(columns)][:len(columns)]
+        self.fields, self.record, self.goal, self.wrong = padded, None, None, None
         named = dict(zip(columns, fields))
         try:
             if len(fields) != len(columns):
