@@ -12,7 +12,7 @@ class Mistake(Exception):
 
 def cards_of(hand, word):
     """The named cards of a hand, and how many small ones it has."""
-    text = word.upper().replace("10", "T")
+    text = "".join(word.upper().split()).replace("10", "T")
     if text == "-":
         return "", 0
     for letter in text:

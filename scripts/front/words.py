@@ -16,9 +16,10 @@ def commands_of_the_program():
 
 
 HELP = """./ask NORTH SOUTH GOAL.. [LINE..]   how to play a suit: ./ask AKJT xxx 4
-    cards as players write them: T or 10 is the ten, x a small card, - none
+    North's hand first, then South's, as players write them: T or 10 is the ten, x a small card, - none
     a goal is a number of tricks, or tricks for as many as can be; several goals give a line each
-    a line is one of a question: 'start S' 'entries 0 1' 'west 2 4' 'east 3 5' 'vacant 10 13'
+    a line is one of a question: 'start S' (the first lead), 'entries 0 1' (crossings to North, to South),
+    'regain S' (who can win the defenders' return), 'west 2 4', 'east 3 5' (how many cards), 'vacant 10 13'
     --answer FILE keeps the question with its answer; --seconds N bounds the time, 60 where nothing is said
 ./ask table FILE [KEPT]             the values of a table of suits with a header (north,south,goal), names and comments, joined to
                                     its rows as they are ready; a table that is kept in a file goes on where it stopped
